@@ -1,9 +1,9 @@
-pub mod HeaderLemmas
-pub mod PlainLemmas
-pub mod LeafLemmas
-pub mod ListLemmas
-pub mod WholeLemmas
-pub mod KinLemmas
-pub mod OneObject
-pub mod TextLemmas
-pub mod TagLemmas
+mod AskLemmas
+mod ShowingLemmas
+mod LoopLemmas
+mod NumberLemmas
+mod BlobLemmas
+mod GetLemmas
+mod ParseLemmas
+mod OneBlob
+mod OneAnswer

@@ -1,8 +1,8 @@
-pub mod Leaves
-pub mod Values
-pub mod Previews
-pub mod PartObjects
-pub mod BodyValues
-pub mod HeaderMembers
-pub mod EmailObjects
+-- Asked has what comes of calls that ask bodies; Blobs the octets that a blob id names; EmailGet and EmailParse what the methods answer, one object
+-- after another as Showing says.
+pub mod Asked
+pub mod Showing
+pub mod Blobs
+pub mod EmailGet
+pub mod EmailParse
 pub mod reading

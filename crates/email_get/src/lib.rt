@@ -1,17 +1,17 @@
-//! What the octets of a message are as an Email object (RFC 8621).
+//! Methods that ask for the bodies of Emails (RFC 8621): Email/get and Email/parse, and the octets that a blob id names.
 #![tactic(auto)]
 
-// Parts.
-mod bodies;
-mod leaves;
-mod part_objects;
-mod previews;
-mod values;
+// Octets.
+mod blobs;
 
-// The object.
-mod email_objects;
+// Methods.
+mod emails;
+mod parsing;
+mod refusals;
 
-// The law.
+// Laws.
 pub mod laws;
 
-pub use email_objects::email_object;
+pub use blobs::find_blob;
+pub use emails::{check_email_get, email_get};
+pub use parsing::{check_email_parse, email_parse};

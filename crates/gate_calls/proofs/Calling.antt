@@ -10,7 +10,7 @@ use Rattle.serde_json.specs.Data.{Data}
 use Rattle.serde_json.specs.View.{view}
 use Rattle.email_bodies.specs.Asking.{BodyAsk, NoneAsked, AsksInVain}
 use Rattle.email_bodies.specs.declared.source.MessagePlace.{MessagePlace}
-use Rattle.email_methods.specs.Asked.{AsksAnd, AsksAndMeets}
+use Rattle.email_get.specs.Asked.{AsksAnd, AsksAndMeets}
 use Rattle.jmap_methods.specs.Outcome.{Agrees}
 use Rattle.jmap_methods.specs.declared.using.Using.{Using}
 use Rattle.jmap_methods.specs.declared.method_error.MethodError.{MethodError}

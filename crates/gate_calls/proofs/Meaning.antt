@@ -6,7 +6,7 @@ use Rattle.serde_json.specs.View.{view}
 use Rattle.email_bodies.specs.Asking.{BodyAsk, Asks, NoneAsked, AsksInVain}
 use Rattle.email_bodies.specs.declared.source.MessagePlace.{MessagePlace}
 use Rattle.email_bodies.proofs.Joins.{asks_join}
-use Rattle.email_methods.specs.Asked.{AsksAnd, AsksAndMeets}
+use Rattle.email_get.specs.Asked.{AsksAnd, AsksAndMeets}
 use Rattle.jmap_methods.specs.Outcome.{Agrees, IsJust, Meets}
 use Rattle.jmap_methods.specs.declared.method_error.MethodError.{MethodError}
 use Rattle.jmap_methods.specs.declared.method_error.MethodError.TheVariants.{Memory}

@@ -10,8 +10,8 @@ use Rattle.change_list.proofs.HistoryLaws.{length-entries_from}
 use Rattle.served_maps.specs.Past.{Past, place_now}
 use Rattle.jmap_methods.specs.Ids.{mailbox_letter, thread_letter, email_letter}
 use Rattle.email_bodies.specs.Asking.{BodyAsk}
-use Rattle.email_methods.specs.EmailGet.{RepliesEmailGet}
-use Rattle.email_methods.specs.EmailParse.{RepliesEmailParse}
+use Rattle.email_get.specs.EmailGet.{RepliesEmailGet}
+use Rattle.email_get.specs.EmailParse.{RepliesEmailParse}
 use Rattle.mail_state.specs.History.{MailHistory}
 use Rattle.gate_calls.specs.declared.method.Method.{Method}
 use Rattle.gate_calls.specs.declared.method.Method.TheVariants.{CoreEcho, MailboxGet, MailboxChanges, ThreadGet, ThreadChanges}

@@ -3,7 +3,7 @@ use Rattle.std.specs.Prelude.{ℕ, List, Option, Result, Ok, Err}
 use Rattle.std.specs.declared.alloc.AllocError.{AllocError}
 use Rattle.email_bodies.specs.Asking.{BodyAsk, AsksInVain}
 use Rattle.email_bodies.specs.declared.source.MessagePlace.{MessagePlace}
-use Rattle.email_methods.specs.Asked.{AsksAnd}
+use Rattle.email_get.specs.Asked.{AsksAnd}
 
 -- what was made means this by the bodies that were asked; or memory ran out after some were
 abbrev pub AsksAndMakes : {S X : Type 0} → (S → MessagePlace → Option (List ℕ) → S → Type 0) → (S → MessagePlace → S → Type 0) → S → S → Result X AllocError

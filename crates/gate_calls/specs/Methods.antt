@@ -3,8 +3,8 @@
 use Rattle.std.specs.Prelude.{◌≡◌, List, [], Result, Ok, Err}
 use Rattle.serde_json.specs.Data.{Data}
 use Rattle.email_bodies.specs.Asking.{BodyAsk}
-use Rattle.email_methods.specs.EmailGet.{RepliesEmailGet, get_emails_refused}
-use Rattle.email_methods.specs.EmailParse.{RepliesEmailParse, parse_refused}
+use Rattle.email_get.specs.EmailGet.{RepliesEmailGet, get_emails_refused}
+use Rattle.email_get.specs.EmailParse.{RepliesEmailParse, parse_refused}
 use Rattle.jmap_methods.specs.Echo.{echoed}
 use Rattle.jmap_methods.specs.declared.method_error.MethodError.{MethodError}
 use Rattle.mail_state.specs.History.{MailHistory}

@@ -2,7 +2,7 @@
 ghost use Rattle.std.specs.Prelude.{◌≡◌, Err, Ok, IfOk, All, map, false};
 ghost use Rattle.serde_json.specs.View.{view};
 ghost use Rattle.serde_json.specs.Written.{has_float};
-ghost use Rattle.email_methods.specs.Asked.{AsksAndMeets};
+ghost use Rattle.email_get.specs.Asked.{AsksAndMeets};
 ghost use Rattle.jmap_methods.specs.declared.using.Using.{Using as using_type};
 ghost use Rattle.jmap_methods.specs.declared.method_error.MethodError.TheVariants.{Memory};
 ghost use Rattle.jmap_core.specs.Request.{call_data};

@@ -7,7 +7,7 @@ ghost use Rattle.gate_calls.specs.Calls.{AnswersCalls};
 ghost use Rattle.gate_calls.specs.Mailings.{MailAndUploads};
 ghost use Rattle.gate_calls.specs.Places.{HasPlaces};
 
-use email_methods::laws::{one_get_answer, one_parse_answer};
+use email_get::laws::{one_get_answer, one_parse_answer};
 use read_methods::laws::one_changes_answer;
 
 /// Over some mail and uploads, and by what was asked and how it was answered, the calls of a request have one list of responses.

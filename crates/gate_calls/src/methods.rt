@@ -2,7 +2,7 @@
 ghost use Rattle.std.specs.Prelude.{◌≡◌, ℕ, List, [], Err, Ok, IfOk, OnOk, Result as result_type, false};
 ghost use Rattle.serde_json.specs.View.{view};
 ghost use Rattle.serde_json.specs.Written.{has_float};
-ghost use Rattle.email_methods.specs.Asked.{AsksAndMeets};
+ghost use Rattle.email_get.specs.Asked.{AsksAndMeets};
 ghost use Rattle.jmap_methods.specs.Outcome.{Agrees, Meets};
 ghost use Rattle.jmap_methods.specs.declared.method_error.MethodError.{MethodError as error_type};
 ghost use Rattle.jmap_methods.specs.declared.method_error.MethodError.TheVariants.{Memory};
@@ -15,7 +15,7 @@ use crate::mail::{Mail, Over};
 use crate::method::Method;
 use blob_store::BlobStore;
 use email_bodies::BodySource;
-use email_methods::{check_email_get, check_email_parse, email_get, email_parse};
+use email_get::{check_email_get, check_email_parse, email_get, email_parse};
 use jmap_methods::{MethodError, echo};
 use mail_state::MailState;
 use read_methods::{

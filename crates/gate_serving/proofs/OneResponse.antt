@@ -1,7 +1,7 @@
 -- What is asked has one response.
 use Rattle.std.proofs.Common.{◌≡◌, ◌++◌, ℕ, List, [], Option, Ok, Err, refl, sym, ap, ◌∙◌}
 use Rattle.email_bodies.specs.Asking.{BodyAsk}
-use Rattle.email_methods.specs.Blobs.{FindsBlob, OctetsFound}
+use Rattle.email_get.specs.Blobs.{FindsBlob, OctetsFound}
 use Rattle.jmap_methods.specs.declared.using.Using.{Using}
 use Rattle.jmap_core.specs.Request.{CallData}
 use Rattle.mail_maps.specs.Rows.{Rows}

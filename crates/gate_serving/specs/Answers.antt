@@ -12,7 +12,7 @@ use Rattle.jmap_core.specs.Response.{response_data}
 use Rattle.jmap_core.specs.Session.{session_data, session_state_text}
 use Rattle.gate_calls.specs.Calls.{AnswersCalls}
 use Rattle.email_bodies.specs.Asking.{BodyAsk}
-use Rattle.email_methods.specs.Blobs.{FindsBlob, OctetsFound}
+use Rattle.email_get.specs.Blobs.{FindsBlob, OctetsFound}
 use Rattle.gate_calls.specs.Mailings.{Mailing, MailAndUploads}
 use Rattle.gate_serving.specs.declared.door.Door.{Door}
 use Rattle.gate_serving.specs.declared.door.Door.TheVariants.{Bare, Http}

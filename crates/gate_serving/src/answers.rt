@@ -8,7 +8,7 @@ ghost use Rattle.jmap_core.specs.Problem.{text_of_problem, status_of as status_o
 ghost use Rattle.jmap_core.specs.Request.{CallData, call_data, request_data};
 ghost use Rattle.jmap_core.specs.Response.{IsWhole};
 ghost use Rattle.jmap_core.specs.Session.{session_data};
-ghost use Rattle.email_methods.specs.Blobs.{FindsBlob, OctetsFound};
+ghost use Rattle.email_get.specs.Blobs.{FindsBlob, OctetsFound};
 ghost use Rattle.gate_calls.specs.Asking.{AsksAndMakes};
 ghost use Rattle.gate_calls.specs.Calls.{AnswersCalls};
 ghost use Rattle.gate_calls.specs.Mailings.{AreOf, MailAndUploads};
@@ -20,7 +20,7 @@ use crate::response::Response;
 use crate::upload::Upload;
 use blob_store::{BlobStore, MAX_UPLOAD_OCTETS};
 use email_bodies::{BodyError, BodySource};
-use email_methods::find_blob;
+use email_get::find_blob;
 use gate_calls::{Mail, Over, responses_to};
 use gate_world::{Bytes, Text};
 use http::StatusCode;

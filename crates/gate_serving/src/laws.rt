@@ -20,7 +20,7 @@ ghost use Rattle.gate_serving.specs.Segment.{Segment, blamed};
 ghost use Rattle.gate_serving.specs.Work.{Work};
 ghost use Rattle.gate_serving.specs.declared.served.Served.{Served};
 
-use email_methods::laws::one_blob_found;
+use email_get::laws::one_blob_found;
 use gate_calls::one_list_of_responses;
 use gate_machine::{
     calls_keep_history, machines_know_what_was_told, obeyed_rounds_stand, requests_keep_history,

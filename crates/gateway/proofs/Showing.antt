@@ -8,7 +8,7 @@ use Rattle.serde_json.specs.Written.{compact_text}
 use Rattle.gate_world.specs.declared.event.Event.{Event}
 use Rattle.gate_world.specs.declared.event.Event.TheVariants.{Accepted}
 use Rattle.gate_world.specs.declared.outside.Failed.{Failed}
-use Rattle.email_get.specs.EmailObjects.{IsEmailObject}
+use Rattle.email_objects.specs.EmailObjects.{IsShownObject}
 use Rattle.gate_serving.specs.declared.front.FrontError.{FrontError}
 use Rattle.gate_serving.specs.declared.front.FrontError.TheVariants as error
 use Rattle.gate_world.specs.Sending.{Sends}
@@ -17,7 +17,7 @@ use Rattle.gateway.specs.Show.{object_line, ShowsObject, ReadsInput, Answers, Se
 use Rattle.gateway.specs.Program.{IsSaid, front_failed, RunsShow}
 
 -- the text with its line end shows the object
-pub shows_object : (octets : List ℕ) (o : Data) (text : List ℕ) (line : Result (List ℕ) AllocError) → IsEmailObject octets o → text ≡ compact_text o
+pub shows_object : (octets : List ℕ) (o : Data) (text : List ℕ) (line : Result (List ℕ) AllocError) → IsShownObject octets o → text ≡ compact_text o
     → IfOk line (λ l. l ≡ text ++ line_end) → IfOk line (λ l. ShowsObject octets l)
 unfolding object_line
 shows_object octets o text (Ok line) is text_is with_end = (o, is, with_end ∙ ap (λ (t : List ℕ). t ++ line_end) text_is)

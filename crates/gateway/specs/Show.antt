@@ -5,7 +5,7 @@ use Rattle.serde_json.specs.Written.{compact_text}
 use Rattle.gate_world.specs.declared.event.Event.{Event}
 use Rattle.gate_world.specs.declared.event.Event.TheVariants.{Accepted, NoMore, ClientDone, FrontFailed}
 use Rattle.gate_world.specs.declared.outside.Failed.{Failed}
-use Rattle.email_get.specs.EmailObjects.{IsEmailObject}
+use Rattle.email_objects.specs.EmailObjects.{IsShownObject}
 use Rattle.gateway.specs.declared.show.TheConstants.{MAX_MESSAGE_OCTETS}
 use Rattle.gate_serving.specs.declared.front.FrontError.{FrontError}
 use Rattle.gate_serving.specs.declared.front.FrontError.TheVariants as front
@@ -24,7 +24,7 @@ object_line email = compact_text email ++ line_end
 
 -- the line shows the Email object of these octets
 abbrev pub ShowsObject : List ℕ → List ℕ → Type 0
-ShowsObject octets line = (email : Data) × IsEmailObject octets email × (line ≡ object_line email)
+ShowsObject octets line = (email : Data) × IsShownObject octets email × (line ≡ object_line email)
 
 -- the message is read and its line made; or the front failed before its end; or memory ran out while it was read or
 -- after that

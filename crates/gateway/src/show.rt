@@ -4,7 +4,7 @@ ghost use Rattle.gate_world.specs.Causes.{Rose, FrontAlone};
 ghost use Rattle.gate_world.specs.Tape.{Adds};
 ghost use Rattle.gateway.specs.Show.{ShowsObject, ReadsInput, Answers, ShowsClient, Shows};
 
-use email_get::email_object;
+use email_objects::email_object;
 use gate_serving::{FrontError, receive, with_line_end};
 use gate_world::{Bytes, Front, send_all};
 use std::alloc::{AllocError, Global};

@@ -1,6 +1,6 @@
 // Whole Email objects.
 use crate::messages::{CRLF_MESSAGE, MESSAGE};
-use email_get::email_object;
+use email_objects::email_object;
 use std::alloc::Global;
 use std::process::Abort;
 

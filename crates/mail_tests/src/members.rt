@@ -1,5 +1,5 @@
 // Members of Email objects.
-use email_get::email_object;
+use email_objects::email_object;
 use serde_json::Value;
 use std::alloc::Global;
 use std::process::Abort;

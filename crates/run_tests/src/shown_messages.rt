@@ -2,7 +2,7 @@
 use crate::scripts::{PIECES, copied, failing, joined, scripted};
 use crate::seen::{Seen, follow, status_of};
 use crate::whole_runs::FRONT_FAILED;
-use email_get::email_object;
+use email_objects::email_object;
 use gate_world::{Bytes, Event};
 use scripted_world::{Script, ScriptWorld};
 use std::alloc::Global;

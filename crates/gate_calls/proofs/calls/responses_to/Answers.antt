@@ -1,7 +1,7 @@
 use Rattle.std.proofs.Common.{arith, rules, ◌≡◌, ◌<◌, ◌+◌, ◌++◌, ◌∷◌, ℕ, List, [], length, map, take, sym, ◌∙◌, ap, subst}
 use Rattle.std.proofs.lemmas.List.{take_more}
 use Rattle.std.proofs.lemmas.Result.{err_from_is_err_and}
-use Rattle.email_methods.specs.Asked.{AsksAnd}
+use Rattle.email_get.specs.Asked.{AsksAnd}
 use Rattle.jmap_core.specs.Request.{call_data}
 use Rattle.jmap_core.specs.declared.call.Call.{Call}
 use Rattle.gate_calls.proofs.Calling.{ResponseIs, all_more, makes_none, none_yet, one_answered}

@@ -1,7 +1,7 @@
 use Rattle.std.proofs.Common.{◌≡◌, ◌∙◌, Err, sym, ap, subst}
 use Rattle.serde_json.specs.View.{view}
-use Rattle.email_methods.specs.EmailGet.{get_emails_refused}
-use Rattle.email_methods.specs.EmailParse.{parse_refused}
+use Rattle.email_get.specs.EmailGet.{get_emails_refused}
+use Rattle.email_get.specs.EmailParse.{parse_refused}
 use Rattle.jmap_methods.specs.Echo.{echoed}
 use Rattle.gate_calls.specs.declared.method.Method.TheVariants.{CoreEcho, MailboxGet, MailboxChanges, ThreadGet, ThreadChanges}
 use Rattle.gate_calls.specs.declared.method.Method.TheVariants.{EmailGet, EmailChanges, EmailParse}

@@ -1,9 +1,0 @@
-mod AskLemmas
-mod ShowingLemmas
-mod LoopLemmas
-mod NumberLemmas
-mod BlobLemmas
-mod GetLemmas
-mod ParseLemmas
-mod OneBlob
-mod OneAnswer
