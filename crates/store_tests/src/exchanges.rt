@@ -12,27 +12,31 @@ use told_mail::{Folder, Message, Mirror};
 /// The greatest number of a folder, and the greatest mark.
 const LAST: u64 = 9_007_199_254_740_991;
 
-fn folder(alloc: Global, number: u64) -> Result<Folder, AllocError> {
-    Ok(Folder {
+fn folder(alloc: Global, number: u64, name: Bytes) -> Folder
+    ensures { (result.number ≡ number) × (result.next ≡ 1) × (result.delimiter ≡ None) × (result.attributes ≡ []) }
+{
+    Folder {
         number,
-        name: Bytes::copy_of(alloc, b"INBOX")?,
+        name,
         delimiter: None,
         attributes: Names::new(alloc),
         validity: 7,
         modseq: 0,
         next: 1,
-    })
+    }
 }
 
-fn message(alloc: Global, mark: u64) -> Result<Message, AllocError> {
-    Ok(Message {
+fn message(alloc: Global, mark: u64, header: Bytes) -> Message
+    ensures { (result.uid ≡ 5) × (result.mark ≡ mark) × (result.flags ≡ []) }
+{
+    Message {
         uid: 5,
         mark,
         flags: Names::new(alloc),
         date: 0,
         size: 9,
-        header: Bytes::copy_of(alloc, b"")?,
-    })
+        header,
+    }
 }
 
 /// A mirror with an INBOX of this number, and in it message 5 with this mark.
@@ -42,9 +46,11 @@ fn filled(alloc: Global, number: u64, mark: u64) -> Result<Mirror, AllocError>
     requires mark { 0 < mark }
     requires last_mark { mark ≤ LAST }
 {
+    let name = Bytes::copy_of(alloc, b"INBOX")?;
+    let header = Bytes::copy_of(alloc, b"")?;
     let mut mirror = Mirror::new(alloc);
-    mirror.put_folder(folder(alloc, number)?)?;
-    mirror.put_message(number, message(alloc, mark)?)?;
+    mirror.put_folder(folder(alloc, number, name))?;
+    mirror.put_message(number, message(alloc, mark, header))?;
     Ok(mirror)
 }
 
