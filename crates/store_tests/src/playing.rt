@@ -1,10 +1,11 @@
 // Link lives played over a world that follows a script.
 use crate::showing::{put_octets, shown};
-use gate_world::Event;
+use gate_world::{Bytes, Event};
 use imap_client::{Client, LinkEnd};
 use imap_grammar::Status;
 use scripted_world::{Script, ScriptWorld};
 use std::alloc::{AllocError, Global};
+use std::mem;
 use told_dialogues::command_of;
 use told_mail::Mirror;
 
@@ -43,6 +44,15 @@ struct Course {
 }
 
 impl Course {
+    fn new(alloc: Global, world: ScriptWorld) -> Course {
+        Course {
+            world,
+            client: Client::new(alloc),
+            mirror: Mirror::new(alloc),
+            answers: String::new(alloc),
+        }
+    }
+
     fn put_end(&mut self, done: Result<(), LinkEnd>) -> Result<(), AllocError> {
         match done {
             Ok(()) => self.answers.push_str("ok "),
@@ -123,14 +133,35 @@ impl Course {
         }
         self.fetch(folder, uid)
     }
+
+    /// One life after another, the last of which is left.
+    fn lives(&mut self, alloc: Global, setting: &Setting, count: usize) -> Result<(), AllocError> {
+        for _ in 0..count {
+            self.live(alloc, setting)?;
+        }
+        self.client.leave(&mut self.world);
+        Ok(())
+    }
+
+    /// What came of the lives.
+    fn played(&mut self, alloc: Global) -> Result<Played, AllocError> {
+        let took = taken(alloc, &self.world)?;
+        let mail = shown(alloc, &self.mirror)?;
+        let answers = mem::replace(&mut self.answers, String::new(alloc));
+        Ok(Played {
+            answers,
+            took,
+            mail,
+        })
+    }
 }
 
-/// The script of these lives without what the store gives.
+/// The script of these lives, without what the store gives.
 fn script_of(alloc: Global, setting: &Setting) -> Result<Script, AllocError> {
-    Script::new(alloc)?
-        .with_secrets(&setting.password, b"")?
-        .in_pieces(setting.piece)
-        .failing(setting.failing)
+    let mut script = Script::new(alloc)?;
+    script.password = Bytes::copy_of(alloc, &setting.password)?;
+    script.piece = setting.piece;
+    script.failing(setting.failing)
 }
 
 fn world_of(
@@ -173,19 +204,8 @@ pub(crate) fn play(
     setting: &Setting,
     links: &[Vec<u8>],
 ) -> Result<Played, AllocError> {
-    let mut course = Course {
-        world: world_of(alloc, setting, links)?,
-        client: Client::new(alloc),
-        mirror: Mirror::new(alloc),
-        answers: String::new(alloc),
-    };
-    for _ in links {
-        course.live(alloc, setting)?;
-    }
-    course.client.leave(&mut course.world);
-    Ok(Played {
-        took: taken(alloc, &course.world)?,
-        mail: shown(alloc, &course.mirror)?,
-        answers: course.answers,
-    })
+    let world = world_of(alloc, setting, links)?;
+    let mut course = Course::new(alloc, world);
+    course.lives(alloc, setting, links.len())?;
+    course.played(alloc)
 }
