@@ -1,12 +1,12 @@
 // Link lives played over a world that follows a script.
-use crate::showing::{put_octets, shown};
+use crate::showing::shown;
 use gate_world::{Bytes, Event};
 use imap_client::{Client, LinkEnd};
 use imap_grammar::Status;
 use scripted_world::{Script, ScriptWorld};
 use std::alloc::{AllocError, Global};
 use std::mem;
-use told_dialogues::command_of;
+use told_dialogues::{command_of, put_octets};
 use told_mail::Mirror;
 
 /// How lives are played.

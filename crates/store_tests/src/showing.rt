@@ -1,13 +1,8 @@
-// Mail and octets as text.
+// Mail as text.
 use gate_world::Names;
-use percent_encoding::{CONTROLS, percent_encode};
 use std::alloc::{AllocError, Global};
+use told_dialogues::put_octets;
 use told_mail::{Held, Message, Mirror};
-
-/// Adds these octets: those outside 32 to 126, and `%`, as `%` and two hexadecimal digits.
-pub(crate) fn put_octets(out: &mut String, octets: &[u8]) -> Result<(), AllocError> {
-    percent_encode(octets, CONTROLS.add(b'%')).append_to(out)
-}
 
 fn put_names(out: &mut String, names: &Names) -> Result<(), AllocError> {
     for name in names.as_slice() {

@@ -1,15 +1,11 @@
 // Commands by their texts.
-use crate::texts::{first_uid, first_word, octets_of};
-use gate_world::{Bytes, Names};
+use crate::texts::{bytes_of, first_uid, first_word};
+use gate_world::Names;
 use imap_commands::Command;
 use std::alloc::{AllocError, Global};
 
 /// When messages are told to have come: 2 January 2024, 09:00:00 UTC.
 const DATE: i64 = 1_704_186_000;
-
-fn bytes_of(alloc: Global, text: &str) -> Result<Bytes, AllocError> {
-    Bytes::from_vec(octets_of(alloc, text)?)
-}
 
 fn select_of(alloc: Global, name: &str) -> Result<Command, AllocError> {
     Ok(Command::Select {

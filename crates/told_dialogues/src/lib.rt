@@ -10,4 +10,4 @@ mod exchanges;
 
 pub use commands::command_of;
 pub use exchanges::exchange_of;
-pub use texts::{first_number, first_uid, first_word, octets_of};
+pub use texts::{bytes_of, first_number, first_uid, first_word, octets_of, put_octets};

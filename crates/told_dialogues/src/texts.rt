@@ -1,5 +1,6 @@
 // Words, numbers and octets of a text.
-use percent_encoding::percent_decode;
+use gate_world::Bytes;
+use percent_encoding::{CONTROLS, percent_decode, percent_encode};
 use std::alloc::{AllocError, Global};
 
 /// The text up to its first space, and what follows that space.
@@ -27,4 +28,14 @@ pub fn octets_of(alloc: Global, text: &str) -> Result<Vec<u8>, AllocError> {
     let mut octets = Vec::new(alloc);
     percent_decode(text.as_bytes()).append_to(&mut octets)?;
     Ok(octets)
+}
+
+/// The same, to be shared.
+pub fn bytes_of(alloc: Global, text: &str) -> Result<Bytes, AllocError> {
+    Bytes::from_vec(octets_of(alloc, text)?)
+}
+
+/// Adds octets as text: those outside 32 to 126, and `%`, as `%` and two hexadecimal digits.
+pub fn put_octets(out: &mut String, octets: &[u8]) -> Result<(), AllocError> {
+    percent_encode(octets, CONTROLS.add(b'%')).append_to(out)
 }
