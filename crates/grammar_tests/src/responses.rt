@@ -1,18 +1,9 @@
 // What responses say.
 use crate::kinds::{is_whole, kind_of};
 use gate_world::{Bytes, Names};
-use imap_grammar::{FetchItems, Response, Scan, decode, scan};
+use imap_grammar::{FetchItems, Response};
 use std::alloc::{AllocError, Global};
-use told_dialogues::{first_number, first_uid, octets_of, put_octets};
-
-/// The response that the octets are, or begin with.
-fn read(alloc: Global, octets: &[u8]) -> Result<Option<Response>, AllocError> {
-    let Scan::Whole(n) = scan(octets) else {
-        return Ok(None);
-    };
-    let (front, _) = octets.split_at(n);
-    Ok(Some(decode(alloc, front)?))
-}
+use told_dialogues::{first_number, first_response, first_uid, octets_of, put_octets};
 
 /// Adds texts with `|` before each.
 pub(crate) fn put_joined(out: &mut String, texts: &[Bytes]) -> Result<(), AllocError> {
@@ -24,6 +15,9 @@ pub(crate) fn put_joined(out: &mut String, texts: &[Bytes]) -> Result<(), AllocE
 }
 
 fn put_names(out: &mut String, names: &Names) -> Result<(), AllocError> {
+    if names.is_empty() {
+        return out.push_str("no names");
+    }
     out.push_str("names ")?;
     put_joined(out, names.as_slice())
 }
@@ -146,8 +140,8 @@ fn put_octets_asked(
     octets: &[u8],
     out: &mut String,
 ) -> Result<(), AllocError> {
-    match read(alloc, octets)? {
-        Some(response) => put_asked(out, word, &response)?,
+    match first_response(alloc, octets)? {
+        Some((_, response)) => put_asked(out, word, &response)?,
         None => out.push_str("not whole")?,
     }
     out.push('\n')
@@ -158,8 +152,8 @@ fn put_kind(alloc: Global, octets: &[u8], out: &mut String) -> Result<(), AllocE
     if !is_whole(octets) {
         return out.push_str("not whole\n");
     }
-    match read(alloc, octets)? {
-        Some(response) => writeln!(out, "{}", kind_of(&response)),
+    match first_response(alloc, octets)? {
+        Some((_, response)) => writeln!(out, "{}", kind_of(&response)),
         None => Ok(()),
     }
 }
@@ -168,8 +162,8 @@ fn put_kind(alloc: Global, octets: &[u8], out: &mut String) -> Result<(), AllocE
 fn put_set(alloc: Global, text: &str, out: &mut String) -> Result<(), AllocError> {
     let (uid, text) = first_uid(text);
     let octets = line_of(alloc, text)?;
-    match read(alloc, &octets)? {
-        Some(response) => put_held(out, &response, uid)?,
+    match first_response(alloc, &octets)? {
+        Some((_, response)) => put_held(out, &response, uid)?,
         None => out.push_str("not whole")?,
     }
     out.push('\n')

@@ -7,7 +7,10 @@ use std::alloc::{AllocError, Global};
 use told_mail::Exchange;
 
 /// How many octets the response at the front has, and the response; none where there is no whole one.
-fn read(alloc: Global, octets: &[u8]) -> Result<Option<(usize, Response)>, AllocError> {
+pub fn first_response(
+    alloc: Global,
+    octets: &[u8],
+) -> Result<Option<(usize, Response)>, AllocError> {
     match scan(octets) {
         Scan::Whole(n) => {
             let (front, _) = octets.split_at(n);
@@ -22,7 +25,7 @@ fn responses(alloc: Global, octets: &[u8]) -> Result<Vec<Response>, AllocError> 
     let mut responses = Vec::new(alloc);
     let mut rest = octets;
     for _ in 0..octets.len() {
-        let Some((len, response)) = read(alloc, rest)? else {
+        let Some((len, response)) = first_response(alloc, rest)? else {
             return Ok(responses);
         };
         responses.push(response)?;

@@ -9,5 +9,5 @@ mod commands;
 mod exchanges;
 
 pub use commands::command_of;
-pub use exchanges::exchange_of;
+pub use exchanges::{exchange_of, first_response};
 pub use texts::{bytes_of, first_number, first_uid, first_word, octets_of, put_octets};
