@@ -1,4 +1,8 @@
 // Why there is no body.
+ghost use Rattle.std.specs.Prelude.{◌≡◌};
+ghost use Rattle.email_bodies.specs.declared.error.BodyError.TheVariants.{Memory};
+
+use std::alloc::AllocError;
 use thiserror::Error;
 
 /// Why the body of an Email isn't there.
@@ -10,4 +14,12 @@ pub enum BodyError {
     /// There was no memory.
     #[error("out of memory")]
     Memory,
+}
+
+impl From<AllocError> for BodyError {
+    ghost from_gives = { λ _ e. e ≡ Memory };
+
+    fn from(_: AllocError) -> BodyError {
+        BodyError::Memory
+    }
 }

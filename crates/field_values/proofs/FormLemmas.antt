@@ -38,7 +38,7 @@ names_whole : (read : Option (List (List ℕ))) → has_float (names_data read) 
 names_whole None = refl
 names_whole (Some names) = items_whole text_data names (λ t. refl)
 
-moment_whole : (read : Option Moment) (d : Data) → IsMomentData read d → has_float d ≡ false
+pub moment_whole : (read : Option Moment) (d : Data) → IsMomentData read d → has_float d ≡ false
 moment_whole None d h = ap has_float h
 moment_whole (Some m) d h = ap has_float h.2
 
@@ -60,7 +60,7 @@ one_read raw None (Some n) p q = absurd (q.0 (one_names n [] _ q.1 p))
 one_read raw (Some m) None p q = absurd (p.0 (one_names m [] _ p.1 q))
 one_read raw (Some m) (Some n) p q = ap Some (one_names m n _ p.1 q.1)
 
-one_moment_data : (x y : Option Moment) (d e : Data) → x ≡ y → IsMomentData x d → IsMomentData y e → d ≡ e
+pub one_moment_data : (x y : Option Moment) (d e : Data) → x ≡ y → IsMomentData x d → IsMomentData y e → d ≡ e
 one_moment_data None None d e same p q = p ∙ sym q
 one_moment_data None (Some m) d e same p q = absurd (cc)
 one_moment_data (Some m) None d e same p q = absurd (cc)

@@ -1,4 +1,5 @@
 pub mod MomentText
 pub mod Forms
+pub mod UtcDates
 pub mod HeaderProperties
 pub mod reading

@@ -4,6 +4,7 @@
 // Forms.
 pub mod forms;
 mod moment_text;
+mod utc_dates;
 
 // Properties.
 pub mod conveniences;
@@ -15,3 +16,4 @@ pub mod laws;
 pub use conveniences::convenience;
 pub use forms::form_value;
 pub use properties::{header_property, headers_value, last_value};
+pub use utc_dates::utc_value;

@@ -9,7 +9,7 @@ use jiff_core::civil::Date;
 use std::alloc::{AllocError, Global};
 
 /// The seconds from the first of January of the year 0 to 1970-01-01.
-const SECONDS_TO_EPOCH: i64 = 62_167_219_200;
+pub(crate) const SECONDS_TO_EPOCH: i64 = 62_167_219_200;
 
 /// The days from the first of January of the year 0 to 1970-01-01.
 const DAYS_TO_EPOCH: i64 = 719_528;

@@ -8,10 +8,10 @@ use Rattle.std.proofs.lemmas.List.Elements.{All-append}
 use Rattle.serde_json.specs.declared.value.Value.{Value}
 use Rattle.serde_json.specs.Data.{Data}
 use Rattle.serde_json.specs.View.{view}
-use Rattle.jmap_methods.specs.Method.{method_asked}
+use Rattle.gate_calls.specs.MethodNames.{method_asked}
 use Rattle.jmap_methods.specs.Outcome.{Agrees, Meets}
-use Rattle.jmap_methods.specs.declared.method.Method.{Method}
-use Rattle.jmap_methods.specs.declared.method.Using.{Using}
+use Rattle.gate_calls.specs.declared.method.Method.{Method}
+use Rattle.jmap_methods.specs.declared.using.Using.{Using}
 use Rattle.jmap_methods.specs.declared.method_error.MethodError.{MethodError}
 use Rattle.jmap_methods.specs.declared.method_error.MethodError.TheVariants.{Memory}
 use Rattle.jmap_core.specs.References.{resolved_arguments}

@@ -5,7 +5,7 @@ use Rattle.serde_json.specs.declared.value.Value.{Value}
 use Rattle.serde_json.specs.Data.{Data}
 use Rattle.serde_json.specs.View.{view}
 use Rattle.jmap_methods.specs.Outcome.{Agrees, IsJust, Meets}
-use Rattle.jmap_methods.specs.declared.method.Method.{Method}
+use Rattle.gate_calls.specs.declared.method.Method.{Method}
 use Rattle.jmap_methods.specs.declared.method_error.MethodError.{MethodError}
 use Rattle.jmap_methods.specs.declared.method_error.MethodError.TheVariants.{Memory, ServerUnavailable}
 use Rattle.mail_state.specs.History.{MailHistory}

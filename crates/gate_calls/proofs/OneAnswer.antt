@@ -9,9 +9,9 @@ use Rattle.change_list.specs.declared.list.TheConstants.{MAX_PLACE}
 use Rattle.change_list.proofs.HistoryLaws.{length-entries_from}
 use Rattle.served_maps.specs.Past.{Past, place_now}
 use Rattle.jmap_methods.specs.Ids.{mailbox_letter, thread_letter, email_letter}
-use Rattle.jmap_methods.specs.declared.method.Method.{Method}
-use Rattle.jmap_methods.specs.declared.method.Method.TheVariants.{CoreEcho, MailboxGet, MailboxChanges, ThreadGet, ThreadChanges, EmailChanges}
-use Rattle.jmap_methods.specs.declared.method.Using.{Using}
+use Rattle.gate_calls.specs.declared.method.Method.{Method}
+use Rattle.gate_calls.specs.declared.method.Method.TheVariants.{CoreEcho, MailboxGet, MailboxChanges, ThreadGet, ThreadChanges, EmailChanges}
+use Rattle.jmap_methods.specs.declared.using.Using.{Using}
 use Rattle.jmap_methods.specs.declared.method_error.MethodError.{MethodError}
 use Rattle.jmap_core.specs.Request.{CallData}
 use Rattle.read_methods.specs.Changes.{AnswersChanges, Further, no_further, updated_properties}

@@ -2,9 +2,10 @@
 use Rattle.std.specs.Prelude.{◌≡◌, ◌++◌, Bool, List, [], ◌∷◌, Result, Ok, Err, codes}
 use Rattle.std.specs.List.{list_any}
 use Rattle.serde_json.specs.Data.{Data}
-use Rattle.jmap_methods.specs.Method.{method_asked, needs_mail_by, error_data}
-use Rattle.jmap_methods.specs.declared.method.Method.{Method}
-use Rattle.jmap_methods.specs.declared.method.Using.{Using}
+use Rattle.jmap_methods.specs.Errors.{error_data}
+use Rattle.gate_calls.specs.MethodNames.{method_asked, needs_mail_by}
+use Rattle.gate_calls.specs.declared.method.Method.{Method}
+use Rattle.jmap_methods.specs.declared.using.Using.{Using}
 use Rattle.jmap_methods.specs.declared.method_error.MethodError.{MethodError}
 use Rattle.jmap_core.specs.References.{resolved_arguments}
 use Rattle.jmap_core.specs.Request.{CallData}

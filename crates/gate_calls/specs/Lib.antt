@@ -1,4 +1,5 @@
 -- Calls has what each call of a request comes to, one after another, over the mail that is served; Places is for the law that this is one list.
+pub mod MethodNames
 pub mod Mailings
 pub mod Methods
 pub mod Calls

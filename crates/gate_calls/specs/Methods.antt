@@ -2,8 +2,8 @@
 use Rattle.std.specs.Prelude.{◌≡◌, Result, Ok, Err}
 use Rattle.serde_json.specs.Data.{Data}
 use Rattle.jmap_methods.specs.Echo.{echoed}
-use Rattle.jmap_methods.specs.declared.method.Method.{Method}
-use Rattle.jmap_methods.specs.declared.method.Method.TheVariants.{CoreEcho, MailboxGet, MailboxChanges, ThreadGet, ThreadChanges, EmailChanges}
+use Rattle.gate_calls.specs.declared.method.Method.{Method}
+use Rattle.gate_calls.specs.declared.method.Method.TheVariants.{CoreEcho, MailboxGet, MailboxChanges, ThreadGet, ThreadChanges, EmailChanges}
 use Rattle.jmap_methods.specs.declared.method_error.MethodError.{MethodError}
 use Rattle.mail_state.specs.History.{MailHistory}
 use Rattle.read_methods.specs.Changes.{changes_refused}

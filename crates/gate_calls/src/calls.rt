@@ -2,9 +2,9 @@
 ghost use Rattle.std.specs.Prelude.{◌≡◌, Err, Ok, IfOk, All, map, false};
 ghost use Rattle.serde_json.specs.View.{view};
 ghost use Rattle.serde_json.specs.Written.{has_float};
-ghost use Rattle.jmap_methods.specs.Method.{method_asked};
+ghost use Rattle.gate_calls.specs.MethodNames.{method_asked};
 ghost use Rattle.jmap_methods.specs.Outcome.{Meets};
-ghost use Rattle.jmap_methods.specs.declared.method.Using.{Using as using_type};
+ghost use Rattle.jmap_methods.specs.declared.using.Using.{Using as using_type};
 ghost use Rattle.jmap_methods.specs.declared.method_error.MethodError.TheVariants.{Memory};
 ghost use Rattle.jmap_core.specs.Request.{call_data};
 ghost use Rattle.jmap_core.specs.Response.{IsWhole};
@@ -14,11 +14,12 @@ ghost use Rattle.gate_calls.specs.Mailings.{mail_told};
 ghost use Rattle.gate_calls.specs.Calls.{AnswersCall, AnswersCalls, answered_call};
 ghost use Rattle.gate_calls.specs.reading.Responding.{IsResponseTo, RespondsTo};
 
+use crate::method::{Method, method_named};
 use crate::methods::{Told, reply};
 use gate_machine::Machine;
 use gate_world::Text;
 use jmap_core::{Call, resolve};
-use jmap_methods::{Method, MethodError, Using, error_arguments, method_named};
+use jmap_methods::{MethodError, Using, error_arguments};
 use serde_json::Value;
 use std::alloc::{AllocError, Global};
 

@@ -1,6 +1,6 @@
 //! Laws of answers to calls, as clauses of functions that do nothing.
 ghost use Rattle.std.specs.Prelude.{◌≡◌, List};
-ghost use Rattle.jmap_methods.specs.declared.method.Using.{Using};
+ghost use Rattle.jmap_methods.specs.declared.using.Using.{Using};
 ghost use Rattle.jmap_core.specs.Request.{CallData};
 ghost use Rattle.gate_calls.specs.Calls.{AnswersCalls};
 ghost use Rattle.gate_calls.specs.Mailings.{Mailing};

@@ -2,6 +2,7 @@
 #![tactic(auto)]
 
 // Methods.
+mod method;
 mod methods;
 
 // Calls, one after another.
@@ -13,5 +14,6 @@ mod laws;
 
 pub use calls::responses_to;
 pub use laws::one_list_of_responses;
+pub use method::{Method, method_named, name_needs_mail};
 pub use methods::{Told, is_told};
 pub use needs::needs_mail;

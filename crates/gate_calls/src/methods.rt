@@ -12,8 +12,9 @@ ghost use Rattle.gate_machine.specs.Machine.{MachineState};
 ghost use Rattle.gate_calls.specs.Mailings.{mail_told};
 ghost use Rattle.gate_calls.specs.Methods.{RepliesAtOnce, unless_refused};
 
+use crate::method::Method;
 use gate_machine::Machine;
-use jmap_methods::{Method, MethodError, echo};
+use jmap_methods::{MethodError, echo};
 use mail_state::MailState;
 use read_methods::{
     check_changes, check_mailbox_get, check_thread_get, email_changes, mailbox_changes,

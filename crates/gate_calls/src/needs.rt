@@ -1,18 +1,17 @@
 // Whether requests need the mail.
 ghost use Rattle.std.specs.Prelude.{◌≡◌, map};
 ghost use Rattle.std.specs.List.{list_any};
-ghost use Rattle.jmap_methods.specs.Method.{needs_mail_by};
+ghost use Rattle.gate_calls.specs.MethodNames.{needs_mail_by};
 ghost use Rattle.jmap_core.specs.Request.{call_data};
 ghost use Rattle.gate_calls.specs.Calls.{needs_mail};
 
+use crate::method::name_needs_mail;
 use jmap_core::Call;
 
 fn any_needs_mail(calls: &[Call]) -> bool
     ensures { result ≡ list_any (λ call. needs_mail_by call.name) calls.now }
 {
-    calls
-        .iter()
-        .any(|call| jmap_methods::needs_mail(call.name.as_str()))
+    calls.iter().any(|call| name_needs_mail(call.name.as_str()))
 }
 
 /// Whether one of the calls needs the mail.

@@ -14,6 +14,10 @@ use Rattle.mail_maps.specs.Serve.{mailbox_tests, email_tests, thread_tests}
 use Rattle.mail_state.specs.History.{MailHistory, first_history, served_mailboxes, served_emails, served_threads}
 use Rattle.imap_exchange.specs.declared.link_end.LinkEnd.{LinkEnd}
 use Rattle.imap_exchange.specs.declared.link_end.LinkEnd.TheVariants as end
+use Rattle.email_bodies.specs.Asking.{BodyAsk}
+use Rattle.email_bodies.specs.declared.source.MessagePlace.{MessagePlace}
+use Rattle.gate_machine.specs.Fetching.{AsksBody, IsKept, IsTold, Ends, HasEnded, AsksBodies, NoBodies, MoreBodies, LacksBody, CallsAsk, AllAsked, RunsShort}
+use Rattle.gate_machine.specs.Fetching as fetching
 use Rattle.gate_machine.specs.History.{KnownMail, known_mail}
 use Rattle.gate_machine.specs.Machine.{MachineState, hearing, opened}
 use Rattle.gate_machine.specs.Progress.{Progress, idle, machine_by}
@@ -262,3 +266,49 @@ goes_on_way user password before events after p =
     goes_both p.ready.machine p.connected.machine after.machine p.connecting p.asking connected (goes_asking p.asks) in
     goes_by_events before after.machine (p.readying ++ (p.connecting ++ p.asking)) events p.whole
     (goes_both before p.ready.machine after.machine p.readying (p.connecting ++ p.asking) (goes_readied p.readies) from_ready)
+
+-- ---- bodies
+
+-- where the history that is known stays
+goes_known : (m n : MachineState) (k l : KnownMail) (es : List Event) → m.known ≡ Some k → n.known ≡ Some l → l.history ≡ k.history → MachineGoesOn m es n
+goes_known m n k l es was now same =
+    record {
+      history = λ i j first last.
+          inl (subst (λ (h : MailHistory). HasGoneOn i.history h) (sym same ∙ ap (λ (x : KnownMail). x.history) (one_known l j (sym now ∙ last)))
+          (subst (λ (x : KnownMail). HasGoneOn x.history k.history) (one_known k i (sym was ∙ first)) Still));
+      begun = λ j none last. absurd (none_known k (sym was ∙ none));
+    }
+
+goes_body : {message : MessagePlace} {before after : Progress} {body : Option (List ℕ)} {events : List Event} → AsksBody message before body events after
+    → MachineGoesOn before.machine events after.machine
+goes_body {before = before} {after = after} {events = events} (IsKept octets kept body_is none is) =
+    goes_known before.machine after.machine kept.known _ events kept.ready (ap (λ (p : Progress). p.machine.known) is) refl
+goes_body {before = before} {after = after} {events = events} (IsTold octets asks body_is is) =
+    goes_known before.machine after.machine asks.kept.known _ events asks.kept.ready (ap (λ (p : Progress). p.machine.known) is) refl
+goes_body {before = before} {after = after} {events = events} (Ends e asks other body_is is) =
+    goes_known before.machine after.machine asks.kept.known _ events asks.kept.ready (ap (λ (p : Progress). p.machine.known) is) refl
+goes_body {before = before} {after = after} {events = events} (HasEnded kept ended body_is none is) =
+    goes_still before.machine after.machine events (ap (λ (p : Progress). p.machine) is)
+
+pub goes_bodies : {before after : Progress} {asks : List BodyAsk} {events : List Event} → AsksBodies before asks events after
+    → MachineGoesOn before.machine events after.machine
+goes_bodies {before} NoBodies = goes_still before.machine before.machine [] refl
+goes_bodies {before} (MoreBodies {asks} {events} {mid} next bodies) =
+    goes_both before.machine mid.machine next.after.machine events next.events (goes_bodies bodies) (goes_body next.asks)
+
+goes_lacking : {message : MessagePlace} {before after : Progress} {events : List Event} → LacksBody message before events after
+    → MachineGoesOn before.machine events after.machine
+goes_lacking {before = before} {after = after} {events = events} (fetching.Unasked none is) =
+    goes_nowhere before.machine after.machine events (ap (λ (p : Progress). p.machine.known) is)
+goes_lacking {before = before} {after = after} {events = events} (fetching.Asked asks is) =
+    goes_nowhere before.machine after.machine events (ap (λ (p : Progress). p.machine.known) is)
+goes_lacking {before = before} {after = after} {events = events} (fetching.NotKept octets asks is) =
+    goes_nowhere before.machine after.machine events (ap (λ (p : Progress). p.machine.known) is)
+
+-- what the calls of a request ask
+pub goes_calls : (before : Progress) (asks : List BodyAsk) (events : List Event) (after : Progress) → CallsAsk before asks events after
+    → MachineGoesOn before.machine events after.machine
+goes_calls before asks events after (AllAsked bodies) = goes_bodies bodies
+goes_calls before asks events after (RunsShort short) =
+    goes_by_events before.machine after.machine (short.asking ++ short.lacking) events short.whole
+    (goes_both before.machine short.mid.machine after.machine short.asking short.lacking (goes_bodies short.asked) (goes_lacking short.lacks))

@@ -1,5 +1,5 @@
 -- What is kept of what is known, as it goes on.
-use Rattle.std.proofs.Common.{arith, ◌≡◌, ◌∙◌, ℕ, Bool, true, false, Some, None, Result, Ok, Err, refl, sym, ap, subst, inr}
+use Rattle.std.proofs.Common.{arith, ◌≡◌, ◌∙◌, ℕ, Bool, true, false, Some, None, Result, Ok, Err, refl, sym, ap, subst, inr, []}
 use Rattle.std.specs.Prelude.{IfOk}
 use Rattle.told_folder.specs.declared.message.Folder.{Folder}
 use Rattle.told_mail.specs.Mail.{Mail, IsMail, IsNextMail, no_mail}
@@ -23,12 +23,13 @@ next_same m is = record { is_mail = is; counter = omega arith; new_folders = λ 
 
 -- an epoch begins
 pub begins : (epoch : ℕ) (a : KeptMail) → IsStateOf (first_history epoch) (first_state epoch) → a.state ≡ first_state epoch → a.served ≡ no_mail
-    → a.told ≡ record { mail = no_mail; changes = 0 } → IsKeptOf (known_mail (first_history epoch)) a
-begins epoch a stands is served told =
+    → a.told ≡ record { mail = no_mail; changes = 0 } → a.bodies ≡ [] → IsKeptOf (known_mail (first_history epoch)) a
+begins epoch a stands is served told bodies =
     record {
       state = subst (λ (t : ServedState). IsStateOf (first_history epoch) t) (sym is) stands;
       served = served;
       told = told;
+      bodies = bodies;
       next = next_same no_mail stands.sound.is_mail;
     }
 
@@ -42,8 +43,8 @@ next_of {k} kept = subst (λ (m : Mail). IsNextMail k.history.mail m) (sym (mail
 -- the state follows the told mail, which is new
 pub goes_on : (k : KnownMail) (a b : KeptMail) (moved : Advance) → IsKeptOf k a → IsNewMail k
     → ((h : MailHistory) → IsStateOf h a.state → IsNextMail h.mail a.told.mail → FollowsMail h a.told.mail b.state moved)
-    → b.served ≡ a.told.mail → b.told ≡ a.told → (l : KnownMail) × Advanced k l × IsKeptOf l b
-goes_on k a b moved kept new follows served told =
+    → b.served ≡ a.told.mail → b.told ≡ a.told → b.bodies ≡ a.bodies → (l : KnownMail) × Advanced k l × IsKeptOf l b
+goes_on k a b moved kept new follows served told bodies =
     let f : FollowsMail k.history k.told.mail b.state moved =
     subst (λ (m : Mail). FollowsMail k.history m b.state moved) (mail_of kept) (follows k.history kept.state (next_of kept)) in
     let mail_is : f.after.mail ≡ k.told.mail = ap (λ (h : MailHistory). h.mail) f.advances.after_is in (
@@ -53,6 +54,7 @@ goes_on k a b moved kept new follows served told =
         state = f.stands;
         served = served ∙ mail_of kept ∙ sym mail_is;
         told = told ∙ kept.told;
+        bodies = bodies ∙ kept.bodies;
         next = subst (λ (m : Mail). IsNextMail m k.told.mail) (sym mail_is) (next_same k.told.mail kept.next.is_mail);
       },
     )

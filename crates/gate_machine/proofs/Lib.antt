@@ -1,6 +1,9 @@
-mod Stages
+pub mod Stages
 mod Owed
 mod Unequal
 mod Keeping
 pub mod Going
 pub mod Sources
+pub mod Asking
+mod Fetched
+mod Lent

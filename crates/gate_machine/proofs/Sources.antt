@@ -1,5 +1,5 @@
 -- What a machine knows comes of exchanges.
-use Rattle.std.proofs.Common.{arith, ◌≡◌, ◌≢◌, ◌≤◌, ◌++◌, ℕ, List, [], fold, Some, None, Result, Ok, Err, refl, sym, ◌∙◌, ap, subst, inl, inr}
+use Rattle.std.proofs.Common.{arith, ◌≡◌, ◌≢◌, ◌≤◌, ◌++◌, ℕ, List, [], fold, Option, Some, None, Result, Ok, Err, refl, sym, ◌∙◌, ap, subst, inl, inr}
 use Rattle.std.proofs.lemmas.List.Sums.{fold-append}
 use Rattle.gate_world.specs.declared.event.Event.{Event}
 use Rattle.change_list.specs.declared.list.TheConstants.{MAX_PLACE}
@@ -11,6 +11,11 @@ use Rattle.mail_state.specs.History.{MailHistory, Advances, HasRoom, first_histo
 use Rattle.mail_state.specs.Telling.{Begins, Goes}
 use Rattle.imap_exchange.specs.declared.link_end.LinkEnd.{LinkEnd}
 use Rattle.imap_exchange.specs.declared.link_end.LinkEnd.TheVariants as end
+use Rattle.email_bodies.specs.Asking.{BodyAsk}
+use Rattle.email_bodies.specs.Keeping.{Bodies}
+use Rattle.email_bodies.specs.declared.source.MessagePlace.{MessagePlace}
+use Rattle.gate_machine.specs.Fetching.{AsksStore, AsksBody, IsKept, IsTold, Ends, HasEnded, AsksBodies, NoBodies, MoreBodies, LacksBody, CallsAsk, AllAsked, RunsShort}
+use Rattle.gate_machine.specs.Fetching as fetching
 use Rattle.gate_machine.specs.History.{KnownMail, known_mail, served_anew}
 use Rattle.gate_machine.specs.Machine.{MachineState, hearing, opened}
 use Rattle.gate_machine.specs.Progress.{Progress, machine_by}
@@ -136,3 +141,43 @@ knows_on_way user password before events after p knows =
       | inr dials ↦ knows_dialed dials ready
     ] in
     knows_asking p.asks connected
+
+-- ---- bodies
+
+-- other bodies are kept
+kept_other : (k : KnownMail) (bodies : Bodies) → IsOfExchanges k → IsOfExchanges (record k { bodies = bodies })
+kept_other k bodies of = record { history = of.history; room = of.room; exchanges = of.exchanges; since = of.since }
+
+-- what a fetch told
+knows_fetched : {message : MessagePlace} {before : Progress} {result : Result (List ℕ) LinkEnd} {events : List Event} (asks : AsksStore message before result events)
+    → result ≢ Err end.Memory → KnowsExchanges before.machine → IsOfExchanges (record asks.kept.known { told = asks.told })
+knows_fetched asks well knows =
+    heard asks.kept.known asks.told asks.fetches.exchanges (knows asks.kept.known asks.kept.ready) (asks.fetches.told well)
+
+knows_body : {message : MessagePlace} {before after : Progress} {body : Option (List ℕ)} {events : List Event} → AsksBody message before body events after
+    → KnowsExchanges before.machine → KnowsExchanges after.machine
+knows_body {after = after} (IsKept octets kept body_is none is) knows =
+    knows_this after.machine _ (ap (λ (p : Progress). p.machine.known) is) (kept_other kept.known _ (knows kept.known kept.ready))
+knows_body {after = after} (IsTold octets asks body_is is) knows =
+    knows_this after.machine _ (ap (λ (p : Progress). p.machine.known) is) (kept_other _ _ (knows_fetched asks (λ no. cc) knows))
+knows_body {after = after} (Ends e asks other body_is is) knows =
+    knows_this after.machine _ (ap (λ (p : Progress). p.machine.known) is)
+    (knows_fetched asks (λ same. other (let e_is : e ≡ end.Memory = cc in e_is)) knows)
+knows_body {before = before} {after = after} (HasEnded kept ended body_is none is) knows =
+    knows_same before.machine after.machine (ap (λ (p : Progress). p.machine) is) knows
+
+pub knows_bodies : {before after : Progress} {asks : List BodyAsk} {events : List Event} → AsksBodies before asks events after → KnowsExchanges before.machine
+    → KnowsExchanges after.machine
+knows_bodies NoBodies knows = knows
+knows_bodies (MoreBodies next bodies) knows = knows_body next.asks (knows_bodies bodies knows)
+
+knows_lacking : {message : MessagePlace} {before after : Progress} {events : List Event} → LacksBody message before events after → KnowsExchanges after.machine
+knows_lacking {after = after} (fetching.Unasked none is) = knows_nothing after.machine (ap (λ (p : Progress). p.machine.known) is)
+knows_lacking {after = after} (fetching.Asked asks is) = knows_nothing after.machine (ap (λ (p : Progress). p.machine.known) is)
+knows_lacking {after = after} (fetching.NotKept octets asks is) = knows_nothing after.machine (ap (λ (p : Progress). p.machine.known) is)
+
+-- what the calls of a request ask
+pub knows_calls : (before : Progress) (asks : List BodyAsk) (events : List Event) (after : Progress) → CallsAsk before asks events after
+    → KnowsExchanges before.machine → KnowsExchanges after.machine
+knows_calls before asks events after (AllAsked bodies) knows = knows_bodies bodies knows
+knows_calls before asks events after (RunsShort short) knows = knows_lacking short.lacks

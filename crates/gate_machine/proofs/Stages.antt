@@ -1,5 +1,5 @@
 -- A request's way to the mail, stage by stage.
-use Rattle.std.proofs.Common.{arith, fold, ◌≡◌, ◌≢◌, ◌++◌, ◌≤◌, ◌+◌, ℕ, Bool, true, false, List, [], Option, Some, None, Result, Ok, Err, refl, sym, ◌∙◌, ap, subst, inl, inr}
+use Rattle.std.proofs.Common.{arith, fold, ◌≡◌, ◌≢◌, ◌++◌, ◌≤◌, ◌+◌, ℕ, true, false, List, [], Option, Some, None, Result, Ok, Err, refl, sym, ◌∙◌, ap, subst, inl, inr}
 use Rattle.std.specs.Prelude.{◌∷◌, IsErrOf, OnOk, OnErr}
 use Rattle.std.specs.declared.alloc.AllocError.{AllocError}
 use Rattle.std.proofs.lemmas.List.{append-nil}
@@ -10,7 +10,6 @@ use Rattle.told_folder.specs.declared.exchange.Exchange.{Exchange}
 use Rattle.told_mail.specs.Exchanges.{tell}
 use Rattle.told_mail.specs.Mail.{Mail, IsMail, IsNextMail}
 use Rattle.told_mail.specs.Told.{Told}
-use Rattle.imap_exchange.specs.Answering.{HangsUp}
 use Rattle.imap_exchange.specs.declared.link_end.LinkEnd.{LinkEnd}
 use Rattle.imap_exchange.specs.declared.link_end.LinkEnd.TheVariants as end
 use Rattle.imap_client.specs.LinkLife.{LinkLife, ClientState, Stands, fresh}
@@ -22,7 +21,7 @@ use Rattle.gate_machine.specs.Holding.{AreBothReady, HoldsMachine, unready}
 use Rattle.gate_machine.specs.Kept.{KeptMail, IsKeptOf}
 use Rattle.gate_machine.specs.Machine.{MachineState, opened, hearing, committed, forgotten}
 use Rattle.gate_machine.specs.Progress.{Progress, CameTo, Bears, StandsInLife, idle, ended_after, out_of_memory, is_up, standing_by, machine_by, kept_by, lost_by, blame_link}
-use Rattle.gate_machine.specs.Beginning.{Readies, Ready, Restart, LacksRoom, ReadiesTo, Dials, RunsRound, Settles, Same, Moves, Spends, Lacks, AsksThen, DialsTo, BeginsTo, Visits}
+use Rattle.gate_machine.specs.Beginning.{Readies, Ready, Restart, LacksRoom, ReadiesTo, Dials, RunsRound, Settles, Same, Moves, Spends, Lacks, AsksThen, DialsTo, BeginsTo}
 use Rattle.gate_machine.specs.declared.machine.Machine.{Machine}
 use Rattle.gate_machine.specs.declared.standing.Fall.TheVariants.{Spent}
 use Rattle.gate_machine.specs.declared.standing.Standing.{Standing}
@@ -49,7 +48,7 @@ lost_rose (Err end.Lacks) mid now later cause = omega arith
 lost_rose (Err end.Memory) mid now later cause = omega arith
 
 -- the counts bear what the end of a call over the link is blamed on
-bears_end : (result : Result (Unit {0}) LinkEnd) (b was mid now : Faults) → Bears b was mid → LinkAlone mid now → (IsErrOf result end.Lost → Rose mid.link now.link)
+pub bears_end : (result : Result (Unit {0}) LinkEnd) (b was mid now : Faults) → Bears b was mid → LinkAlone mid now → (IsErrOf result end.Lost → Rose mid.link now.link)
     → Bears (blame_link (lost_by result) b) was now
 bears_end result b was mid now bears alone cause =
     record {
@@ -164,7 +163,7 @@ dialed {left = left} {client = client} {result = result} before old machine how 
 -- ---- the round
 
 -- a client that is alive stands in a life that goes on
-in_life : (left : Option LinkLife) (client : ClientState) → StandsInLife left client → client.alive ≡ true → (life : LinkLife) × (left ≡ Some life) × Stands client life
+pub in_life : (left : Option LinkLife) (client : ClientState) → StandsInLife left client → client.alive ≡ true → (life : LinkLife) × (left ≡ Some life) × Stands client life
 in_life None client dead alive = absurd (cc (dead, alive))
 in_life (Some life) client stands alive = (life, refl, stands)
 
@@ -189,11 +188,12 @@ pub asked : {client next : ClientState} {result : Result (Unit {0}) LinkEnd} {ev
     → CameTo machine client standing.Stands was then before → machine.known ≡ Some a → client.alive ≡ true
     → ((life : LinkLife) → Stands client life → (left : LinkLife) × (rounds : Rounds a.told.mail b.told.mail life left next result events)
     × KeepsCount a.told b.told result rounds.exchanges)
-    → b.state ≡ a.state → b.served ≡ a.served
+    → b.state ≡ a.state → b.served ≡ a.served → b.bodies ≡ a.bodies
     → LinkAlone then now → (IsErrOf result end.Lost → Rose then.link now.link)
     → how ≡ standing_by result → after ≡ kept_by result (record machine { known = Some b })
     → (p : Progress) × RunsRound before events p × CameTo after next how was now p
-asked {client} {next} {result} {events} joins goes_on before machine after how was then now a b came known alive rounds state_is served_is alone cause standing_is after_is =
+asked {client} {next} {result} {events} joins goes_on before machine after how was then now a b came known alive rounds state_is served_is bodies_is alone cause standing_is
+    after_is =
     let here = in_life before.left client came.in_life alive in
     let of = held_ready before.machine machine a came.held known in
     let k : KnownMail = of.0 in
@@ -224,6 +224,7 @@ asked {client} {next} {result} {events} joins goes_on before machine after how w
                 state = subst (λ (s : ServedState). IsStateOf k.history s) (sym state_is) kept.state;
                 served = served_is ∙ kept.served;
                 told = refl;
+                bodies = bodies_is ∙ kept.bodies;
                 next = next_told joins goes_on k a b.told went.1.exchanges kept (went.1.told some);
               };
             }));
@@ -400,25 +401,9 @@ begun_only {before = before} f xs readies held dead =
     }
 
 -- whether the link is up is what the client knows
-up_is : (left : Option LinkLife) (client : ClientState) → StandsInLife left client → client.alive ≡ is_up left
+pub up_is : (left : Option LinkLife) (client : ClientState) → StandsInLife left client → client.alive ≡ is_up left
 up_is None client dead = dead
 up_is (Some life) client stands = stands.alive
 
-stays_borne : (b was mid now : Faults) → Bears b was mid → NoFault mid now → Bears b was now
+pub stays_borne : (b was mid now : Faults) → Bears b was mid → NoFault mid now → Bears b was now
 stays_borne b was mid now bears same = subst (λ (f : Faults). Bears b was f) (sym same) bears
-
--- the whole way, and the link is hung up
-pub visited : {user password : List ℕ} {before : MachineState} {machine : Machine} {client : ClientState} {how : Standing} {was mid now : Faults} (xs ys : List Event)
-    → BeginsTo user password before machine client how was mid xs → HangsUp client.alive ys → NoFault mid now → Visits user password before machine how was now (xs ++ ys)
-visited {client = client} {was = was} {mid = mid} {now = now} xs ys begins hangs same =
-    record {
-      after = begins.after;
-      beginning = xs;
-      ending = ys;
-      begins = begins.begins;
-      hangs = subst (λ (b : Bool). HangsUp b ys) (up_is begins.after.left client begins.came.in_life) hangs;
-      whole = refl;
-      held = begins.came.held;
-      standing_is = begins.came.standing_is;
-      bears = stays_borne begins.after.blamed was mid now begins.came.bears same;
-    }

@@ -8,7 +8,6 @@ use Rattle.gate_world.specs.declared.event.Event.TheVariants.{Word}
 use Rattle.told_mail.specs.Mail.{SameMail}
 use Rattle.told_mail.specs.Told.{Told}
 use Rattle.mail_state.specs.History.{MailHistory, HasRoom}
-use Rattle.imap_exchange.specs.Answering.{HangsUp}
 use Rattle.imap_exchange.specs.declared.link_end.LinkEnd.{LinkEnd}
 use Rattle.imap_client.specs.Connecting.{Connects}
 use Rattle.imap_client.specs.LinkLife.{LinkLife, ClientState}
@@ -16,7 +15,7 @@ use Rattle.imap_client.specs.Rounds.{KeepsCount, Rounds}
 use Rattle.gate_machine.specs.History.{KnownMail, IsNewMail, IsSpent, GoesOnTo, served_anew}
 use Rattle.gate_machine.specs.Holding.{HoldsMachine}
 use Rattle.gate_machine.specs.Machine.{MachineState, opened, hearing, committed, forgotten}
-use Rattle.gate_machine.specs.Progress.{Progress, CameTo, Bears, idle, ended_after, out_of_memory, is_up}
+use Rattle.gate_machine.specs.Progress.{Progress, CameTo, idle, ended_after, out_of_memory}
 use Rattle.gate_machine.specs.declared.machine.Machine.{Machine}
 use Rattle.gate_machine.specs.declared.standing.Fall.TheVariants.{Spent}
 use Rattle.gate_machine.specs.declared.standing.Standing.{Standing}
@@ -122,15 +121,3 @@ pub record BeginsTo (user password : List ℕ) (before : MachineState) (kept : M
   pub after : Progress
   pub begins : PreparesMail user password before events after
   pub came : CameTo kept client how was now after
-
--- The whole way, and the link is hung up where it is up after it.
-pub record Visits (user password : List ℕ) (before : MachineState) (kept : Machine) (how : Standing) (was now : Faults) (events : List Event) : Type 0 where
-  pub after : Progress
-  pub beginning : List Event
-  pub ending : List Event
-  pub begins : PreparesMail user password before beginning after
-  pub hangs : HangsUp (is_up after.left) ending
-  pub whole : events ≡ beginning ++ ending
-  pub held : HoldsMachine after.machine kept
-  pub standing_is : after.standing ≡ how
-  pub bears : Bears after.blamed was now

@@ -1,17 +1,19 @@
 -- What has become of the mail, and what was told since; when that is served.
-use Rattle.std.specs.Prelude.{◌≡◌, ◌⊎◌}
+use Rattle.std.specs.Prelude.{◌≡◌, ◌⊎◌, []}
 use Rattle.told_mail.specs.Mail.{SameMail, IsNextMail}
 use Rattle.told_mail.specs.Told.{Told}
 use Rattle.mail_state.specs.History.{MailHistory, Advances, HasRoom}
+use Rattle.email_bodies.specs.Keeping.{Bodies}
 
--- the history that is served, and the mail told since, with the count of its changes
+-- the history that is served, the mail told since, with the count of its changes, and the bodies that are kept
 pub record KnownMail : Type 0 where
   pub history : MailHistory
   pub told : Told
+  pub bodies : Bodies
 
 -- nothing was told yet
 abbrev pub known_mail : MailHistory → KnownMail
-known_mail h = record { history = h; told = record { mail = h.mail; changes = 0 } }
+known_mail h = record { history = h; told = record { mail = h.mail; changes = 0 }; bodies = [] }
 
 -- the told mail is other than the mail that is served
 abbrev pub IsNewMail : KnownMail → Type 0

@@ -7,7 +7,7 @@ ghost use Rattle.imap_client.specs.LinkLife.{ClientState};
 ghost use Rattle.gate_machine.specs.Holding.{HoldsMachine};
 ghost use Rattle.gate_machine.specs.Machine.{MachineState};
 ghost use Rattle.gate_machine.specs.Progress.{Progress, CameTo, idle};
-ghost use Rattle.gate_machine.specs.Beginning.{Dials, RunsRound, Settles, AsksThen, DialsTo, BeginsTo, Visits};
+ghost use Rattle.gate_machine.specs.Beginning.{Dials, RunsRound, Settles, AsksThen, DialsTo, BeginsTo};
 
 use crate::machine::Machine;
 use crate::standing::{CommitEnd, Fall, Standing};
@@ -59,8 +59,9 @@ fn ask<L: Link>(machine: &mut Machine, client: &mut Client, link: &mut L) -> Sta
 // What the round told is served.
 fn settle(machine: &mut Machine) -> Standing
     requires { IsSome machine.old.known }
-    ensures { (before : Progress) (client : ClientState) (was now : Faults) → CameTo machine.old client Standing.Stands was now before
+    ensures run { (before : Progress) (client : ClientState) (was now : Faults) → CameTo machine.old client Standing.Stands was now before
         → (after : Progress) × Settles before [] after × CameTo machine.new client result was now after }
+    ensures ready { result ≡ Standing.Stands → IsSome machine.new.known }
 {
     let Some(known) = machine.known.take() else {
         unreachable!()
@@ -82,6 +83,7 @@ fn ask_and_settle<L: Link>(machine: &mut Machine, client: &mut Client, link: &mu
     ensures run { Adds (L.tape link.old) (L.tape link.new) (λ es. (before : Progress) (was : Faults)
         → CameTo machine.old client.old Standing.Stands was (L.faults link.old) before
         → (after : Progress) × AsksThen before es after × CameTo machine.new client.new result was (L.faults link.new) after) }
+    ensures ready { result ≡ Standing.Stands → IsSome machine.new.known }
     ensures alone { LinkAlone (L.faults link.old) (L.faults link.new) }
     ensures hidden { L.hidden link.new ≡ L.hidden link.old }
 {
@@ -103,6 +105,7 @@ fn live<W: Link + Secrets>(
     requires ready { IsSome machine.old.known }
     ensures run { Adds (W.tape world.old) (W.tape world.new) (λ es. (before : MachineState) → HoldsMachine before machine.old
         → DialsTo user.now (W.hidden world.old).password before machine.new client.new result (W.faults world.old) (W.faults world.new) es) }
+    ensures ready { result ≡ Standing.Stands → IsSome machine.new.known }
     ensures alone { LinkAlone (W.faults world.old) (W.faults world.new) }
     ensures hidden { W.hidden world.new ≡ W.hidden world.old }
 {
@@ -132,23 +135,4 @@ pub fn begin<W: Link + Chance + Secrets>(
         Ok(()) => live(machine, client, world, user),
         Err(_) => Standing::OutOfMemory,
     }
-}
-
-/// The link life of a request: it begins, and is over after it. Where the result stands, the mail that is known then is what
-/// the store told in it.
-pub fn visit<W: Link + Chance + Secrets>(
-    alloc: Global,
-    machine: &mut Machine,
-    world: &mut W,
-    user: &[u8],
-) -> Standing
-    ensures run { Adds (W.tape world.old) (W.tape world.new) (λ es. (before : MachineState) → HoldsMachine before machine.old
-        → Visits user.now (W.hidden world.old).password before machine.new result (W.faults world.old) (W.faults world.new) es) }
-    ensures alone { LinkAlone (W.faults world.old) (W.faults world.new) }
-    ensures hidden { W.hidden world.new ≡ W.hidden world.old }
-{
-    let mut client = Client::new(alloc);
-    let standing = begin(alloc, machine, &mut client, world, user);
-    client.leave(world);
-    standing
 }

@@ -6,11 +6,13 @@ ghost use Rattle.imap_client.specs.LinkLife.{LinkLife, Stands, fresh};
 ghost use Rattle.imap_client.specs.Rounds.{KeepsCount, Rounds};
 ghost use Rattle.mail_state.specs.History.{first_history};
 ghost use Rattle.gate_machine.specs.History.{KnownMail, known_mail, Advanced, Commits, IsNewMail, IsSpent};
-ghost use Rattle.gate_machine.specs.Kept.{IsKeptOf};
+ghost use Rattle.gate_machine.specs.Kept.{IsKeptOf, IsSameSince};
 ghost use Rattle.told_mail.specs.Mail.{SameMail};
 
 use crate::differences::folders_differ;
+use crate::fetching::Fetching;
 use crate::standing::CommitEnd;
+use email_bodies::BodyCache;
 use gate_world::Link;
 use imap_client::{Client, LinkEnd};
 use mail_state::laws::first_stands;
@@ -19,7 +21,8 @@ use std::alloc::{AllocError, Global};
 use std::marker::Model;
 use told_mail::Mirror;
 
-/// What is known of the mail: the state that is served, the mail that it was made of, and the mail told since.
+/// What is known of the mail: the state that is served, the mail that it was made of, the mail told since, and the bodies of Emails
+/// that are kept.
 #[derive(Drop)]
 pub struct Known {
     state: MailState,
@@ -27,6 +30,7 @@ pub struct Known {
     told: Mirror,
     /// The count of changes of the told mail as it was last the same as the served.
     same_at: u64,
+    bodies: BodyCache,
 }
 
 impl Model for Known {
@@ -36,7 +40,7 @@ impl Model for Known {
 
     ghost Value = { KeptMail };
 
-    ghost view = { λ k. record { state = k.state; served = k.served.mail; told = k.told } };
+    ghost view = { λ k. record { state = k.state; served = k.served.mail; told = k.told; bodies = k.bodies } };
 
     ghost invariant = { λ k. (k.same_at ≤ k.told.changes)
         × (k.told.changes ≡ k.same_at → k.told.changes < 2 ^ 64 - 1 → SameMail k.served.mail k.told.mail) };
@@ -54,6 +58,7 @@ impl Known {
             served: Mirror::new(alloc),
             told: Mirror::new(alloc),
             same_at: 0,
+            bodies: BodyCache::new(alloc)?,
         })
     }
 
@@ -84,7 +89,12 @@ impl Known {
         ensures ok { IfOk result (λ new. (k : KnownMail) → IsKeptOf k self → IsNewMail k → (l : KnownMail) × Advanced k l × IsKeptOf l new) }
         ensures spent { IsErrOf result CommitEnd.Spent → (k : KnownMail) → IsKeptOf k self → IsSpent k }
     {
-        let Known { state, told, .. } = self;
+        let Known {
+            state,
+            told,
+            bodies,
+            ..
+        } = self;
         let Ok(served) = told.copy() else {
             return Err(CommitEnd::Memory);
         };
@@ -95,6 +105,7 @@ impl Known {
                 served,
                 told,
                 same_at,
+                bodies,
             }),
             Err(StateError::Spent { .. }) => Err(CommitEnd::Spent),
             Err(StateError::Memory) => Err(CommitEnd::Memory),
@@ -121,6 +132,7 @@ impl Known {
             × (rounds : Rounds self.old.told.mail self.new.told.mail life left client.new result es) × KeepsCount self.old.told self.new.told result rounds.exchanges) }
         ensures state { self.new.state ≡ self.old.state }
         ensures served { self.new.served ≡ self.old.served }
+        ensures bodies { self.new.bodies ≡ self.old.bodies }
         ensures alive { OnOk result (client.new.alive ≡ true) }
         ensures ended { OnErr result (client.new ≡ fresh) }
         ensures alone { LinkAlone (L.faults link.old) (L.faults link.new) }
@@ -128,5 +140,77 @@ impl Known {
         ensures hidden { L.hidden link.new ≡ L.hidden link.old }
     {
         client.round(link, &mut self.told)
+    }
+}
+
+/// The part of what is known that calls over the link leave as it is.
+#[derive(Drop)]
+pub struct Served {
+    state: MailState,
+    mail: Mirror,
+    same_at: u64,
+}
+
+impl Model for Served {
+    ghost use Rattle.gate_machine.specs.Kept.{ServedMail};
+
+    ghost Value = { ServedMail };
+
+    ghost view = { λ m. record { state = m.state; served = m.mail.mail; same_at = m.same_at } };
+}
+
+impl Served {
+    /// What is served.
+    pub fn state(&self) -> &MailState
+        ensures { result.now ≡ self.now.state }
+    {
+        &self.state
+    }
+}
+
+impl Known {
+    /// What calls may look at, and where they get bodies over this client's link life.
+    pub(crate) fn lend(self, client: Client) -> (Served, Fetching)
+        ensures state { result.0.state ≡ self.state }
+        ensures served { result.0.served ≡ self.served }
+        ensures fetching { result.1 ≡ record { told = self.told; bodies = self.bodies; client = client } }
+        ensures same { IsSameSince result.0 result.1.told }
+    {
+        let Known {
+            state,
+            served,
+            told,
+            same_at,
+            bodies,
+        } = self;
+        let fetching = Fetching::new(told, bodies, client);
+        let served = Served {
+            state,
+            mail: served,
+            same_at,
+        };
+        (served, fetching)
+    }
+
+    /// What was lent is known again, and the client.
+    pub(crate) fn returned(served: Served, fetching: Fetching) -> (Known, Client)
+        requires { IsSameSince served fetching.told }
+        ensures known { result.0 ≡ record { state = served.state; served = served.served; told = fetching.told; bodies = fetching.bodies } }
+        ensures client { result.1 ≡ fetching.client }
+    {
+        let Served {
+            state,
+            mail,
+            same_at,
+        } = served;
+        let (told, bodies, client) = fetching.into_parts();
+        let known = Known {
+            state,
+            served: mail,
+            told,
+            same_at,
+            bodies,
+        };
+        (known, client)
     }
 }

@@ -4,6 +4,8 @@ ghost use Rattle.gate_world.specs.Causes.{no_faults};
 ghost use Rattle.gate_world.specs.declared.event.Event.{Event};
 ghost use Rattle.gate_machine.specs.Beginning.{PreparesMail};
 ghost use Rattle.mail_state.specs.History.{MailHistory};
+ghost use Rattle.email_bodies.specs.Asking.{BodyAsk};
+ghost use Rattle.gate_machine.specs.Fetching.{CallsAsk};
 ghost use Rattle.gate_machine.specs.Going.{HasGoneOn, MachineGoesOn};
 ghost use Rattle.gate_machine.specs.Machine.{MachineState, opened};
 ghost use Rattle.gate_machine.specs.Obeying.{IsObeyedBeginning, IsServed};
@@ -29,6 +31,12 @@ pub fn requests_keep_history()
         → PreparesMail user password before events after → MachineGoesOn before events after.machine }
 {}
 
+/// What the calls of a request ask leaves the history that is served as it is; or there was no memory for it.
+pub fn calls_keep_history()
+    ensures { (before : Progress) (asks : List BodyAsk) (events : List Event) (after : Progress)
+        → CallsAsk before asks events after → MachineGoesOn before.machine events after.machine }
+{}
+
 /// As a history goes on, its epoch and its touches stay, and so do its maps: a state that a client was sent names the same map ever after.
 pub fn touches_stay()
     ensures touches { (h after : MailHistory) → HasGoneOn h after → KeepsTouches h after }
@@ -41,4 +49,6 @@ pub fn machines_know_what_was_told()
     ensures first { (epoch : ℕ) → KnowsExchanges (opened epoch) }
     ensures next { (user password : List ℕ) (before : MachineState) (events : List Event) (after : Progress)
         → PreparesMail user password before events after → KnowsExchanges before → KnowsExchanges after.machine }
+    ensures calls { (before : Progress) (asks : List BodyAsk) (events : List Event) (after : Progress)
+        → CallsAsk before asks events after → KnowsExchanges before.machine → KnowsExchanges after.machine }
 {}

@@ -1,4 +1,5 @@
-//! What the gateway holds between requests, and a request's way to the mail: over the link alone.
+//! What the gateway holds between requests, a request's way to the mail and to the bodies of Emails: over the
+//! link alone.
 #![tactic(auto)]
 
 // What is known.
@@ -10,13 +11,18 @@ mod machine;
 mod beginning;
 mod standing;
 
+// Bodies.
+mod fetching;
+
 // Laws.
 mod laws;
 
-pub use beginning::{begin, visit};
-pub use known::Known;
+pub use beginning::begin;
+pub use fetching::Fetching;
+pub use known::{Known, Served};
 pub use laws::{
-    machines_know_what_was_told, obeyed_rounds_stand, requests_keep_history, touches_stay,
+    calls_keep_history, machines_know_what_was_told, obeyed_rounds_stand, requests_keep_history,
+    touches_stay,
 };
 pub use machine::Machine;
 pub use standing::{CommitEnd, Fall, Standing};

@@ -1,16 +1,20 @@
 // What the gateway holds between requests.
-ghost use Rattle.std.specs.Prelude.{◌≡◌, IfOk, IsSome, OnOk, OnErr, Err};
-ghost use Rattle.gate_world.specs.Causes.{NoFault};
+ghost use Rattle.std.specs.Prelude.{◌≡◌, IfOk, IsSome, OnOk, OnErr, Err, Some};
+ghost use Rattle.gate_world.specs.Causes.{Faults, NoFault};
 ghost use Rattle.gate_world.specs.Tape.{Adds};
 ghost use Rattle.gate_machine.specs.Holding.{HoldsMachine, unready};
+ghost use Rattle.gate_machine.specs.History.{KnownMail};
+ghost use Rattle.gate_machine.specs.Kept.{IsSameSince};
+ghost use Rattle.gate_machine.specs.Lending.{HoldsSource, IsLentOf};
 ghost use Rattle.gate_machine.specs.Machine.{MachineState, opened};
-ghost use Rattle.gate_machine.specs.Progress.{standing_by, kept_by};
+ghost use Rattle.gate_machine.specs.Progress.{CameTo, Progress, standing_by, kept_by};
 ghost use Rattle.gate_machine.specs.Beginning.{ReadiesTo};
 
-use crate::known::Known;
+use crate::fetching::Fetching;
+use crate::known::{Known, Served};
 use crate::standing::{Fall, Standing};
 use gate_world::Chance;
-use imap_client::LinkEnd;
+use imap_client::{Client, LinkEnd};
 use std::alloc::{AllocError, Global};
 
 /// What the gateway holds between requests.
@@ -58,6 +62,32 @@ impl Machine {
             }
             _ => Standing::Fell(Fall::Linked(end)),
         }
+    }
+
+    /// What calls look at, and where they get bodies over this client's link life. The machine isn't ready until it is taken back.
+    pub fn lend(&mut self, client: Client) -> (Served, Fetching)
+        requires { IsSome self.old.known }
+        ensures lent { (p : Progress) (was now : Faults) → CameTo self.old client Standing.Stands was now p
+            → (k : KnownMail) × (p.machine.known ≡ Some k) × IsLentOf k result.0 × HoldsSource p result.1 was now }
+        ensures same { IsSameSince result.0 result.1.told }
+        ensures client { result.1.client ≡ client }
+    {
+        let Some(known) = self.known.take() else {
+            unreachable!();
+        };
+        known.lend(client)
+    }
+
+    /// What was lent is known again. It gives the client.
+    pub fn take_back(&mut self, served: Served, fetching: Fetching) -> Client
+        requires { IsSameSince served fetching.told }
+        ensures held { (p : Progress) (k : KnownMail) (was now : Faults) → p.machine.known ≡ Some k → IsLentOf k served → HoldsSource p fetching was now
+            → HoldsMachine p.machine self.new }
+        ensures client { result ≡ fetching.client }
+    {
+        let (known, client) = Known::returned(served, fetching);
+        self.known = Some(known);
+        client
     }
 
     // It begins anew in this epoch. An Err changes nothing.

@@ -1,6 +1,6 @@
 -- What is asked has one response.
 use Rattle.std.proofs.Common.{◌≡◌, ℕ, List, sym, ap, ◌∙◌}
-use Rattle.jmap_methods.specs.declared.method.Using.{Using}
+use Rattle.jmap_methods.specs.declared.using.Using.{Using}
 use Rattle.jmap_core.specs.Request.{CallData}
 use Rattle.gate_calls.specs.Calls.{AnswersCalls}
 use Rattle.gate_calls.specs.Mailings.{Mailing}

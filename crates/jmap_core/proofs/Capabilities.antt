@@ -10,7 +10,7 @@ use Rattle.std.proofs.lemmas.Option.{none-some, same_Some}
 use Rattle.jmap_methods.specs.Arguments.{is_among}
 use Rattle.jmap_core.specs.Request.{Form, RequestData, admitted, is_capability, core_capability, mail_capability, using_of}
 use Rattle.jmap_core.specs.reading.Forms.{noted, known_capabilities}
-use Rattle.jmap_methods.specs.declared.method.Using.{Using}
+use Rattle.jmap_methods.specs.declared.using.Using.{Using}
 use Rattle.jmap_core.specs.declared.request.LimitName.TheVariants.{MaxCallsInRequest}
 use Rattle.jmap_core.specs.declared.request.RequestError.{RequestError}
 use Rattle.jmap_core.specs.declared.request.RequestError.TheVariants.{UnknownCapability, Limit}

@@ -11,7 +11,7 @@ use Rattle.jmap_methods.specs.Arguments.{texts_in, is_among}
 use Rattle.jmap_core.specs.CreatedIds.{Ids, given_to}
 use Rattle.jmap_core.specs.declared.call.Call.{Call}
 use Rattle.jmap_core.specs.declared.request.Request.{Request}
-use Rattle.jmap_methods.specs.declared.method.Using.{Using}
+use Rattle.jmap_methods.specs.declared.using.Using.{Using}
 use Rattle.jmap_core.specs.declared.request.LimitName.TheVariants.{MaxCallsInRequest}
 use Rattle.jmap_core.specs.declared.request.RequestError.{RequestError}
 use Rattle.jmap_core.specs.declared.request.RequestError.TheVariants.{NotJson, NotRequest, UnknownCapability, Limit}

@@ -1,6 +1,6 @@
--- What methods share: errors, arguments, ids, states, and the frame of a /get. Method says which there are.
+-- What methods share: errors, arguments, ids, states, and the frame of a /get.
 pub mod Outcome
-pub mod Method
+pub mod Errors
 pub mod State
 pub mod Ids
 pub mod Arguments

@@ -37,7 +37,7 @@ fn is_new<'a>(seen: &mut BTreeSet<&'a str>, text: &'a str) -> Result<bool, Alloc
 }
 
 /// Each id once, where it stands first.
-fn distinct<'a>(alloc: Global, ids: &Vec<&'a str>) -> Result<Vec<&'a str>, AllocError>
+pub fn distinct<'a>(alloc: Global, ids: &Vec<&'a str>) -> Result<Vec<&'a str>, AllocError>
     ensures { IfOk result (λ v. map (λ t. t.now) v.items
         ≡ spec.distinct_ids (map (λ t. t.now) ids.now.items)) }
 {

@@ -1,10 +1,10 @@
-//! What methods of JMAP share (RFC 8620): their names, errors and arguments, ids, the states of types, what a /get answers, and
+//! What methods of JMAP share (RFC 8620): errors and arguments, ids, the states of types, what a /get answers, and
 //! Core/echo.
 #![tactic(auto)]
 
-// Calls.
-mod method;
+// Requests and errors.
 mod method_error;
+mod using;
 
 // Arguments and answers.
 mod arguments;
@@ -19,9 +19,9 @@ pub use arguments::{
     most_or_null, text_at, texts_in, texts_or_null, whole_or_null,
 };
 pub use core_echo::echo;
-pub use gets::{AskedNumbers, asked_numbers, count_of_ids, get_value};
+pub use gets::{AskedNumbers, asked_numbers, count_of_ids, distinct, get_value};
 pub use ids::{EMAIL_LETTER, MAILBOX_LETTER, THREAD_LETTER, id_list, id_text, id_value, read_id};
-pub use method::{Method, Using, method_named, needs_mail};
 pub use method_error::{MethodError, error_arguments};
 pub use numbers::Numbers;
 pub use state::{State, read_state, state_text};
+pub use using::Using;

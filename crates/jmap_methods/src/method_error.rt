@@ -1,7 +1,7 @@
 // Why a method has no answer.
 ghost use Rattle.std.specs.Prelude.{◌≡◌, IfOk};
 ghost use Rattle.serde_json.specs.View.{view};
-ghost use Rattle.jmap_methods.specs.Method.{error_type, error_data};
+ghost use Rattle.jmap_methods.specs.Errors.{error_type, error_data};
 ghost use Rattle.jmap_methods.specs.declared.method_error.MethodError.TheVariants.{Memory};
 
 use serde_json::{Value, json};

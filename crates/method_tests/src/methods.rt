@@ -1,5 +1,6 @@
 // Methods by their names, and errors as they are told.
-use jmap_methods::{Method, MethodError, Using, error_arguments, method_named, needs_mail};
+use gate_calls::{Method, method_named, name_needs_mail};
+use jmap_methods::{MethodError, Using, error_arguments};
 use std::alloc::Global;
 use std::process::Abort;
 
@@ -33,8 +34,8 @@ fn names(rt: HostRuntime) {
     for row in NAMES.iter() {
         assert!(rt; method_named(row.0, row.1) == row.2);
     }
-    assert!(rt; !needs_mail("Core/echo"));
-    assert!(rt; needs_mail("Core/Echo"));
+    assert!(rt; !name_needs_mail("Core/echo"));
+    assert!(rt; name_needs_mail("Core/Echo"));
 }
 
 /// Why a method has no answer, and the type by which a client is told.

@@ -2,7 +2,7 @@
 use Rattle.std.specs.Prelude.{ℕ, List, [], ◌∷◌, if◌then◌else◌, bytes_eq, map, Option, Some, None, option_and_then, false, true}
 use Rattle.jmap_core.specs.Request.{Form as FormData, call_data, core_capability, mail_capability}
 use Rattle.jmap_core.specs.declared.request_body.Form.{Form}
-use Rattle.jmap_methods.specs.declared.method.Using.{Using}
+use Rattle.jmap_methods.specs.declared.using.Using.{Using}
 
 abbrev pub form_data : Form → FormData
 form_data form = record { uses = map (λ t. t.now) form.names.items; calls = map call_data form.calls.items; created = form.created }

@@ -1,5 +1,5 @@
 use Rattle.std.proofs.Common.{refl, sym, ◌∙◌, ap, inr, List, ℕ}
-use Rattle.jmap_methods.specs.Method.{method_asked}
+use Rattle.gate_calls.specs.MethodNames.{method_asked}
 use Rattle.gate_calls.specs.Calls.{NoMethod}
 use Rattle.gate_calls.proofs.calls.call_result.Goals as goal
 

@@ -1,7 +1,7 @@
 use Rattle.std.proofs.Common.{Ok}
 use Rattle.serde_json.specs.View.{view}
 use Rattle.jmap_methods.specs.Echo.{echoed}
-use Rattle.jmap_methods.specs.declared.method.Method.TheVariants.{CoreEcho, MailboxGet, MailboxChanges, ThreadGet, ThreadChanges, EmailChanges}
+use Rattle.gate_calls.specs.declared.method.Method.TheVariants.{CoreEcho, MailboxGet, MailboxChanges, ThreadGet, ThreadChanges, EmailChanges}
 use Rattle.read_methods.specs.Replies.{mailbox_get_reply, thread_get_reply}
 use Rattle.gate_calls.proofs.Meaning.{agrees_meets, just_meets, replies_by}
 use Rattle.gate_calls.proofs.methods.reply_over.Goals as goal

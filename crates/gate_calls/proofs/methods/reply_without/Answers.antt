@@ -1,7 +1,7 @@
 use Rattle.std.proofs.Common.{Err}
 use Rattle.serde_json.specs.View.{view}
 use Rattle.jmap_methods.specs.Echo.{echoed}
-use Rattle.jmap_methods.specs.declared.method.Method.TheVariants.{CoreEcho, MailboxGet, MailboxChanges, ThreadGet, ThreadChanges, EmailChanges}
+use Rattle.gate_calls.specs.declared.method.Method.TheVariants.{CoreEcho, MailboxGet, MailboxChanges, ThreadGet, ThreadChanges, EmailChanges}
 use Rattle.read_methods.specs.Changes.{changes_refused}
 use Rattle.read_methods.specs.Mailboxes.{mailboxes_refused}
 use Rattle.read_methods.specs.Threads.{threads_refused}

@@ -1,5 +1,5 @@
-use Rattle.gate_machine.proofs.Sources.{knows_first, knows_on_way}
+use Rattle.gate_machine.proofs.Sources.{knows_calls, knows_first, knows_on_way}
 use Rattle.gate_machine.proofs.laws.machines_know_what_was_told.Goals as goal
 
 pub returns : goal.returns
-returns c = record { first = knows_first; next = knows_on_way }
+returns c = record { first = knows_first; next = knows_on_way; calls = knows_calls }

@@ -1,0 +1,12 @@
+pub mod StepLemmas
+pub mod TextLemmas
+pub mod TagLemmas
+pub mod CutLemmas
+pub mod LeafLemmas
+pub mod ObjectLemmas
+pub mod ValueLemmas
+pub mod SizeLemmas
+pub mod BodyLemmas
+pub mod KinLemmas
+pub mod WholeLemmas
+pub mod OneBody

@@ -1,0 +1,10 @@
+// Messages whose bodies are shown.
+
+/// A message whose body is shown.
+#[derive(Clone, Copy, Debug)]
+pub struct Message<'a> {
+    /// Its octets, which may be any.
+    pub octets: &'a [u8],
+    /// Its blob id, from which its parts have theirs. None where its parts have none.
+    pub id: Option<&'a [u8]>,
+}

@@ -1,0 +1,2 @@
+pub mod OneObject
+pub mod WholeLemmas

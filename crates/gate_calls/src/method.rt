@@ -1,0 +1,63 @@
+// The methods by their names.
+ghost use Rattle.std.specs.Prelude.{◌≡◌};
+ghost use Rattle.gate_calls.specs.MethodNames.{is_used, method_of, method_asked, needs_mail_by};
+
+use jmap_methods::{MethodError, Using};
+
+/// A method that a call can ask.
+#[derive(Clone, Copy, Debug, PartialEq, Eq)]
+pub enum Method {
+    /// RFC 8620 section 4
+    CoreEcho,
+    /// RFC 8621 section 2.1
+    MailboxGet,
+    /// RFC 8621 section 2.2
+    MailboxChanges,
+    /// RFC 8621 section 3.1
+    ThreadGet,
+    /// RFC 8621 section 3.2
+    ThreadChanges,
+    /// RFC 8621 section 4.3
+    EmailChanges,
+}
+
+fn method_of(name: &str) -> Option<Method>
+    ensures { result ≡ method_of name.now }
+{
+    match name {
+        "Core/echo" => Some(Method::CoreEcho),
+        "Mailbox/get" => Some(Method::MailboxGet),
+        "Mailbox/changes" => Some(Method::MailboxChanges),
+        "Thread/get" => Some(Method::ThreadGet),
+        "Thread/changes" => Some(Method::ThreadChanges),
+        "Email/changes" => Some(Method::EmailChanges),
+        _ => None,
+    }
+}
+
+fn is_used(uses: Using, method: Method) -> bool
+    ensures { result ≡ is_used uses method }
+{
+    match method {
+        Method::CoreEcho => uses.core,
+        _ => uses.mail,
+    }
+}
+
+/// The method with this name, or `UnknownMethod` where there is none or its capability isn't used (RFC 8620 sections
+/// 3.3 and 3.6.2).
+pub fn method_named(uses: Using, name: &str) -> Result<Method, MethodError>
+    ensures { result ≡ method_asked uses name.now }
+{
+    match method_of(name) {
+        Some(method) if is_used(uses, method) => Ok(method),
+        _ => Err(MethodError::UnknownMethod),
+    }
+}
+
+/// Whether a call of this name needs the mail: every one but Core/echo, also one that is refused.
+pub fn name_needs_mail(name: &str) -> bool
+    ensures { result ≡ needs_mail_by name.now }
+{
+    name != "Core/echo"
+}
