@@ -46,7 +46,7 @@ abbrev pub IsHeaderData : List ℕ → Part → HeaderAsked → Data → Type 0
 IsHeaderData b p asked d = (fields : List NameAndRaw) × HasHeader b p fields × IsHeaderPropertyData asked fields d
 
 -- The data of a property of a part of the message. The size is the number of octets that the part spells, once its transfer encoding is
--- undone; those of a multipart count as they stand.
+-- undone; those of a multipart count as they stand. Of a multipart subParts is what with_sub_parts puts, which takes the place of null.
 abbrev pub IsPropertyData : MessageData → Part → PartProperty → Data → Type 0
 IsPropertyData m p property.PartId d = d ≡ part_id (part_number p)
 IsPropertyData m p property.BlobId d = d ≡ part_blob_id m.id (part_number p)
@@ -76,7 +76,7 @@ pub record OwnMembers (m : MessageData) (asked : List PartProperty) (p : Part) :
 
 -- ---- objects
 
--- the object of a multipart has the objects of the parts in it, asked or not
+-- the object of a multipart has those of the parts in it, whether they are asked or not
 abbrev pub with_sub_parts : List Data → Members → Members
 with_sub_parts inner members = put (codes "subParts") (array (items_of inner)) members
 

@@ -135,7 +135,8 @@ fn put_values(
     most: u64,
 ) -> Result<(), AllocError>
     requires { AreAllWithin octets.now (parts_of leaves.now) }
-    ensures { OnOk result (InTurn (StepIf (has_value_in fetched.now) (spec.PutsValue most octets.now)) (parts_of leaves.now) (members_view values.old.entries) (members_view values.new.entries)) }
+    ensures { OnOk result (InTurn (StepIf (has_value_in fetched.now) (spec.PutsValue most octets.now)) (parts_of leaves.now)
+        (members_view values.old.entries) (members_view values.new.entries)) }
 {
     for part in leaves {
         put_value(values, alloc, octets, *part, fetched, most)?;

@@ -6,7 +6,6 @@ ghost use Rattle.mail_header.specs.Fields.{names_and_raws};
 ghost use Rattle.mime_tree.specs.Parts.{IsWithin};
 ghost use Rattle.json_texts.specs.Texts.{text_data};
 ghost use Rattle.message_blobs.specs.BlobIds.{leaf_text};
-ghost use Rattle.email_properties.specs.declared.part_property.PartProperty.TheVariants as property;
 ghost use Rattle.body_parts.specs.Messages.{message_data};
 ghost use Rattle.body_parts.specs.PartObjects as objects;
 ghost use Rattle.body_parts.specs.reading.OwnHeaders.{HasHeaderIf, is_of_header};

@@ -3,7 +3,6 @@ ghost use Rattle.std.specs.Prelude.{◌≡◌, ◌++◌, ◌∷◌, ℕ, List, I
 ghost use Rattle.serde_json.specs.View.{view};
 ghost use Rattle.mime_tree.specs.Parts.{IsWithin};
 ghost use Rattle.body_parts.specs.BodyProperties.{IsPreviewData};
-ghost use Rattle.body_parts.specs.Cuts as cuts;
 ghost use Rattle.body_parts.specs.Previews as previews;
 ghost use Rattle.body_parts.specs.reading.LeafLists.{parts_of, parts_at, AreAllWithin, IsFirstPlain, NoPlain};
 

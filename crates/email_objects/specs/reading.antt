@@ -1,3 +1,3 @@
--- What private clauses read: what the code knows of an Email, and the members that a row tells.
+-- What private clauses read: what the code knows of an Email, and the members that it tells.
 pub mod Views
-pub mod RowMembers
+pub mod ToldMembers

@@ -8,7 +8,7 @@ ghost use Rattle.email_properties.specs.Wanted.{email_asked};
 ghost use Rattle.body_parts.specs.Messages.{message_data};
 ghost use Rattle.email_objects.specs.EmailObjects.{IsEmailObject, IsParsedObject};
 ghost use Rattle.email_objects.specs.Facts.{row_blob_id};
-ghost use Rattle.email_objects.specs.reading.RowMembers.{TellsRow};
+ghost use Rattle.email_objects.specs.reading.ToldMembers.{TellsMessage, TellsRow};
 
 use crate::bodies::{put_body, put_row_body};
 use crate::facts::{message_facts, row_facts};
@@ -34,6 +34,20 @@ fn row_members(
     let facts = row_facts(alloc, row, blob_id, properties)?;
     let mut members = Map::new(alloc);
     put_property(&mut members, alloc, &facts, &EmailProperty::Id)?;
+    put_properties(&mut members, alloc, &facts, properties)?;
+    Ok(members)
+}
+
+/// The members of octets that are no Email for which their body isn't needed.
+fn message_members(
+    alloc: Global,
+    message: &Message<'_>,
+    properties: &[EmailProperty<'_>],
+) -> Result<Map<String, Value>, AllocError>
+    ensures { IfOk result (λ members. TellsMessage (message_data message.now) properties.now (members_view members.entries)) }
+{
+    let facts = message_facts(alloc, message, properties)?;
+    let mut members = Map::new(alloc);
     put_properties(&mut members, alloc, &facts, properties)?;
     Ok(members)
 }
@@ -67,10 +81,7 @@ pub fn parsed_value(
     ensures object { IfOk result (λ value. IsParsedObject (message_data message.now) (email_asked wanted.now) (view value)) }
     ensures whole { IfOk result (λ value. has_float (view value) ≡ false) }
 {
-    let properties = wanted.properties.as_slice();
-    let facts = message_facts(alloc, message, properties)?;
-    let mut members = Map::new(alloc);
-    put_properties(&mut members, alloc, &facts, properties)?;
+    let mut members = message_members(alloc, message, wanted.properties.as_slice())?;
     put_body(&mut members, alloc, message, wanted)?;
     Ok(Value::Object(members))
 }

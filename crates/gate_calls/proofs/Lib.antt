@@ -1,3 +1,3 @@
-mod Meaning
+pub mod Meaning
 pub mod Calling
 pub mod OneAnswer

@@ -140,8 +140,8 @@ module _ (law : ChangesLaw) (gets : IsOneGet) (parses : IsOneParse) where
       one_result uses o xs next.call next.asks more other.asks later next.result other.result room next.answers there same in (
         result.0,
         ap (λ (l : List CallData). l ++ answered_call next.call next.result ∷ []) before
-        ∙ ap (λ (c : CallData). ys ++ answered_call c next.result ∷ []) call
-        ∙ ap (λ (r : Result Data MethodError). ys ++ answered_call other.call r ∷ []) result.1,
+            ∙ ap (λ (c : CallData). ys ++ answered_call c next.result ∷ []) call
+            ∙ ap (λ (r : Result Data MethodError). ys ++ answered_call other.call r ∷ []) result.1,
       )
 
   -- whatever is asked after them

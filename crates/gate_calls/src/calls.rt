@@ -134,15 +134,7 @@ pub fn responses_to<W, B: BodySource<W>>(
 {
     let mut responses = Vec::with_capacity(alloc, calls.len())?;
     for call in calls {
-        let response = response_to(
-            alloc,
-            over,
-            bodies,
-            world,
-            uses,
-            responses.as_slice(),
-            call,
-        )?;
+        let response = response_to(alloc, over, bodies, world, uses, responses.as_slice(), call)?;
         responses.push(response)?;
     }
     Ok(responses)

@@ -99,7 +99,15 @@ pub fn reply<W, B: BodySource<W>>(
 {
     match &over.mail {
         Mail::Told(state) => {
-            reply_over(alloc, *state, over.uploads, bodies, world, method, arguments)
+            reply_over(
+                alloc,
+                *state,
+                over.uploads,
+                bodies,
+                world,
+                method,
+                arguments,
+            )
         }
         Mail::Untold(error) => reply_without(alloc, method, *error, arguments),
     }

@@ -128,6 +128,7 @@ pub fn begin<W: Link + Chance + Secrets>(
     requires { client.old.alive ≡ false }
     ensures run { Adds (W.tape world.old) (W.tape world.new) (λ es. (before : MachineState) → HoldsMachine before machine.old
         → BeginsTo user.now (W.hidden world.old).password before machine.new client.new result (W.faults world.old) (W.faults world.new) es) }
+    ensures ready { result ≡ Standing.Stands → IsSome machine.new.known }
     ensures alone { LinkAlone (W.faults world.old) (W.faults world.new) }
     ensures hidden { W.hidden world.new ≡ W.hidden world.old }
 {

@@ -1,236 +1,207 @@
 // What responses say.
-use crate::reading::{has_names, has_ranges, read};
-use imap_grammar::{Response, Status};
-use std::alloc::Global;
-use std::process::Abort;
+use crate::kinds::{is_whole, kind_of};
+use gate_world::{Bytes, Names};
+use imap_grammar::{FetchItems, Response};
+use std::alloc::{AllocError, Global};
+use told_dialogues::{first_number, first_response, first_uid, octets_of, put_octets};
 
-const TAGGED: [(&[u8], &[u8], Status); 3] = [
-    (b"a1 OK\r\n", b"a1", Status::Ok),
-    (b"Q nO [X] y\r\n", b"Q", Status::No),
-    (b"9 Bad\r\n", b"9", Status::Bad),
-];
+/// Adds texts with `|` before each.
+pub(crate) fn put_joined(out: &mut String, texts: &[Bytes]) -> Result<(), AllocError> {
+    for text in texts {
+        out.push('|')?;
+        put_octets(out, text.as_slice())?;
+    }
+    Ok(())
+}
 
-fn is_tagged(response: &Response, tag: &[u8], status: Status) -> bool {
+fn put_names(out: &mut String, names: &Names) -> Result<(), AllocError> {
+    if names.is_empty() {
+        return out.push_str("no names");
+    }
+    out.push_str("names ")?;
+    put_joined(out, names.as_slice())
+}
+
+/// Adds what a response says that isn't of a folder or a message.
+fn put_plain(out: &mut String, response: &Response) -> Result<(), AllocError> {
     match response {
-        Response::Tagged {
-            tag: told,
-            status: given,
-            ..
-        } => told.as_slice() == tag && *given == status,
-        _ => false,
+        Response::Tagged { tag, status, .. } => {
+            write!(out, "{status:?} ")?;
+            put_octets(out, tag.as_slice())
+        }
+        Response::Untagged { status, .. } => write!(out, "{status:?}"),
+        Response::Continue => out.push_str("continuation"),
+        Response::Exists(count) => write!(out, "{count} exist"),
+        Response::Expunge(number) => write!(out, "{number} is gone"),
+        Response::Vanished { earlier, uids } => write!(out, "{earlier} {:?}", uids.ranges),
+        Response::Other => out.push_str("other"),
+        _ => out.push_str("something else"),
     }
 }
 
-const UNTAGGED: [(&[u8], Status); 5] = [
-    (b"* ok x\r\n", Status::Ok),
-    (b"* NO\r\n", Status::No),
-    (b"* baD x\r\n", Status::Bad),
-    (b"* PREAUTH\r\n", Status::Preauth),
-    (b"* Bye\r\n", Status::Bye),
-];
+fn put_flags(out: &mut String, flags: &Option<Names>) -> Result<(), AllocError> {
+    match flags {
+        Some(flags) => put_names(out, flags),
+        None => out.push_str("no flags"),
+    }
+}
 
-fn is_untagged(response: &Response, status: Status) -> bool {
+/// Adds what a response says, of a message its number, UID and flags.
+fn put_response(out: &mut String, response: &Response) -> Result<(), AllocError> {
     match response {
-        Response::Untagged { status: given, .. } => *given == status,
-        _ => false,
+        Response::Capability(names) => put_names(out, names),
+        Response::Enabled(names) => put_names(out, names),
+        Response::Flags(names) => put_names(out, names),
+        Response::List {
+            attributes,
+            delimiter,
+            name,
+        } => {
+            put_octets(out, name.as_slice())?;
+            write!(out, " {delimiter:?} ")?;
+            put_names(out, attributes)
+        }
+        Response::StatusItems { name, items } => {
+            put_octets(out, name.as_slice())?;
+            write!(out, " {items:?}")
+        }
+        Response::Fetch { seq, items } => {
+            write!(out, "{seq} {:?} ", items.uid)?;
+            put_flags(out, &items.flags)
+        }
+        _ => put_plain(out, response),
     }
 }
 
-const OTHER: [&[u8]; 6] = [
-    b"* 3 RECENT\r\n",
-    b"* EXISTS\r\n",
-    b"* 3 OK x\r\n",
-    b"* X {4}\r\n* OK\r\n",
-    b"* 4294967296 FETCH (UID 1)\r\n",
-    b"* OKAY\r\n",
-];
-
-#[test]
-fn status_lines_are_told(rt: HostRuntime) {
-    let alloc = rt.alloc();
-    for (bytes, tag, status) in TAGGED.iter() {
-        assert!(rt;
-            is_tagged(&read(&rt, alloc, bytes), tag, *status),
-            "{bytes:?}"
-        );
-    }
-    for (bytes, status) in UNTAGGED.iter() {
-        assert!(rt; is_untagged(&read(&rt, alloc, bytes), *status), "{bytes:?}");
-    }
-    for bytes in OTHER.iter() {
-        assert!(rt;
-            matches!(&read(&rt, alloc, bytes), Response::Other),
-            "{bytes:?}"
-        );
-    }
-}
-
-/// A FETCH, and the number, the UID and the flags that it tells.
-const FETCH: [(&[u8], u32, Option<u32>, Option<&[u8]>); 4] = [
-    (
-        b"* 12 FETCH (FLAGS (\\Seen $Junk \\Recent \\ANSWERED $junk) UID 7)\r\n",
-        12,
-        Some(7),
-        Some(b"|$junk|\\answered|\\seen"),
-    ),
-    (
-        b"* 1 fetch (uid 1 flags (b) UID 4294967295 Flags (A \\recent))\r\n",
-        1,
-        Some(u32::MAX),
-        Some(b"|a"),
-    ),
-    (
-        b"* 4294967295 FETCH (FLAGS ())\r\n",
-        u32::MAX,
-        None,
-        Some(b""),
-    ),
-    (b"* 0 FETCH (UID 0000000042)\r\n", 0, Some(42), None),
-];
-
-fn is_fetch(response: &Response, seq: u32, uid: Option<u32>) -> bool {
+fn put_code(out: &mut String, response: &Response) -> Result<(), AllocError> {
     match response {
-        Response::Fetch { seq: told, items } => *told == seq && items.uid == uid,
-        _ => false,
+        Response::Tagged { code, .. } => write!(out, "{code:?}"),
+        Response::Untagged { code, .. } => write!(out, "{code:?}"),
+        _ => out.push_str("no status line"),
     }
 }
 
-fn expect_fetch(rt: &impl Abort, alloc: Global, row: &(&[u8], u32, Option<u32>, Option<&[u8]>)) {
-    let response = read(rt, alloc, row.0);
-    assert!(rt; is_fetch(&response, row.1, row.2), "{row:?}");
-    assert!(rt; has_names(rt, alloc, &response, row.3), "{row:?}");
-}
-
-/// A FETCH, and the mod-sequence and the size that it tells.
-const SIZES: [(&[u8], Option<u64>, Option<u64>); 4] = [
-    (b"* 1 FETCH (UID 1 MODSEQ (14))\r\n", Some(14), None),
-    (
-        b"* 1 FETCH (rfc822.Size 9223372036854775807 modseq (0))\r\n",
-        Some(0),
-        Some(9_223_372_036_854_775_807),
-    ),
-    (
-        b"* 2 FETCH (RFC822.SIZE 7 RFC822.SIZE 0000000000000000063)\r\n",
-        None,
-        Some(63),
-    ),
-    (b"* 2 FETCH (FLAGS ())\r\n", None, None),
-];
-
-fn has_sizes(response: &Response, modseq: Option<u64>, size: Option<u64>) -> bool {
+/// Adds whether the set that the response tells holds this UID, and which is the only one that it holds.
+fn put_held(out: &mut String, response: &Response, uid: u32) -> Result<(), AllocError> {
     match response {
-        Response::Fetch { items, .. } => items.modseq == modseq && items.size == size,
-        _ => false,
+        Response::Vanished { uids, .. } => write!(out, "{} {:?}", uids.contains(uid), uids.only()),
+        _ => out.push_str("no set"),
     }
 }
 
-/// A response, and the names that it tells.
-const NAMES: [(&[u8], Option<&[u8]>); 6] = [
-    (
-        b"* CAPABILITY IMAP4rev2 qresync IMAP4rev2\r\n",
-        Some(b"|IMAP4rev2|qresync|IMAP4rev2"),
-    ),
-    (b"* capability\r\n", Some(b"")),
-    (
-        b"* ENABLED QRESYNC X-{1}(\"\r\n",
-        Some(b"|QRESYNC|X-{1}(\""),
-    ),
-    (
-        b"* FLAGS (\\Seen $Junk \\Recent \\ANSWERED $junk)\r\n",
-        Some(b"|$junk|\\answered|\\seen"),
-    ),
-    (b"* flags ()\r\n", Some(b"")),
-    (b"* OK [PERMANENTFLAGS ()] x\r\n", None),
-];
-
-fn expect_names(rt: &impl Abort, alloc: Global, bytes: &[u8], wanted: Option<&[u8]>) {
-    let response = read(rt, alloc, bytes);
-    assert!(rt; has_names(rt, alloc, &response, wanted), "{bytes:?}");
-}
-
-#[test]
-fn messages_and_names_are_told(rt: HostRuntime) {
-    let alloc = rt.alloc();
-    for row in FETCH.iter() {
-        expect_fetch(&rt, alloc, row);
-    }
-    for (bytes, modseq, size) in SIZES.iter() {
-        assert!(rt;
-            has_sizes(&read(&rt, alloc, bytes), *modseq, *size),
-            "{bytes:?}"
-        );
-    }
-    for (bytes, wanted) in NAMES.iter() {
-        expect_names(&rt, alloc, bytes, *wanted);
+fn put_text(out: &mut String, text: &Option<Bytes>) -> Result<(), AllocError> {
+    match text {
+        Some(text) => {
+            out.push_str(" |")?;
+            put_octets(out, text.as_slice())
+        }
+        None => out.push_str(" none"),
     }
 }
 
-const VANISHED: [(&[u8], bool, &[(u32, u32)]); 4] = [
-    (b"* VANISHED 1\r\n", false, &[(1, 1)]),
-    (
-        b"* vanished (EARLIER) 41,43:116,118\r\n",
-        true,
-        &[(41, 41), (43, 116), (118, 118)],
-    ),
-    (
-        b"* VANISHED (earlier) 5:3,3:5,0000000004\r\n",
-        true,
-        &[(3, 5), (3, 5), (4, 4)],
-    ),
-    (b"* VANISHED 4294967295:1\r\n", false, &[(1, u32::MAX)]),
-];
+fn length_of(text: &Option<Bytes>) -> usize {
+    match text {
+        Some(text) => text.as_slice().len(),
+        None => 0,
+    }
+}
 
-fn is_vanished(response: &Response, wanted: bool, ranges: &[(u32, u32)]) -> bool {
+/// Adds what is told of a message, as the word asks.
+fn put_items(out: &mut String, word: &str, items: &FetchItems) -> Result<(), AllocError> {
+    match word {
+        "sizes" => write!(out, "{:?} {:?}", items.modseq, items.size),
+        "date" => write!(out, "{:?}", items.date),
+        "texts" => {
+            write!(out, "{:?}", items.uid)?;
+            put_text(out, &items.header)?;
+            put_text(out, &items.body)
+        }
+        _ => {
+            let (header, body) = (length_of(&items.header), length_of(&items.body));
+            write!(out, "{:?} {header} {body}", items.uid)
+        }
+    }
+}
+
+/// Adds what a response says, as the word asks.
+fn put_asked(out: &mut String, word: &str, response: &Response) -> Result<(), AllocError> {
     match response {
-        Response::Vanished { earlier, uids } => *earlier == wanted && has_ranges(uids, ranges),
-        _ => false,
+        _ if word == "says" => put_response(out, response),
+        _ if word == "code" => put_code(out, response),
+        Response::Fetch { items, .. } => put_items(out, word, items),
+        _ => out.push_str("no message"),
     }
 }
 
-/// A set, a UID, whether the set holds it, and the one UID that the set holds.
-const SETS: [(&[u8], u32, bool, Option<u32>); 7] = [
-    (b"* VANISHED 7\r\n", 7, true, Some(7)),
-    (b"* VANISHED 7\r\n", 6, false, Some(7)),
-    (b"* VANISHED 7:7,7\r\n", 7, true, Some(7)),
-    (b"* VANISHED 7:8\r\n", 8, true, None),
-    (b"* VANISHED 1:3,9\r\n", 4, false, None),
-    (b"* VANISHED 1:3,9\r\n", 9, true, None),
-    (b"* VANISHED 4294967295:1\r\n", u32::MAX, true, None),
-];
+/// Adds what the octets' response says, as the word asks.
+fn put_octets_asked(
+    alloc: Global,
+    word: &str,
+    octets: &[u8],
+    out: &mut String,
+) -> Result<(), AllocError> {
+    match first_response(alloc, octets)? {
+        Some((_, response)) => put_asked(out, word, &response)?,
+        None => out.push_str("not whole")?,
+    }
+    out.push('\n')
+}
 
-fn is_held(response: &Response, uid: u32, held: bool, only: Option<u32>) -> bool {
-    match response {
-        Response::Vanished { uids, .. } => uids.contains(uid) == held && uids.only() == only,
-        _ => false,
+/// Adds of which kind the octets' response is.
+fn put_kind(alloc: Global, octets: &[u8], out: &mut String) -> Result<(), AllocError> {
+    if !is_whole(octets) {
+        return out.push_str("not whole\n");
+    }
+    match first_response(alloc, octets)? {
+        Some((_, response)) => writeln!(out, "{}", kind_of(&response)),
+        None => Ok(()),
     }
 }
 
-#[test]
-fn vanished_messages_are_told(rt: HostRuntime) {
-    let alloc = rt.alloc();
-    for (bytes, earlier, ranges) in VANISHED.iter() {
-        assert!(rt;
-            is_vanished(&read(&rt, alloc, bytes), *earlier, ranges),
-            "{bytes:?}"
-        );
+/// Adds what a set holds.
+fn put_set(alloc: Global, text: &str, out: &mut String) -> Result<(), AllocError> {
+    let (uid, text) = first_uid(text);
+    let octets = line_of(alloc, text)?;
+    match first_response(alloc, &octets)? {
+        Some((_, response)) => put_held(out, &response, uid)?,
+        None => out.push_str("not whole")?,
     }
-    for (bytes, uid, held, only) in SETS.iter() {
-        assert!(rt;
-            is_held(&read(&rt, alloc, bytes), *uid, *held, *only),
-            "{bytes:?}"
-        );
+    out.push('\n')
+}
+
+/// A text with CR LF.
+fn line_of(alloc: Global, text: &str) -> Result<Vec<u8>, AllocError> {
+    let mut octets = octets_of(alloc, text)?;
+    octets.extend_from_slice(b"\r\n")?;
+    Ok(octets)
+}
+
+/// Adds what a line's response says, as the word asks.
+pub(crate) fn put_row(
+    alloc: Global,
+    word: &str,
+    text: &str,
+    out: &mut String,
+) -> Result<(), AllocError> {
+    match word {
+        "holds" => put_set(alloc, text, out),
+        "kind" => put_kind(alloc, &line_of(alloc, text)?, out),
+        _ => put_octets_asked(alloc, word, &line_of(alloc, text)?, out),
     }
 }
 
-#[test]
-fn counts_and_continuations_are_told(rt: HostRuntime) {
-    let alloc = rt.alloc();
-    assert!(rt; matches!(&read(&rt, alloc, b"+ go\r\n"), Response::Continue));
-    assert!(rt; matches!(&read(&rt, alloc, b"* 3 exists\r\n"), Response::Exists(3)));
-    assert!(rt;
-        matches!(
-            &read(&rt, alloc, b"* 4294967295 EXPUNGE\r\n"),
-            Response::Expunge(u32::MAX)
-        )
-    );
+/// A FETCH of an item with so many octets, and of UID 7.
+fn long_item(alloc: Global, name: &str, count: usize) -> Result<Vec<u8>, AllocError> {
+    let front = format!(in alloc; "* 1 FETCH ({name} {{{count}}}\r\n")?;
+    let mut octets = front.as_bytes().to_vec(alloc)?;
+    octets.resize(octets.len().saturating_add(count), b'a')?;
+    octets.extend_from_slice(b" UID 7)\r\n")?;
+    Ok(octets)
+}
+
+/// Adds the UID of a message with a long item, and how many octets of a header and of a body are told.
+pub(crate) fn put_long(alloc: Global, text: &str, out: &mut String) -> Result<(), AllocError> {
+    let (count, name) = first_number(text);
+    let octets = long_item(alloc, name, usize::try_from(count).unwrap_or(0))?;
+    put_octets_asked(alloc, "lengths", &octets, out)
 }

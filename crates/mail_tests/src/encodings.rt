@@ -1,104 +1,87 @@
-// Bodies in their transfer encodings.
-use header_words::{decode_charset, decode_transfer, transfer_len};
-use std::alloc::Global;
-use std::process::Abort;
+// Encoded words, charsets and transfer encodings.
+use crate::written::{put_octets, put_problem};
+use header_words::{decode_charset, decode_transfer, decode_words, encode_words, transfer_len};
+use std::alloc::{AllocError, Global};
 
-type Row = (&'static [u8], &'static [u8], &'static [u8], bool);
+/// The most octets of an encoded word (RFC 2047 section 2).
+const MAX_WORD_OCTETS: usize = 75;
 
-/// Charsets, octets, their text, and whether something in them isn't of the charset.
-const CHARSETS: [Row; 8] = [
-    (b"US-ASCII", b"a\xE9", b"a\xEF\xBF\xBD", true),
-    (b"us-ascii", b"ab", b"ab", false),
-    (b"koi8-r", b"a\xE9", b"a\xEF\xBF\xBD", true),
-    (b"koi8-r", b"a", b"a", true),
-    (b"UTF-8", b"\xC3\xA9", b"\xC3\xA9", false),
-    (b"utf-8", b"a\xC3b", b"a\xEF\xBF\xBDb", true),
-    (b"ISO-8859-1", b"a\xE9\x80", b"a\xC3\xA9\xC2\x80", false),
-    (b"", b"", b"", true),
-];
-
-/// Transfer encodings, bodies, their octets, and whether something in them isn't of the encoding.
-const BODIES: [Row; 22] = [
-    (b"7bit", b"a\xE9=", b"a\xE9=", false),
-    (b"8BIT", b"", b"", false),
-    (b"Binary", b"\x00", b"\x00", false),
-    (b"x-none", b"a", b"a", true),
-    (b"", b"a", b"a", true),
-    (
-        b"quoted-printable",
-        b"Caf=E9 =\nat ten\n",
-        b"Caf\xE9 at ten\n",
-        false,
-    ),
-    (b"Quoted-Printable", b"a=3d=3D", b"a==", false),
-    (b"quoted-printable", b"a= \t\r\nb", b"ab", false),
-    (b"quoted-printable", b"a \t\r\nb\t \n", b"a\r\nb\n", false),
-    (b"quoted-printable", b"a b \t", b"a b", false),
-    (b"quoted-printable", b"a=20\r\n", b"a \r\n", false),
-    (b"quoted-printable", b"a=", b"a=", true),
-    (b"quoted-printable", b"a=  ", b"a=", true),
-    (b"quoted-printable", b"a=G1=\rb", b"a=G1=\rb", true),
-    (b"quoted-printable", b"a=C", b"a=C", true),
-    (b"base64", b"R0lG\r\nODlh", b"GIF89a", false),
-    (b"BASE64", b"JVBERg==", b"%PDF", false),
-    (b"base64", b"JVBERg==JVBERg==", b"%PDF", false),
-    (b"base64", b"J!VB*ERg", b"%PDF", true),
-    (b"base64", b"JVBERh", b"%PDF", false),
-    (b"base64", b"JVBEA", b"%PD", false),
-    (b"base64", b"", b"", false),
-];
-
-/// Other names of UTF-8 and ISO-8859-1, and é in them.
-const READ: [(&[u8], &[u8]); 7] = [
-    (b"utf8", b"\xC3\xA9"),
-    (b"UTF8", b"\xC3\xA9"),
-    (b"latin1", b"\xE9"),
-    (b"L1", b"\xE9"),
-    (b"iso8859-1", b"\xE9"),
-    (b"ISO_8859-1", b"\xE9"),
-    (b"cp819", b"\xE9"),
-];
-
-/// Other names of US-ASCII, which has no é.
-const ASCII: [&[u8]; 4] = [b"ascii", b"us", b"ANSI_X3.4-1968", b"iso646-us"];
-
-fn expect_charset(rt: &impl Abort, alloc: Global, row: &Row) {
-    let (text, problem) = decode_charset(alloc, row.0, row.1).expect(rt, "memory");
-    assert_eq!(rt; text.as_slice(), row.2);
-    assert_eq!(rt; problem, row.3);
+/// Adds the value with its encoded words decoded.
+pub(crate) fn put_words(alloc: Global, value: &[u8], out: &mut String) -> Result<(), AllocError> {
+    put_octets(out, &decode_words(alloc, value)?)
 }
 
-fn expect_body(rt: &impl Abort, alloc: Global, row: &Row) {
-    let (octets, problem) = decode_transfer(alloc, row.0, row.1).expect(rt, "memory");
-    assert_eq!(rt; octets.as_slice(), row.2);
-    assert_eq!(rt; problem, row.3);
-    assert_eq!(rt; transfer_len(row.0, row.1), row.2.len());
-}
-
-#[test]
-fn charsets_and_bodies_are_decoded(rt: HostRuntime) {
-    let alloc = rt.alloc();
-    for row in CHARSETS.iter() {
-        expect_charset(&rt, alloc, row);
+/// Whether each line is one encoded word that isn't too long, after a space where it isn't the first.
+fn are_short(value: &[u8]) -> bool {
+    let Ok(text) = str::from_utf8(value) else {
+        return false;
+    };
+    for line in text.lines() {
+        let word = line.strip_prefix(' ').unwrap_or(line);
+        if word.len() > MAX_WORD_OCTETS {
+            return false;
+        }
     }
-    for row in BODIES.iter() {
-        expect_body(&rt, alloc, row);
+    true
+}
+
+/// Whether the words of the text are short, and read back as the text.
+fn is_read_back(alloc: Global, text: &str) -> Result<bool, AllocError> {
+    let value = encode_words(alloc, text)?;
+    let read = decode_words(alloc, &value)?;
+    Ok(are_short(&value) && read.as_slice() == text.as_bytes())
+}
+
+/// Adds how many fronts of the text have short words that read back, and each front that hasn't.
+fn put_read_back(alloc: Global, text: &str, out: &mut String) -> Result<(), AllocError> {
+    let mut front = String::new(alloc);
+    let mut count: u64 = 0;
+    for character in text.chars() {
+        front.push(character)?;
+        if is_read_back(alloc, &front)? {
+            count = count.saturating_add(1);
+        } else {
+            write!(out, "not {front}, ")?;
+        }
+    }
+    write!(out, "{count} fronts are read back")
+}
+
+/// Adds the text as encoded words, or how many fronts of it are read back.
+pub(crate) fn put_encoded(
+    alloc: Global,
+    word: &str,
+    text: &[u8],
+    out: &mut String,
+) -> Result<(), AllocError> {
+    match str::from_utf8(text) {
+        Err(_) => out.push_str("no text"),
+        Ok(text) if word == "encode" => put_octets(out, &encode_words(alloc, text)?),
+        Ok(text) => put_read_back(alloc, text, out),
     }
 }
 
-#[test]
-fn charsets_have_aliases(rt: HostRuntime) {
-    let alloc = rt.alloc();
-    for (name, octets) in READ.iter() {
-        expect_charset(&rt, alloc, &(*name, *octets, b"\xC3\xA9", false));
-        expect_charset(&rt, alloc, &(*name, b"a", b"a", false));
-    }
-    for name in ASCII.iter() {
-        expect_charset(
-            &rt,
-            alloc,
-            &(*name, b"\xC3\xA9", b"\xEF\xBF\xBD\xEF\xBF\xBD", true),
-        );
-        expect_charset(&rt, alloc, &(*name, b"a", b"a", false));
-    }
+/// Adds the text that the octets spell in a charset.
+pub(crate) fn put_charset(
+    alloc: Global,
+    name: &str,
+    octets: &[u8],
+    out: &mut String,
+) -> Result<(), AllocError> {
+    let (text, problem) = decode_charset(alloc, name.as_bytes(), octets)?;
+    put_octets(out, &text)?;
+    put_problem(out, problem)
+}
+
+/// Adds the octets that a body spells in a transfer encoding, and how many these are.
+pub(crate) fn put_transfer(
+    alloc: Global,
+    name: &str,
+    body: &[u8],
+    out: &mut String,
+) -> Result<(), AllocError> {
+    let (octets, problem) = decode_transfer(alloc, name.as_bytes(), body)?;
+    put_octets(out, &octets)?;
+    write!(out, "|{}", transfer_len(name.as_bytes(), body))?;
+    put_problem(out, problem)
 }

@@ -2,192 +2,210 @@
 use crate::showing::shown;
 use gate_world::{Bytes, Event};
 use imap_client::{Client, LinkEnd};
+use imap_grammar::Status;
 use scripted_world::{Script, ScriptWorld};
-use std::alloc::Global;
-use std::process::Abort;
+use std::alloc::{AllocError, Global};
+use std::mem;
+use told_dialogues::{command_of, put_octets};
 use told_mail::Mirror;
 
-/// The most octets that one read gives.
-pub(crate) const PIECES: [usize; 4] = [1, 2, 3, 100_000];
-
-/// What is played: the octets of the store, a text for each life, and which call of the outside fails (0: none).
-#[derive(Clone, Copy, Drop)]
-pub(crate) struct Lives<'a> {
-    pub links: &'a [&'a [u8]],
-    pub user: &'a [u8],
-    pub password: &'a [u8],
+/// How lives are played.
+#[derive(Drop)]
+pub(crate) struct Setting {
+    pub user: Vec<u8>,
+    pub password: Vec<u8>,
+    /// The most octets that one read gives.
     pub piece: usize,
+    /// Which call of the outside fails (0: none).
     pub failing: u64,
     /// The folder's number and the UID of a body that is fetched after each round; UID 0: none.
     pub body: (u64, u32),
+    /// What is asked in place of a round, where there is something.
+    pub exchanges: Vec<String>,
 }
 
-/// What came of it: the answers in order, the octets that the store took with `|` at each end of a life, and the mail.
-#[derive(Drop)]
+/// What came of lives.
+#[derive(PartialEq, Drop)]
 pub(crate) struct Played {
+    /// How each call ended, in order.
     pub answers: String,
-    pub took: Vec<u8>,
-    pub mail: Vec<u8>,
-}
-
-/// The play of these lives by alice in which nothing fails.
-pub(crate) fn plain<'a>(links: &'a [&'a [u8]]) -> Lives<'a> {
-    Lives {
-        links,
-        user: b"alice",
-        password: b"pw",
-        piece: 100_000,
-        failing: 0,
-        body: (1, 0),
-    }
-}
-
-/// The play of these lives by this user in which nothing fails.
-pub(crate) fn by_user<'a>(links: &'a [&'a [u8]], user: &'a [u8], password: &'a [u8]) -> Lives<'a> {
-    Lives {
-        links,
-        user,
-        password,
-        piece: 100_000,
-        failing: 0,
-        body: (1, 0),
-    }
-}
-
-/// The script of these lives without what the store gives.
-fn script_of(rt: &impl Abort, alloc: Global, lives: &Lives<'_>) -> Script {
-    Script::new(alloc)
-        .expect(rt, "memory")
-        .with_secrets(lives.password, b"")
-        .expect(rt, "memory")
-        .in_pieces(lives.piece)
-        .failing(lives.failing)
-        .expect(rt, "memory")
-}
-
-fn world_of(rt: &impl Abort, alloc: Global, lives: &Lives<'_>) -> ScriptWorld {
-    let mut script = script_of(rt, alloc, lives);
-    for link in lives.links {
-        script = script.with_link(link).expect(rt, "memory");
-    }
-    ScriptWorld::new(alloc, script)
-}
-
-fn put(rt: &impl Abort, answers: &mut String, text: &str) {
-    answers.push_str(text).expect(rt, "memory");
-}
-
-fn put_end(rt: &impl Abort, alloc: Global, answers: &mut String, done: Result<(), LinkEnd>) {
-    match done {
-        Ok(()) => put(rt, answers, "ok "),
-        Err(end) => {
-            let text = format!(in alloc; "{end:?} ").expect(rt, "memory");
-            put(rt, answers, &text);
-        }
-    }
-}
-
-fn put_body(rt: &impl Abort, alloc: Global, answers: &mut String, done: Result<Bytes, LinkEnd>) {
-    match done {
-        Ok(body) => {
-            let octets = body.as_slice().len();
-            let text = format!(in alloc; "{octets} octets ").expect(rt, "memory");
-            put(rt, answers, &text);
-        }
-        Err(end) => put_end(rt, alloc, answers, Err(end)),
-    }
-}
-
-fn put_taken(rt: &impl Abort, took: &mut Vec<u8>, event: &Event) {
-    match event {
-        Event::StoreTook(octets) => took
-            .extend_from_slice(octets.as_slice())
-            .expect(rt, "memory"),
-        Event::LinkEnded => took.push(b'|').expect(rt, "memory"),
-        _ => {}
-    }
-}
-
-/// What the store took, with `|` at each end of a life.
-pub(crate) fn taken(rt: &impl Abort, alloc: Global, world: &ScriptWorld) -> Vec<u8> {
-    let mut took = Vec::new(alloc);
-    for event in world.events().expect(rt, "a tape") {
-        put_taken(rt, &mut took, event);
-    }
-    took
-}
-
-/// Leaves the life that there is, and connects.
-fn connect(
-    rt: &impl Abort,
-    alloc: Global,
-    world: &mut ScriptWorld,
-    client: &mut Client,
-    user: &[u8],
-    answers: &mut String,
-) {
-    client.leave(world);
-    let connected = client.connect(world, user);
-    put_end(rt, alloc, answers, connected);
-}
-
-/// Fetches the body, where the client is alive.
-fn fetch(
-    rt: &impl Abort,
-    alloc: Global,
-    world: &mut ScriptWorld,
-    client: &mut Client,
-    mirror: &mut Mirror,
-    body: (u64, u32),
-    answers: &mut String,
-) {
-    if client.alive() {
-        let body = client.fetch_body(world, mirror, body.0, body.1);
-        put_body(rt, alloc, answers, body);
-    }
-}
-
-/// Does a round, where the client is alive, and fetches the body where one is asked.
-fn go_round(
-    rt: &impl Abort,
-    alloc: Global,
-    world: &mut ScriptWorld,
-    client: &mut Client,
-    mirror: &mut Mirror,
-    body: (u64, u32),
-    answers: &mut String,
-) {
-    if client.alive() {
-        let done = client.round(world, mirror);
-        put_end(rt, alloc, answers, done);
-        if body.1 != 0 {
-            fetch(rt, alloc, world, client, mirror, body, answers);
-        }
-    }
+    /// What the store took in the last life, a line for each line, with `|` at the end of the life.
+    pub took: String,
+    pub mail: String,
 }
 
 /// One life after another over one mirror.
-pub(crate) fn play(rt: &impl Abort, alloc: Global, lives: &Lives<'_>) -> Played {
-    let mut world = world_of(rt, alloc, lives);
-    let mut client = Client::new(alloc);
-    let mut mirror = Mirror::new(alloc);
-    let mut answers = String::new(alloc);
-    for _ in 0..lives.links.len() {
-        connect(rt, alloc, &mut world, &mut client, lives.user, &mut answers);
-        go_round(
-            rt,
-            alloc,
-            &mut world,
-            &mut client,
-            &mut mirror,
-            lives.body,
-            &mut answers,
-        );
+#[derive(Drop)]
+struct Course {
+    world: ScriptWorld,
+    client: Client,
+    mirror: Mirror,
+    answers: String,
+}
+
+impl Course {
+    fn new(alloc: Global, world: ScriptWorld) -> Course {
+        Course {
+            world,
+            client: Client::new(alloc),
+            mirror: Mirror::new(alloc),
+            answers: String::new(alloc),
+        }
     }
-    client.leave(&mut world);
-    Played {
-        answers,
-        took: taken(rt, alloc, &world),
-        mail: shown(rt, alloc, &mirror),
+
+    fn put_end(&mut self, done: Result<(), LinkEnd>) -> Result<(), AllocError> {
+        match done {
+            Ok(()) => self.answers.push_str("ok "),
+            Err(end) => write!(self.answers, "{end:?} "),
+        }
     }
+
+    /// Leaves the life that there is, and connects.
+    fn connect(&mut self, user: &[u8]) -> Result<(), AllocError> {
+        self.client.leave(&mut self.world);
+        let connected = self.client.connect(&mut self.world, user);
+        self.put_end(connected)
+    }
+
+    /// Does a round, where the client is alive.
+    fn round(&mut self) -> Result<(), AllocError> {
+        if !self.client.alive() {
+            return Ok(());
+        }
+        let done = self.client.round(&mut self.world, &mut self.mirror);
+        self.put_end(done)
+    }
+
+    /// Fetches a body, where the client is alive.
+    fn fetch(&mut self, folder: u64, uid: u32) -> Result<(), AllocError> {
+        if !self.client.alive() {
+            return Ok(());
+        }
+        let fetched = self
+            .client
+            .fetch_body(&mut self.world, &mut self.mirror, folder, uid);
+        match fetched {
+            Ok(body) => write!(self.answers, "{} octets ", body.as_slice().len()),
+            Err(end) => self.put_end(Err(end)),
+        }
+    }
+
+    /// Adds a status, the folder that is selected now, and whether the life has ended.
+    fn put_status(&mut self, status: Status) -> Result<(), AllocError> {
+        write!(self.answers, "{status:?} ")?;
+        put_octets(&mut self.answers, self.client.selected().unwrap_or(b"-"))?;
+        let ending = if self.client.alive() { " " } else { " ended " };
+        self.answers.push_str(ending)
+    }
+
+    /// Sends the command that is asked, where the client is alive.
+    fn exchange(&mut self, alloc: Global, asked: &str) -> Result<(), AllocError> {
+        let Some(command) = command_of(alloc, asked)? else {
+            return self.answers.push_str("nothing ");
+        };
+        if !self.client.alive() {
+            return Ok(());
+        }
+        match self.client.exchange(&mut self.world, command) {
+            Ok(exchange) => self.put_status(exchange.status),
+            Err(end) => self.put_end(Err(end)),
+        }
+    }
+
+    /// Sends one command after another.
+    fn exchanges(&mut self, alloc: Global, asked: &[String]) -> Result<(), AllocError> {
+        for asked in asked {
+            self.exchange(alloc, asked)?;
+        }
+        Ok(())
+    }
+
+    /// One life.
+    fn live(&mut self, alloc: Global, setting: &Setting) -> Result<(), AllocError> {
+        self.connect(&setting.user)?;
+        if !setting.exchanges.is_empty() {
+            return self.exchanges(alloc, &setting.exchanges);
+        }
+        self.round()?;
+        let (folder, uid) = setting.body;
+        if uid == 0 {
+            return Ok(());
+        }
+        self.fetch(folder, uid)
+    }
+
+    /// One life after another, the last of which is left.
+    fn lives(&mut self, alloc: Global, setting: &Setting, count: usize) -> Result<(), AllocError> {
+        for _ in 0..count {
+            self.live(alloc, setting)?;
+        }
+        self.client.leave(&mut self.world);
+        Ok(())
+    }
+
+    /// What came of the lives.
+    fn played(&mut self, alloc: Global) -> Result<Played, AllocError> {
+        let took = taken(alloc, &self.world)?;
+        let mail = shown(alloc, &self.mirror)?;
+        let answers = mem::replace(&mut self.answers, String::new(alloc));
+        Ok(Played {
+            answers,
+            took,
+            mail,
+        })
+    }
+}
+
+/// The script of these lives, without what the store gives.
+fn script_of(alloc: Global, setting: &Setting) -> Result<Script, AllocError> {
+    let mut script = Script::new(alloc)?;
+    script.password = Bytes::copy_of(alloc, &setting.password)?;
+    script.piece = setting.piece;
+    script.failing(setting.failing)
+}
+
+fn world_of(
+    alloc: Global,
+    setting: &Setting,
+    links: &[Vec<u8>],
+) -> Result<ScriptWorld, AllocError> {
+    let mut script = script_of(alloc, setting)?;
+    for link in links {
+        script = script.with_link(link)?;
+    }
+    Ok(ScriptWorld::new(alloc, script))
+}
+
+/// Adds what the store took; from a dial on it is that of another life.
+fn put_taken(took: &mut String, event: &Event) -> Result<(), AllocError> {
+    match event {
+        Event::Dialed => {
+            took.clear();
+            Ok(())
+        }
+        Event::StoreTook(octets) => put_octets(took, octets.as_slice()),
+        Event::LinkEnded => took.push('|'),
+        _ => Ok(()),
+    }
+}
+
+/// What the store took in the last life.
+fn taken(alloc: Global, world: &ScriptWorld) -> Result<String, AllocError> {
+    let mut took = String::new(alloc);
+    for event in world.events().unwrap_or(&[]) {
+        put_taken(&mut took, event)?;
+    }
+    took.replace(alloc, "%0D%0A", "\n")
+}
+
+/// Plays a life for each of these texts of the store.
+pub(crate) fn play(
+    alloc: Global,
+    setting: &Setting,
+    links: &[Vec<u8>],
+) -> Result<Played, AllocError> {
+    let world = world_of(alloc, setting, links)?;
+    let mut course = Course::new(alloc, world);
+    course.lives(alloc, setting, links.len())?;
+    course.played(alloc)
 }
