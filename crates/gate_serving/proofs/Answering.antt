@@ -1,8 +1,7 @@
 -- One client is answered, part by part.
-use Rattle.std.proofs.Common.{arith, ◌≡◌, ◌≢◌, ◌⊎◌, ◌++◌, ◌∷◌, ◌≤◌, ◌+◌, ℕ, Bool, true, false, List, [], Option, Some, None, MatchOption, Bor, Result, Ok, Err}
+use Rattle.std.proofs.Common.{arith, ◌≡◌, ◌≢◌, ◌⊎◌, ◌++◌, ◌∷◌, ◌≤◌, ◌+◌, ℕ, Bool, true, false, List, [], Option, Some, None, Result, Ok, Err}
 use Rattle.std.proofs.Common.{refl, sym, ◌∙◌, ap, subst, inl, inr}
 use Rattle.std.specs.Prelude.{IfOk, OnErr, OnOk}
-use Rattle.std.specs.Option.{option_copied}
 use Rattle.std.specs.declared.alloc.AllocError.{AllocError}
 use Rattle.std.proofs.lemmas.List.{append-nil}
 use Rattle.gate_world.specs.Causes.{Faults, Hidden, RoseBy, Rose, FrontAlone, NoFault, Later, no_faults}
@@ -210,8 +209,8 @@ answers_on {machine} {client} {how} {was} {then} {now} {xs} {ys} gate before sec
     let begun : BeginsTo before.user secrets.password s.machine machine client how was then xs =
     subst (λ (u : List ℕ). BeginsTo u secrets.password s.machine machine client how was then xs) user_is begins in
     answers_over gate before secrets asking result s begun
-        (subst (λ (x : Hidden). Finishes before.door (account_by before x) before.uploads asking begun.after gate.machine was now result ys) h_is
-        (finishes begun.after begun.came)) holds needs same
+    (subst (λ (x : Hidden). Finishes before.door (account_by before x) before.uploads asking begun.after gate.machine was now result ys) h_is
+    (finishes begun.after begun.came)) holds needs same
 
 -- the same where the answer is known to be none
 pub finishes_lacking : {door : Door} {account : Account} {uploads : List (List ℕ)} {asking : Asking} {machine : Machine} {client : ClientState} {how : Standing}
@@ -243,51 +242,51 @@ module _ {door : Door} {account : Account} {uploads : List (List ℕ)} {asking :
       → Finishes door account uploads asking p kept was now (Ok r) es)
   finished_ok {asks} r these made taken =
       join _ these.run hang (λ es fs run hangs p was came.
-          let l = lent p was m.faults came in
-          let q = run p was l.3 in
-          let stays = bodies_stay l.0 l.1 q.1 in
-          let held : HoldsMachine q.0.machine kept =
-          taken q.0 stays.known was n.faults stays.ready
-          (record {
-            state = subst (λ (h : MailHistory). IsStateOf h served.state) (sym stays.history) l.2.state;
-            served_is = l.2.served_is ∙ ap (λ (h : MailHistory). h.mail) (sym stays.history);
-          }) q.2 in
-          record {
-            asks = asks;
-            answered = q.0;
-            fetching = es;
-            ending = fs;
-            calls_ask = AllAsked q.1;
-            hangs_up = subst (λ (b : Bool). HangsUp b fs) (up_is q.0.left n.source.client q.2.in_life) hangs;
-            whole = refl;
-            held = held;
-            bears = stays_borne q.0.blamed was n.faults now q.2.bears same;
-            made = (
-              subst (λ (x : Mailing). IsResponse door account (record { mail = x; uploads = uploads }) asking asks (text_sent r))
-                  (sym (holds_stands p l.0 came.standing_is l.1)) (made (record { mail = Ok l.0.history; uploads = uploads }) (is_over l.0 l.2.state)),
-              not_lacking p q.0 stays.standing came.standing_is,
-            );
-          })
+      let l = lent p was m.faults came in
+      let q = run p was l.3 in
+      let stays = bodies_stay l.0 l.1 q.1 in
+      let held : HoldsMachine q.0.machine kept =
+      taken q.0 stays.known was n.faults stays.ready
+      (record {
+        state = subst (λ (h : MailHistory). IsStateOf h served.state) (sym stays.history) l.2.state;
+        served_is = l.2.served_is ∙ ap (λ (h : MailHistory). h.mail) (sym stays.history);
+      }) q.2 in
+      record {
+        asks = asks;
+        answered = q.0;
+        fetching = es;
+        ending = fs;
+        calls_ask = AllAsked q.1;
+        hangs_up = subst (λ (b : Bool). HangsUp b fs) (up_is q.0.left n.source.client q.2.in_life) hangs;
+        whole = refl;
+        held = held;
+        bears = stays_borne q.0.blamed was n.faults now q.2.bears same;
+        made = (
+          subst (λ (x : Mailing). IsResponse door account (record { mail = x; uploads = uploads }) asking asks (text_sent r))
+              (sym (holds_stands p l.0 came.standing_is l.1)) (made (record { mail = Ok l.0.history; uploads = uploads }) (is_over l.0 l.2.state)),
+          not_lacking p q.0 stays.standing came.standing_is,
+        );
+      })
 
   pub finished_err : {asks : List BodyAsk} (e : AllocError) → AsksShort asks m n → kept.known ≡ None
       → Adds m.tape tape (λ es. (p : Progress) (was : Faults) → CameTo machine client Stands was m.faults p
       → Finishes door account uploads asking p kept was now (Err e) es)
   finished_err {asks} e short none =
       join _ short.run hang (λ es fs run hangs p was came.
-          let l = lent p was m.faults came in
-          let q = run p was l.3 in
-          record {
-            asks = asks;
-            answered = q.0;
-            fetching = es;
-            ending = fs;
-            calls_ask = q.1;
-            hangs_up = subst (λ (b : Bool). HangsUp b fs) (up_is q.0.left n.source.client q.2.in_life) hangs;
-            whole = refl;
-            held = holds_none (forgotten q.0.machine) kept none;
-            bears = stays_borne q.0.blamed was n.faults now q.2.bears same;
-            made = tt;
-          })
+      let l = lent p was m.faults came in
+      let q = run p was l.3 in
+      record {
+        asks = asks;
+        answered = q.0;
+        fetching = es;
+        ending = fs;
+        calls_ask = q.1;
+        hangs_up = subst (λ (b : Bool). HangsUp b fs) (up_is q.0.left n.source.client q.2.in_life) hangs;
+        whole = refl;
+        held = holds_none (forgotten q.0.machine) kept none;
+        bears = stays_borne q.0.blamed was n.faults now q.2.bears same;
+        made = tt;
+      })
 
   -- the response, or that there was no memory for it
   pub finished : {S : Type 0} (moment : S → Moment) (a b : S) (result made : Result Response AllocError) (taken : Machine) (answered_by : Hidden → Account) (secrets : Hidden)
@@ -339,7 +338,7 @@ none_changed (OneMore ask asks answers) = answers.1 ∙ none_changed asks
 pub nothing_changed : {S X : Type 0} (Means : X → List BodyAsk → Type 0) (before after : S) (result : Result X AllocError)
     → AsksAndMakes NoAnswer NoLack before after result Means → after ≡ before
 nothing_changed Means before after (Ok x) makes = none_changed makes.asked
-nothing_changed Means before after (Err e) makes = elim makes.ends [ | inl none ↦ none ∙ none_changed makes.asked | inr one ↦ one.1 ∙ none_changed makes.asked ]
+nothing_changed Means before after (Err e) makes = elim makes.ends [ inl none ↦ none ∙ none_changed makes.asked | inr one ↦ one.1 ∙ none_changed makes.asked ]
 
 no_asks : (account : Account) (e : MethodError) (uploads : List (List ℕ)) (asking : Asking) (asks : List BodyAsk) (answer : Answer) → asks_for_mail asking ≡ true
     → IsAnswer account (record { mail = Err e; uploads = uploads }) asking asks answer → asks ≡ []
@@ -394,16 +393,16 @@ finished_untold {door} {account} {uploads} {asking} {client = client} {how = how
     }
 
 -- the response that was made, whoever's account it was called
-pub made_untold : {S : Type 0} {A : S → MessagePlace → Option (List ℕ) → S → Type 0} {L : S → MessagePlace → S → Type 0} {before after : S} {door : Door} {asking : Asking}
+pub made_untold : {S : Type 0} (A : S → MessagePlace → Option (List ℕ) → S → Type 0) (L : S → MessagePlace → S → Type 0) (before after : S) {door : Door} {asking : Asking}
     {over : Over} (made result : Result Response AllocError) (answered_by : Hidden → Account) (secrets : Hidden) → result ≡ made
     → AsksAndMakes A L before after made (λ r asks. (h : Hidden) (o : MailAndUploads) → AreOf o over → IsResponse door (answered_by h) o asking asks (text_sent r))
     → (r : Response) → result ≡ Ok r
     → (asks : List BodyAsk) × ((o : MailAndUploads) → AreOf o over → IsResponse door (answered_by secrets) o asking asks (text_sent r))
-made_untold {door = door} {asking = asking} (Ok r') result answered_by secrets is makes r r_is =
+made_untold A L before after {door = door} {asking = asking} (Ok r') result answered_by secrets is makes r r_is =
     let both : Ok r' ≡ Ok r = sym is ∙ r_is in
     let same : r' ≡ r = cc in
     (makes.asks, (λ o of. subst (λ (x : Response). IsResponse door (answered_by secrets) o asking makes.asks (text_sent x)) same (makes.meant secrets o of)))
-made_untold (Err e) result answered_by secrets is makes r r_is = absurd (let both : Err e ≡ Ok r = sym is ∙ r_is in cc)
+made_untold A L before after (Err e) result answered_by secrets is makes r r_is = absurd (let both : Err e ≡ Ok r = sym is ∙ r_is in cc)
 
 -- the machine that is left holds what it held, or isn't ready
 pub kept_left : {m : MachineState} (taken kept : Machine) (result : Result Response AllocError) → HoldsMachine m taken → OnOk result (kept ≡ taken)
@@ -688,3 +687,7 @@ on_err f x y (Err e) is = ap f is
 pub whichever : {T E P : Type 0} (result : Result T E) → OnOk result P → OnErr result P → P
 whichever (Ok t) so other = so
 whichever (Err e) other so = so
+
+-- the outside's events are the same from another name of the same moment
+pub adds_at : {a b c : Option (List Event)} (R : List Event → Type 0) → c ≡ b → Adds a b R → Adds a c R
+adds_at {a} R is adds = subst (λ (t : Option (List Event)). Adds a t R) (sym is) adds

@@ -1,19 +1,16 @@
 -- Responses that are made over mail, and the bodies that are asked for them.
-use Rattle.std.proofs.Common.{◌≡◌, ◌⊎◌, ℕ, List, [], map, Option, Some, None, Result, Ok, Err, refl, sym, ◌∙◌, ap, subst, inl, inr}
+use Rattle.std.proofs.Common.{◌≡◌, ◌⊎◌, ℕ, List, [], Option, Result, Ok, Err, refl, sym, ◌∙◌, ap, subst, inl, inr}
 use Rattle.std.specs.Prelude.{IfOk}
 use Rattle.std.specs.declared.alloc.AllocError.{AllocError}
 use Rattle.serde_json.specs.Written.{compact_text}
 use Rattle.gate_world.specs.Causes.{Hidden}
 use Rattle.email_bodies.specs.Asking.{BodyAsk, NoneAsked, AsksInVain}
-use Rattle.email_bodies.specs.declared.error.BodyError.{BodyError}
 use Rattle.email_bodies.specs.declared.error.BodyError.TheVariants as body
 use Rattle.email_bodies.specs.declared.source.MessagePlace.{MessagePlace}
 use Rattle.email_get.specs.Asked.{AsksAnd}
 use Rattle.email_get.specs.Blobs.{OctetsFound}
 use Rattle.jmap_core.specs.Request.{CallData, RequestData}
 use Rattle.jmap_methods.specs.declared.method_error.MethodError.{MethodError}
-use Rattle.jmap_methods.specs.declared.using.Using.{Using}
-use Rattle.gate_calls.specs.declared.mail.Mail.{Mail}
 use Rattle.gate_calls.specs.declared.mail.Mail.TheVariants as code
 use Rattle.gate_calls.specs.declared.mail.Over.{Over}
 use Rattle.gate_calls.specs.Asking.{AsksAndMakes}

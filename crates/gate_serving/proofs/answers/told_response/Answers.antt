@@ -1,4 +1,4 @@
-use Rattle.std.proofs.Common.{Ok, Err, subst}
+use Rattle.std.proofs.Common.{Ok, Err}
 use Rattle.std.specs.Option.{option_copied}
 use Rattle.email_bodies.specs.declared.error.BodyError.TheVariants as body
 use Rattle.email_get.specs.Blobs.{FindsBlob}

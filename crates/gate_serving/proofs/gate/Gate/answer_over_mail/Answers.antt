@@ -1,4 +1,4 @@
-use Rattle.std.proofs.Common.{◌≡◌, ◌∙◌, ℕ, List, refl}
+use Rattle.std.proofs.Common.{◌∙◌, refl}
 use Rattle.gate_world.proofs.Joins.{join}
 use Rattle.gate_serving.specs.declared.gate.Gate.{Gate}
 use Rattle.gate_serving.specs.reading.Askings.{asking_data}

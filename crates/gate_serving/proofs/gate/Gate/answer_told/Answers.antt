@@ -14,7 +14,7 @@ use Rattle.gate_serving.proofs.gate.Gate.answer_told.Given as given
 use Rattle.gate_serving.proofs.gate.Gate.answer_told.Goals as goal
 
 -- the source and the outside, as bodies are asked
-moment : (g : given.Over) → SourceState × g.row.W.Denot → Moment
+abbrev moment : (g : given.Over) → SourceState × g.row.W.Denot → Moment
 moment g s =
     record { source = s.0; tape = g.W.Taped.tape s.1; faults = g.W.Taped.faults s.1; hidden = g.W.Taped.hidden s.1 }
 

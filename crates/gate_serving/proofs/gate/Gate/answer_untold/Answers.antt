@@ -1,12 +1,10 @@
-use Rattle.std.proofs.Common.{◌≡◌, ◌∙◌, List, Option, refl, sym, ap, subst}
+use Rattle.std.proofs.Common.{◌≡◌, ◌∙◌, refl, sym, ap, subst}
 use Rattle.gate_world.specs.Causes.{Faults, Hidden, LinkAlone}
-use Rattle.gate_world.specs.Tape.{Adds}
-use Rattle.gate_world.specs.declared.event.Event.{Event}
 use Rattle.gate_world.proofs.Joins.{widen}
 use Rattle.gate_machine.proofs.Asking.{alone_none}
 use Rattle.gate_serving.specs.Gates.{account_by}
 use Rattle.gate_serving.specs.declared.gate.Gate.{Gate}
-use Rattle.gate_serving.proofs.Answering.{finished_untold, kept_left, made_untold, nothing_changed, on_err, on_ok}
+use Rattle.gate_serving.proofs.Answering.{adds_at, finished_untold, kept_left, made_untold, nothing_changed, on_err, on_ok}
 use Rattle.gate_serving.proofs.gate.Gate.answer_untold.Given as given
 use Rattle.gate_serving.proofs.gate.Gate.answer_untold.Goals as goal
 
@@ -17,11 +15,11 @@ world_same g c = ap (λ p. p.1) (nothing_changed _ _ _ c.response_over-made.resu
 pub returns-clause-run : goal.returns-clause-run
 returns-clause-run g c =
     let same = world_same g c in
-    subst (λ (t : Option (List Event)). Adds (g.W.Taped.tape c.args.world.now) t _) (ap (λ (w : g.row.W.Denot). g.W.Taped.tape w) (sym same))
+    adds_at _ (ap (λ (w : g.row.W.Denot). g.W.Taped.tape w) same)
     (widen _ c.leave.ensures.tape (λ es hangs p was how came is.
     finished_untold c.args.error c.unless_lacking.result c.requires.needs came is hangs
     (ap (λ (w : g.row.W.Denot). g.W.Taped.faults w) same ∙ c.leave.ensures.cause)
-    (made_untold c.response_over-made.result c.unless_lacking.result (λ (h : Hidden). account_by c.args.self.now h) (g.W.Taped.hidden c.args.world.now)
+    (made_untold _ _ _ _ c.response_over-made.result c.unless_lacking.result (λ (h : Hidden). account_by c.args.self.now h) (g.W.Taped.hidden c.args.world.now)
     c.unless_lacking.ensures.made c.response_over-made.ensures)
     (record { mail = refl; uploads = refl })
     (kept_left c.args.self.now.machine c.unless_lacking.new.self.machine c.unless_lacking.result came.held

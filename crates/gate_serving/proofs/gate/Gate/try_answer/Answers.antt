@@ -1,16 +1,15 @@
-use Rattle.std.proofs.Common.{List, [], Option, ap, sym, subst}
+use Rattle.std.proofs.Common.{[], ap, sym, subst}
 use Rattle.gate_world.specs.Causes.{Faults}
-use Rattle.gate_world.specs.Tape.{Adds}
-use Rattle.gate_world.specs.declared.event.Event.{Event}
 use Rattle.gate_world.proofs.Joins.{none}
 use Rattle.gate_serving.specs.Gates.{account_by}
 use Rattle.gate_serving.specs.reading.Askings.{asking_data}
 use Rattle.gate_serving.specs.reading.Replying.{AnswersTo}
+use Rattle.gate_serving.proofs.Answering.{adds_at}
 use Rattle.gate_serving.proofs.gate.Gate.try_answer.Goals as goal
 
 pub returns-else-needs_mail-clause-run : goal.returns-else-needs_mail-clause-run
 returns-else-needs_mail-clause-run g c =
-    subst (λ (t : Option (List Event)). Adds (g.W.Taped.tape c.args.world.now) t _) (ap (λ (w : g.row.W.Denot). g.W.Taped.tape w) (sym c.answer_at_once.ensures.world))
+    adds_at _ (ap (λ (w : g.row.W.Denot). g.W.Taped.tape w) c.answer_at_once.ensures.world)
     (none _ _ (λ s held. let r = c.answer_at_once.ensures.run s held in (
       r.0,
       r.1,
