@@ -1,8 +1,7 @@
 -- One client is answered, part by part.
-use Rattle.std.proofs.Common.{arith, ◌≡◌, ◌≢◌, ◌⊎◌, ◌++◌, ◌∷◌, ◌≤◌, ◌+◌, ℕ, Bool, true, false, List, [], Option, Some, None, MatchOption, Bor, Result, Ok, Err}
+use Rattle.std.proofs.Common.{arith, ◌≡◌, ◌≢◌, ◌⊎◌, ◌++◌, ◌∷◌, ◌≤◌, ◌+◌, ℕ, Bool, true, false, List, [], Option, Some, None, Result, Ok, Err}
 use Rattle.std.proofs.Common.{refl, sym, ◌∙◌, ap, subst, inl, inr}
-use Rattle.std.specs.Prelude.{IfOk, OnErr}
-use Rattle.std.specs.Option.{option_copied}
+use Rattle.std.specs.Prelude.{IfOk, OnErr, OnOk}
 use Rattle.std.specs.declared.alloc.AllocError.{AllocError}
 use Rattle.std.proofs.lemmas.List.{append-nil}
 use Rattle.gate_world.specs.Causes.{Faults, Hidden, RoseBy, Rose, FrontAlone, NoFault, Later, no_faults}
@@ -28,7 +27,7 @@ use Rattle.gate_machine.specs.Fetching.{AllAsked, NoBodies}
 use Rattle.gate_machine.specs.History.{KnownMail}
 use Rattle.gate_machine.specs.Kept.{ServedMail}
 use Rattle.gate_machine.specs.Lending.{GoesOn, HoldsSource, IsLentOf, Moment}
-use Rattle.gate_machine.specs.Holding.{HoldsMachine}
+use Rattle.gate_machine.specs.Holding.{HoldsMachine, unready}
 use Rattle.gate_machine.specs.Machine.{MachineState, forgotten}
 use Rattle.gate_machine.specs.declared.machine.Machine.{Machine}
 use Rattle.gate_machine.specs.declared.standing.Standing.{Standing}
@@ -200,6 +199,27 @@ finishes_nothing {client = client} {p = p} {was = was} {then = then} {now = now}
       made = tt;
     }
 
+-- the way to the mail, and then what finishes the answer, whoever's the user's text and the secrets were called
+pub answers_on : {machine : Machine} {client : ClientState} {how : Standing} {was then now : Faults} {xs ys : List Event} {user : List ℕ} {h : Hidden} (gate before : Gate)
+    (secrets : Hidden) (asking : Asking) (result : Result Response AllocError) (s : GateState) → user ≡ before.user → h ≡ secrets → asks_for_mail asking ≡ true
+    → gate.uploads ≡ before.uploads → BeginsTo user secrets.password s.machine machine client how was then xs
+    → ((p : Progress) → CameTo machine client how was then p → Finishes before.door (account_by before h) before.uploads asking p gate.machine was now result ys)
+    → GateHolds s before → (t : GateState) × GateHolds t gate × AnswersTo before.door (account_by before secrets) asking s t was now result (xs ++ ys)
+answers_on {machine} {client} {how} {was} {then} {now} {xs} {ys} gate before secrets asking result s user_is h_is needs same begins finishes holds =
+    let begun : BeginsTo before.user secrets.password s.machine machine client how was then xs =
+    subst (λ (u : List ℕ). BeginsTo u secrets.password s.machine machine client how was then xs) user_is begins in
+    answers_over gate before secrets asking result s begun
+    (subst (λ (x : Hidden). Finishes before.door (account_by before x) before.uploads asking begun.after gate.machine was now result ys) h_is
+    (finishes begun.after begun.came)) holds needs same
+
+-- the same where the answer is known to be none
+pub finishes_lacking : {door : Door} {account : Account} {uploads : List (List ℕ)} {asking : Asking} {machine : Machine} {client : ClientState} {how : Standing}
+    {p : Progress} {was then now : Faults} {ys : List Event} {e : AllocError} (kept : Machine) (result : Result Response AllocError) → result ≡ Err e
+    → CameTo machine client how was then p → OnErr result (kept.known ≡ None) → HangsUp client.alive ys → NoFault then now
+    → Finishes door account uploads asking p kept was now result ys
+finishes_lacking kept (Ok r) is came none hangs same = absurd (let never : Ok r ≡ Err _ = is in cc)
+finishes_lacking kept (Err f) is came none hangs same = finishes_nothing kept f came none hangs same
+
 -- ---- over the mail that was told
 
 holds_stands : (p : Progress) (k : KnownMail) → p.standing ≡ Stands → p.machine.known ≡ Some k → mailing_by p.standing p.machine.known ≡ Ok k.history
@@ -222,54 +242,77 @@ module _ {door : Door} {account : Account} {uploads : List (List ℕ)} {asking :
       → Finishes door account uploads asking p kept was now (Ok r) es)
   finished_ok {asks} r these made taken =
       join _ these.run hang (λ es fs run hangs p was came.
-          let l = lent p was m.faults came in
-          let q = run p was l.3 in
-          let stays = bodies_stay l.0 l.1 q.1 in
-          let held : HoldsMachine q.0.machine kept =
-          taken q.0 stays.known was n.faults stays.ready
-          (record {
-            state = subst (λ (h : MailHistory). IsStateOf h served.state) (sym stays.history) l.2.state;
-            served_is = l.2.served_is ∙ ap (λ (h : MailHistory). h.mail) (sym stays.history);
-          }) q.2 in
-          record {
-            asks = asks;
-            answered = q.0;
-            fetching = es;
-            ending = fs;
-            calls_ask = AllAsked q.1;
-            hangs_up = subst (λ (b : Bool). HangsUp b fs) (up_is q.0.left n.source.client q.2.in_life) hangs;
-            whole = refl;
-            held = held;
-            bears = stays_borne q.0.blamed was n.faults now q.2.bears same;
-            made = (
-              subst (λ (x : Mailing). IsResponse door account (record { mail = x; uploads = uploads }) asking asks (text_sent r))
-                  (sym (holds_stands p l.0 came.standing_is l.1)) (made (record { mail = Ok l.0.history; uploads = uploads }) (is_over l.0 l.2.state)),
-              not_lacking p q.0 stays.standing came.standing_is,
-            );
-          })
+      let l = lent p was m.faults came in
+      let q = run p was l.3 in
+      let stays = bodies_stay l.0 l.1 q.1 in
+      let held : HoldsMachine q.0.machine kept =
+      taken q.0 stays.known was n.faults stays.ready
+      (record {
+        state = subst (λ (h : MailHistory). IsStateOf h served.state) (sym stays.history) l.2.state;
+        served_is = l.2.served_is ∙ ap (λ (h : MailHistory). h.mail) (sym stays.history);
+      }) q.2 in
+      record {
+        asks = asks;
+        answered = q.0;
+        fetching = es;
+        ending = fs;
+        calls_ask = AllAsked q.1;
+        hangs_up = subst (λ (b : Bool). HangsUp b fs) (up_is q.0.left n.source.client q.2.in_life) hangs;
+        whole = refl;
+        held = held;
+        bears = stays_borne q.0.blamed was n.faults now q.2.bears same;
+        made = (
+          subst (λ (x : Mailing). IsResponse door account (record { mail = x; uploads = uploads }) asking asks (text_sent r))
+              (sym (holds_stands p l.0 came.standing_is l.1)) (made (record { mail = Ok l.0.history; uploads = uploads }) (is_over l.0 l.2.state)),
+          not_lacking p q.0 stays.standing came.standing_is,
+        );
+      })
 
   pub finished_err : {asks : List BodyAsk} (e : AllocError) → AsksShort asks m n → kept.known ≡ None
       → Adds m.tape tape (λ es. (p : Progress) (was : Faults) → CameTo machine client Stands was m.faults p
       → Finishes door account uploads asking p kept was now (Err e) es)
   finished_err {asks} e short none =
       join _ short.run hang (λ es fs run hangs p was came.
-          let l = lent p was m.faults came in
-          let q = run p was l.3 in
-          record {
-            asks = asks;
-            answered = q.0;
-            fetching = es;
-            ending = fs;
-            calls_ask = q.1;
-            hangs_up = subst (λ (b : Bool). HangsUp b fs) (up_is q.0.left n.source.client q.2.in_life) hangs;
-            whole = refl;
-            held = holds_none (forgotten q.0.machine) kept none;
-            bears = stays_borne q.0.blamed was n.faults now q.2.bears same;
-            made = tt;
-          })
+      let l = lent p was m.faults came in
+      let q = run p was l.3 in
+      record {
+        asks = asks;
+        answered = q.0;
+        fetching = es;
+        ending = fs;
+        calls_ask = q.1;
+        hangs_up = subst (λ (b : Bool). HangsUp b fs) (up_is q.0.left n.source.client q.2.in_life) hangs;
+        whole = refl;
+        held = holds_none (forgotten q.0.machine) kept none;
+        bears = stays_borne q.0.blamed was n.faults now q.2.bears same;
+        made = tt;
+      })
+
+  -- the response, or that there was no memory for it
+  pub finished : {S : Type 0} (moment : S → Moment) (a b : S) (result made : Result Response AllocError) (taken : Machine) (answered_by : Hidden → Account) (secrets : Hidden)
+      → m ≡ moment a → n ≡ moment b → answered_by secrets ≡ account → result ≡ made
+      → AsksAndMakes (Answers moment) (Lacks moment) a b made
+      (λ r asks. (h : Hidden) (o : MailAndUploads) → AreOf o over → IsResponse door (answered_by h) o asking asks (text_sent r))
+      → ((p : Progress) (k : KnownMail) (was then : Faults) → p.machine.known ≡ Some k → IsLentOf k served → HoldsSource p n.source was then → HoldsMachine p.machine taken)
+      → OnOk result (kept ≡ taken) → OnErr result (kept.known ≡ None)
+      → Adds m.tape tape (λ es. (p : Progress) (was : Faults) → CameTo machine client Stands was m.faults p
+      → Finishes door account uploads asking p kept was now result es)
+  finished moment a b (Ok r) (Ok r') taken answered_by secrets m_is n_is same_account is makes held kept_is none =
+      let response : Ok r ≡ Ok r' = is in
+      let r_is : r' ≡ r = cc in
+      finished_ok r
+      (subst (λ (x : Moment). AsksThese makes.asks x n) (sym m_is) (subst (λ (x : Moment). AsksThese makes.asks (moment a) x) (sym n_is) (asked_these moment makes.asked)))
+      (λ o of. subst (λ (x : Account). IsResponse door x o asking makes.asks (text_sent r)) same_account
+      (subst (λ (x : Response). IsResponse door (answered_by secrets) o asking makes.asks (text_sent x)) r_is (makes.meant secrets o of)))
+      (λ p k was then ready of holds. subst (λ (x : Machine). HoldsMachine p.machine x) (sym kept_is) (held p k was then ready of holds))
+  finished moment a b (Err e) (Err f) taken answered_by secrets m_is n_is same_account is makes held kept_is none =
+      finished_err e
+      (subst (λ (x : Moment). AsksShort makes.asks x n) (sym m_is) (subst (λ (x : Moment). AsksShort makes.asks (moment a) x) (sym n_is) (asked_in_vain moment makes))) none
+  finished moment a b (Ok r) (Err f) taken answered_by secrets m_is n_is same_account is makes held kept_is none = absurd (let never : Ok r ≡ Err f = is in cc)
+  finished moment a b (Err e) (Ok r) taken answered_by secrets m_is n_is same_account is makes held kept_is none = absurd (let never : Err e ≡ Ok r = is in cc)
 
 -- what asking did, however it came out
-module _ {S : Type 0} (moment : S → Moment) {X : Type 0} {Means : X → List BodyAsk → Type 0} {before after : S} where
+module _ {S : Type 0} (moment : S → Moment) {X : Type 0} (Means : X → List BodyAsk → Type 0) (before after : S) where
   pub counts_of : (result : Result X AllocError) → AsksAndMakes (Answers moment) (Lacks moment) before after result Means
       → CountsOn (moment before).source.told (moment after).source.told
   counts_of (Ok x) makes = (asked_these moment makes.asked).counts
@@ -292,10 +335,10 @@ none_changed : {S : Type 0} {before after : S} {asks : List BodyAsk} → Asks No
 none_changed NoneAsked = refl
 none_changed (OneMore ask asks answers) = answers.1 ∙ none_changed asks
 
-pub nothing_changed : {S X : Type 0} {Means : X → List BodyAsk → Type 0} {before after : S} (result : Result X AllocError)
+pub nothing_changed : {S X : Type 0} (Means : X → List BodyAsk → Type 0) (before after : S) (result : Result X AllocError)
     → AsksAndMakes NoAnswer NoLack before after result Means → after ≡ before
-nothing_changed (Ok x) makes = none_changed makes.asked
-nothing_changed (Err e) makes = elim makes.ends [ | inl none ↦ none ∙ none_changed makes.asked | inr one ↦ one.1 ∙ none_changed makes.asked ]
+nothing_changed Means before after (Ok x) makes = none_changed makes.asked
+nothing_changed Means before after (Err e) makes = elim makes.ends [ inl none ↦ none ∙ none_changed makes.asked | inr one ↦ one.1 ∙ none_changed makes.asked ]
 
 no_asks : (account : Account) (e : MethodError) (uploads : List (List ℕ)) (asking : Asking) (asks : List BodyAsk) (answer : Answer) → asks_for_mail asking ≡ true
     → IsAnswer account (record { mail = Err e; uploads = uploads }) asking asks answer → asks ≡ []
@@ -349,6 +392,24 @@ finished_untold {door} {account} {uploads} {asking} {client = client} {how = how
       );
     }
 
+-- the response that was made, whoever's account it was called
+pub made_untold : {S : Type 0} (A : S → MessagePlace → Option (List ℕ) → S → Type 0) (L : S → MessagePlace → S → Type 0) (before after : S) {door : Door} {asking : Asking}
+    {over : Over} (made result : Result Response AllocError) (answered_by : Hidden → Account) (secrets : Hidden) → result ≡ made
+    → AsksAndMakes A L before after made (λ r asks. (h : Hidden) (o : MailAndUploads) → AreOf o over → IsResponse door (answered_by h) o asking asks (text_sent r))
+    → (r : Response) → result ≡ Ok r
+    → (asks : List BodyAsk) × ((o : MailAndUploads) → AreOf o over → IsResponse door (answered_by secrets) o asking asks (text_sent r))
+made_untold A L before after {door = door} {asking = asking} (Ok r') result answered_by secrets is makes r r_is =
+    let both : Ok r' ≡ Ok r = sym is ∙ r_is in
+    let same : r' ≡ r = cc in
+    (makes.asks, (λ o of. subst (λ (x : Response). IsResponse door (answered_by secrets) o asking makes.asks (text_sent x)) same (makes.meant secrets o of)))
+made_untold A L before after (Err e) result answered_by secrets is makes r r_is = absurd (let both : Err e ≡ Ok r = sym is ∙ r_is in cc)
+
+-- the machine that is left holds what it held, or isn't ready
+pub kept_left : {m : MachineState} (taken kept : Machine) (result : Result Response AllocError) → HoldsMachine m taken → OnOk result (kept ≡ taken)
+    → OnErr result (kept.known ≡ None) → HoldsMachine (machine_left result m) kept
+kept_left {m} taken kept (Ok r) held kept_is none = subst (λ (x : Machine). HoldsMachine m x) (sym kept_is) held
+kept_left {m} taken kept (Err e) held kept_is none = holds_none (forgotten m) kept none
+
 -- ---- where no mail is needed
 
 -- the response, or none, of what needs no mail
@@ -394,6 +455,34 @@ answers_at_once gate before secrets asking (Ok r) f s holds needless rest held m
         );
       },
     )
+
+-- what the gate keeps then
+pub at_once : (gate mid before : Gate) (secrets : Hidden) (asking : Asking) (result made : Result Response AllocError) (f : Faults) → asks_for_mail asking ≡ false
+    → RestStays before mid → mid.machine ≡ before.machine → result ≡ made → OnOk result (gate ≡ mid) → OnErr result (gate ≡ record mid { machine = unready mid.machine })
+    → MayKeepUpload asking before.uploads mid.uploads
+    → IfOk made (λ r. KeepsUpload asking before.uploads mid.uploads × ((h : Hidden) → (asks : List BodyAsk)
+    × IsResponse mid.door (account_by mid h) (record { mail = Err ServerUnavailable; uploads = mid.uploads }) asking asks (text_sent r)))
+    → OnErr made (TakesMemory asking)
+    → (s : GateState) → GateHolds s before → (t : GateState) × GateHolds t gate × AnswersTo before.door (account_by before secrets) asking s t f f result []
+at_once gate mid before secrets asking (Ok r) made f needless rest same is gate_is gone may made_so takes s holds =
+    let mid_is : mid ≡ gate = sym gate_is in
+    answers_at_once gate before secrets asking (Ok r) f s holds needless
+    (subst (λ (g : Gate). RestStays before g) mid_is rest)
+    (subst (λ (g : Gate). HoldsMachine s.machine g.machine) mid_is (subst (λ (m : Machine). HoldsMachine s.machine m) (sym same) holds.machine))
+    (subst (λ (g : Gate). MayKeepUpload asking before.uploads g.uploads) mid_is may)
+    (subst (λ (g : Gate). KeepsUpload asking before.uploads g.uploads × ((h : Hidden) → (asks : List BodyAsk)
+    × IsResponse g.door (account_by g h) (record { mail = Err ServerUnavailable; uploads = g.uploads }) asking asks (text_sent r))) mid_is
+    (subst (λ (x : Result Response AllocError). IfOk x (λ r. KeepsUpload asking before.uploads mid.uploads × ((h : Hidden) → (asks : List BodyAsk)
+    × IsResponse mid.door (account_by mid h) (record { mail = Err ServerUnavailable; uploads = mid.uploads }) asking asks (text_sent r)))) (sym is) made_so))
+    tt
+at_once gate mid before secrets asking (Err e) made f needless rest same is gate_is gone may made_so takes s holds =
+    let mid_is : record mid { machine = unready mid.machine } ≡ gate = sym gone in
+    answers_at_once gate before secrets asking (Err e) f s holds needless
+    (subst (λ (g : Gate). RestStays before g) mid_is (record { door = rest.door; user = rest.user; base = rest.base }))
+    (subst (λ (g : Gate). HoldsMachine (forgotten s.machine) g.machine) mid_is (holds_none s.machine (unready mid.machine) refl))
+    (subst (λ (g : Gate). MayKeepUpload asking before.uploads g.uploads) mid_is may)
+    tt
+    (subst (λ (x : Result Response AllocError). OnErr x (TakesMemory asking)) (sym is) takes)
 
 -- ---- the answer
 
@@ -583,3 +672,22 @@ part_rose r how was mid now later alone failed cause part = elim (cause (part_no
   | inl none ↦ later_rose 1 was.front mid.front now.front (failed none) alone.front
   | inr rose ↦ rose_earlier was.front mid.front now.front later.front rose
 ]
+
+-- ---- parts of results
+
+pub on_ok : {T E A B : Type 0} (f : A → B) (x y : A) (result : Result T E) → OnOk result (x ≡ y) → OnOk result (f x ≡ f y)
+on_ok f x y (Ok t) is = ap f is
+on_ok f x y (Err e) is = is
+
+pub on_err : {T E A B : Type 0} (f : A → B) (x y : A) (result : Result T E) → OnErr result (x ≡ y) → OnErr result (f x ≡ f y)
+on_err f x y (Ok t) is = is
+on_err f x y (Err e) is = ap f is
+
+-- what holds either way holds
+pub whichever : {T E P : Type 0} (result : Result T E) → OnOk result P → OnErr result P → P
+whichever (Ok t) so other = so
+whichever (Err e) other so = so
+
+-- the outside's events are the same from another name of the same moment
+pub adds_at : {a b c : Option (List Event)} (R : List Event → Type 0) → c ≡ b → Adds a b R → Adds a c R
+adds_at {a} R is adds = subst (λ (t : Option (List Event)). Adds a t R) (sym is) adds

@@ -10,3 +10,4 @@ mod Going
 mod OneResponse
 mod Knowing
 pub mod Told
+mod Made

@@ -109,10 +109,10 @@ served_from : (asking : Asking) (mail : Mailing) (asks : List BodyAsk) (events :
     → IsServed begun ⊎ (begun.standing ≡ OutOfMemory) → IsAnsweredFrom asking mail after ⊎ (after.standing ≡ OutOfMemory)
 served_from asking mail asks events begun answered after mail_is calls is (inl (k, stands, known)) = elim (served_still k known calls) [
   | inl still ↦ inl (inr (
-      still.0,
-      ap (λ (p : Progress). p.machine.known) is ∙ still.1,
-      mail_is ∙ (λ i. mailing_by (stands i) (known i)) ∙ ap (λ (h : MailHistory). let x : Mailing = Ok h in x) (sym still.2),
-    ))
+    still.0,
+    ap (λ (p : Progress). p.machine.known) is ∙ still.1,
+    mail_is ∙ (λ i. mailing_by (stands i) (known i)) ∙ ap (λ (h : MailHistory). let x : Mailing = Ok h in x) (sym still.2),
+  ))
   | inr out ↦ inr (ap (λ (p : Progress). p.standing) is ∙ out)
 ]
 served_from asking mail asks events begun answered after mail_is calls is (inr out) = inr (ap (λ (p : Progress). p.standing) is ∙ still_out out calls)

@@ -1,5 +1,5 @@
 // The answers to what clients ask.
-ghost use Rattle.std.specs.Prelude.{◌≡◌, ℕ, IfOk, All, List, map, string_bytes};
+ghost use Rattle.std.specs.Prelude.{◌≡◌, ℕ, IfOk, All, List, map, string_bytes, Ok};
 ghost use Rattle.std.specs.Option.{option_copied};
 ghost use Rattle.serde_json.specs.View.{view};
 ghost use Rattle.serde_json.specs.Written.{compact_text};
@@ -213,17 +213,14 @@ fn untold_response(alloc: Global, door: Door) -> Result<Response, AllocError>
 fn found_response(
     alloc: Global,
     door: Door,
-    found: Result<Option<Bytes>, BodyError>,
+    found: Option<Bytes>,
     media: Option<&[u8]>,
 ) -> Result<Response, AllocError>
-    ensures { IfOk result (λ r. text_sent r ≡ spelled door (found_answer found (option_copied media.entry))) }
+    ensures { IfOk result (λ r. text_sent r ≡ spelled door (found_answer (Ok found) (option_copied media.entry))) }
 {
     match found {
-        Ok(Some(octets)) => {
-            Response::new(alloc, door, StatusCode::OK, &download_media(media), octets)
-        }
-        Ok(None) => Ok(Response::empty(door, Refusal::NotFound)),
-        Err(_) => untold_response(alloc, door),
+        Some(octets) => Response::new(alloc, door, StatusCode::OK, &download_media(media), octets),
+        None => Ok(Response::empty(door, Refusal::NotFound)),
     }
 }
 
@@ -244,7 +241,8 @@ fn told_response<W, B: BodySource<W>>(
 {
     match find_blob(alloc, state, uploads, bodies, world, blob) {
         Err(BodyError::Memory) => Err(AllocError),
-        found => found_response(alloc, door, found, media),
+        Err(BodyError::Ended) => untold_response(alloc, door),
+        Ok(found) => found_response(alloc, door, found, media),
     }
 }
 

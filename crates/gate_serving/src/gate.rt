@@ -280,14 +280,7 @@ impl Gate {
     {
         match asking {
             Asking::Calls(request) => calls_response(
-                alloc,
-                self.door,
-                &self.user,
-                &self.base,
-                over,
-                bodies,
-                world,
-                request,
+                alloc, self.door, &self.user, &self.base, over, bodies, world, request,
             ),
             Asking::Download { blob, media } => download_response(
                 alloc,

@@ -1,0 +1,108 @@
+-- Responses that are made over mail, and the bodies that are asked for them.
+use Rattle.std.proofs.Common.{◌≡◌, ◌⊎◌, ℕ, List, [], Option, Result, Ok, Err, refl, sym, ◌∙◌, ap, subst, inl, inr}
+use Rattle.std.specs.Prelude.{IfOk}
+use Rattle.std.specs.declared.alloc.AllocError.{AllocError}
+use Rattle.serde_json.specs.Written.{compact_text}
+use Rattle.gate_world.specs.Causes.{Hidden}
+use Rattle.email_bodies.specs.Asking.{BodyAsk, NoneAsked, AsksInVain}
+use Rattle.email_bodies.specs.declared.error.BodyError.TheVariants as body
+use Rattle.email_bodies.specs.declared.source.MessagePlace.{MessagePlace}
+use Rattle.email_get.specs.Asked.{AsksAnd}
+use Rattle.email_get.specs.Blobs.{OctetsFound}
+use Rattle.jmap_core.specs.Request.{CallData, RequestData}
+use Rattle.jmap_methods.specs.declared.method_error.MethodError.{MethodError}
+use Rattle.gate_calls.specs.declared.mail.Mail.TheVariants as code
+use Rattle.gate_calls.specs.declared.mail.Over.{Over}
+use Rattle.gate_calls.specs.Asking.{AsksAndMakes}
+use Rattle.gate_calls.specs.Calls.{AnswersCalls}
+use Rattle.gate_calls.specs.Mailings.{Mailing, MailAndUploads, AreOf}
+use Rattle.gate_calls.proofs.Meaning.{in_vain, mail_untold, vain_after}
+use Rattle.gate_serving.specs.declared.door.Door.{Door}
+use Rattle.gate_serving.specs.declared.response.Response.{Response}
+use Rattle.gate_serving.specs.Answers.{Answer, IsDownload, IsResponse, calls_text, found_answer, json_answer, problem_answer, spelled, untold_problem}
+use Rattle.gate_serving.specs.Requests.{Account, Calls}
+use Rattle.gate_serving.specs.reading.Texts.{text_sent}
+use Rattle.gate_serving.proofs.Answering.{NoAnswer, NoLack}
+
+module _ {S : Type 0} (Answers : S → MessagePlace → Option (List ℕ) → S → Type 0) (Lacks : S → MessagePlace → S → Type 0) where
+  -- ---- downloads
+
+  -- what was found is told
+  pub made_found : (Finds : List BodyAsk → OctetsFound → Type 0) (before after : S) (door : Door) (media : Option (List ℕ)) (found : OctetsFound) (made : Result Response AllocError)
+      → AsksAnd Answers Lacks before after (λ asks. Finds asks found) → IfOk made (λ r. text_sent r ≡ spelled door (found_answer found media))
+      → AsksAndMakes Answers Lacks before after made (λ r asks. (o : OctetsFound) × Finds asks o × (text_sent r ≡ spelled door (found_answer o media)))
+  made_found Finds before after door media found (Ok r) gives text_is = record { asks = gives.asks; asked = gives.asked; meant = (found, gives.meant, text_is) }
+  made_found Finds before after door media found (Err e) gives text_is = vain_after Answers Lacks gives
+
+  -- a body that didn't come isn't want of memory
+  pub ended : {V : Type 0} {P : List BodyAsk → Type 0} (before after : S) → ((body.Ended ≡ body.Memory) × V) ⊎ AsksAnd Answers Lacks before after P
+      → AsksAnd Answers Lacks before after P
+  ended before after (inl never) = absurd (let same : body.Ended ≡ body.Memory = never.0 in cc)
+  ended before after (inr gives) = gives
+
+  pub lacked : {X : Type 0} {P : List BodyAsk → Type 0} (before after : S) → (X × AsksInVain Answers Lacks before after) ⊎ AsksAnd Answers Lacks before after P
+      → AsksInVain Answers Lacks before after
+  lacked before after (inl vain) = vain.1
+  lacked before after (inr gives) = vain_after Answers Lacks gives
+
+  -- where the mail can't be told
+  pub untold_made : (s : S) (door : Door) (over : Over) (e : MethodError) (blob : List ℕ) (media : Option (List ℕ)) (made : Result Response AllocError)
+      → over.mail ≡ code.Untold e → IfOk made (λ r. text_sent r ≡ spelled door (problem_answer 404 (compact_text untold_problem)))
+      → AsksAndMakes Answers Lacks s s made
+      (λ r asks. (o : MailAndUploads) → AreOf o over → (answer : Answer) × IsDownload o.mail o.uploads blob media asks answer × (text_sent r ≡ spelled door answer))
+  untold_made s door over e blob media (Ok r) is text_is =
+      record {
+        asks = [];
+        asked = NoneAsked;
+        meant = λ o of. (
+          problem_answer 404 (compact_text untold_problem),
+          subst (λ (mail : Mailing). IsDownload mail o.uploads blob media [] (problem_answer 404 (compact_text untold_problem))) (sym (mail_untold over.mail e is o.mail of.mail))
+              (refl, refl),
+          text_is,
+        );
+      }
+  untold_made s door over e blob media (Err x) is text_is = in_vain Answers Lacks s
+
+  -- ---- calls
+
+  -- the text of an answer that has the responses to calls
+  pub calls_made : (before after : S) (door : Door) (user base : List ℕ) (over : Over) (request : RequestData) (calls : List CallData) (responses shown : List CallData)
+      (made : Result Response AllocError) → calls ≡ request.calls → shown ≡ responses
+      → AsksAnd Answers Lacks before after (λ asks. (o : MailAndUploads) → AreOf o over → AnswersCalls request.uses o calls asks responses)
+      → IfOk made (λ r. text_sent r ≡ spelled door (json_answer 200 (calls_text user base shown request)))
+      → AsksAndMakes Answers Lacks before after made (λ r asks. (o : MailAndUploads) → AreOf o over → (responses : List CallData)
+      × AnswersCalls request.uses o request.calls asks responses × (text_sent r ≡ spelled door (json_answer 200 (calls_text user base responses request))))
+  calls_made before after door user base over request calls responses shown (Ok r) calls_are shown_is gives text_is =
+      record {
+        asks = gives.asks;
+        asked = gives.asked;
+        meant = λ o of. (
+          responses,
+          subst (λ (cs : List CallData). AnswersCalls request.uses o cs gives.asks responses) calls_are (gives.meant o of),
+          text_is ∙ ap (λ (rs : List CallData). spelled door (json_answer 200 (calls_text user base rs request))) shown_is,
+        );
+      }
+  calls_made before after door user base over request calls responses shown (Err e) calls_are shown_is gives text_is = vain_after Answers Lacks gives
+
+-- the response to calls that need no mail
+pub calls_without : {S : Type 0} (before after : S) (door : Door) (account : Hidden → Account) (user base : List ℕ) (over : Over) (o : MailAndUploads) (request : RequestData)
+    (made : Result Response AllocError) → ((h : Hidden) → (user ≡ (account h).user) × (base ≡ (account h).base)) → AreOf o over
+    → AsksAndMakes NoAnswer NoLack before after made (λ r asks. (o : MailAndUploads) → AreOf o over → (responses : List CallData)
+    × AnswersCalls request.uses o request.calls asks responses × (text_sent r ≡ spelled door (json_answer 200 (calls_text user base responses request))))
+    → IfOk made (λ r. (h : Hidden) → (asks : List BodyAsk) × IsResponse door (account h) o (Calls request) asks (text_sent r))
+calls_without before after door account user base over o request (Ok r) named of makes = λ h.
+    let so = makes.meant o of in
+    let is = named h in (
+      makes.asks,
+      record {
+        answer = json_answer 200 (calls_text (account h).user (account h).base so.0 request);
+        is_answer = (so.0, so.1, refl);
+        text_is = so.2 ∙ (λ i. spelled door (json_answer 200 (calls_text (is.0 i) (is.1 i) so.0 request)));
+      },
+    )
+calls_without before after door account user base over o request (Err e) named of makes = tt
+
+-- the same of what was asked
+pub asked_calls : {P : Response → Type 0} {Q : Response → Type 0} (made : Result Response AllocError) → ((r : Response) → P r → Q r) → IfOk made P → IfOk made Q
+asked_calls (Ok r) so is = so r is
+asked_calls (Err e) so is = tt
