@@ -1,5 +1,5 @@
 // Methods over mail that is told, step by step.
-use crate::dialogues::{Asked, exchange};
+use crate::dialogues::exchange;
 use crate::texts::shown;
 use mail_state::MailState;
 use read_methods::{email_changes, mailbox_changes, mailbox_get, thread_changes, thread_get};
@@ -11,7 +11,7 @@ use told_mail::Mirror;
 /// A step: what is told, or what is asked of the state and what is answered.
 enum Step {
     /// Of the folder that is selected.
-    Tell(Asked<'static>, &'static [u8]),
+    Tell(&'static str, &'static [u8]),
     /// What was told is served.
     Serve,
     /// A method, its arguments beside the account, and the answer beside it.
@@ -44,15 +44,15 @@ pub(crate) const SEEN: &[u8] = b"* 1 FETCH (UID 1 FLAGS (\\Seen))\r\na1 OK done\
 pub(crate) const UNSEEN: &[u8] = b"* 1 FETCH (UID 1 FLAGS ())\r\na1 OK done\r\n";
 
 const COUNTS_OF_INBOX: [Step; 11] = [
-    Step::Tell(Asked::List, INBOX),
-    Step::Tell(Asked::Select(b"INBOX"), VALIDITY),
+    Step::Tell("list", INBOX),
+    Step::Tell("select INBOX", VALIDITY),
     Step::Serve,
     Step::Ask(
         "Mailbox/get",
         ",\"ids\":[\"m1\"],\"properties\":[\"totalEmails\",\"unreadEmails\"]",
         "\"list\":[{\"id\":\"m1\",\"totalEmails\":0,\"unreadEmails\":0}],\"notFound\":[],\"state\":\"000000000000001f-1\"}",
     ),
-    Step::Tell(Asked::New(1), THREE),
+    Step::Tell("new 1", THREE),
     Step::Serve,
     Step::Ask(
         "Mailbox/get",
@@ -86,7 +86,7 @@ const TREE: &[u8] =
     b"* LIST () \"/\" INBOX\r\n* LIST (\\Sent) \"/\" INBOX/a\r\n* LIST (\\All) \"/\" b\r\n* LIST (\\Archive) \"/\" c\r\n* LIST (\\Drafts) \"/\" d\r\n* LIST (\\Flagged) \"/\" e\r\n* LIST (\\Junk) \"/\" f\r\n* LIST (\\Trash) \"/\" g\r\n* LIST (\\Subscribed) \"/\" h\r\na1 OK done\r\n";
 
 const PARENTS_AND_ROLES: [Step; 4] = [
-    Step::Tell(Asked::List, TREE),
+    Step::Tell("list", TREE),
     Step::Serve,
     Step::Ask(
         "Mailbox/get",
@@ -101,12 +101,12 @@ const PARENTS_AND_ROLES: [Step; 4] = [
 ];
 
 const NEW_VALIDITY: [Step; 8] = [
-    Step::Tell(Asked::List, INBOX),
-    Step::Tell(Asked::Select(b"INBOX"), VALIDITY),
-    Step::Tell(Asked::New(1), TWO),
+    Step::Tell("list", INBOX),
+    Step::Tell("select INBOX", VALIDITY),
+    Step::Tell("new 1", TWO),
     Step::Serve,
-    Step::Tell(Asked::Select(b"INBOX"), OTHER_VALIDITY),
-    Step::Tell(Asked::New(1), TWO),
+    Step::Tell("select INBOX", OTHER_VALIDITY),
+    Step::Tell("new 1", TWO),
     Step::Serve,
     Step::Ask(
         "Email/changes",
@@ -116,13 +116,13 @@ const NEW_VALIDITY: [Step; 8] = [
 ];
 
 const THERE_AND_BACK: [Step; 9] = [
-    Step::Tell(Asked::List, INBOX),
-    Step::Tell(Asked::Select(b"INBOX"), VALIDITY),
-    Step::Tell(Asked::New(1), TWO),
+    Step::Tell("list", INBOX),
+    Step::Tell("select INBOX", VALIDITY),
+    Step::Tell("new 1", TWO),
     Step::Serve,
-    Step::Tell(Asked::Unselect, SEEN),
+    Step::Tell("unselect", SEEN),
     Step::Serve,
-    Step::Tell(Asked::Unselect, UNSEEN),
+    Step::Tell("unselect", UNSEEN),
     Step::Serve,
     Step::Ask(
         "Email/changes",
@@ -132,16 +132,16 @@ const THERE_AND_BACK: [Step; 9] = [
 ];
 
 const IN_STEPS: [Step; 9] = [
-    Step::Tell(Asked::List, INBOX),
-    Step::Tell(Asked::Select(b"INBOX"), VALIDITY),
-    Step::Tell(Asked::New(1), FIVE),
+    Step::Tell("list", INBOX),
+    Step::Tell("select INBOX", VALIDITY),
+    Step::Tell("new 1", FIVE),
     Step::Serve,
     Step::Ask(
         "Email/changes",
         ",\"sinceState\":\"000000000000001f-0\",\"maxChanges\":2",
         "\"created\":[\"e1\",\"e2\"],\"destroyed\":[],\"hasMoreChanges\":true,\"newState\":\"000000000000001f-2\",\"oldState\":\"000000000000001f-0\",\"updated\":[]}",
     ),
-    Step::Tell(Asked::Unselect, b"* VANISHED 3\r\na1 OK done\r\n"),
+    Step::Tell("unselect", b"* VANISHED 3\r\na1 OK done\r\n"),
     Step::Serve,
     Step::Ask(
         "Email/changes",
@@ -157,20 +157,20 @@ const IN_STEPS: [Step; 9] = [
 
 const COUNTS_ALONE: [Step; 10] = [
     Step::Tell(
-        Asked::List,
+        "list",
         b"* LIST (\\Subscribed) \"/\" INBOX\r\na1 OK done\r\n",
     ),
-    Step::Tell(Asked::Select(b"INBOX"), VALIDITY),
-    Step::Tell(Asked::New(1), TWO),
+    Step::Tell("select INBOX", VALIDITY),
+    Step::Tell("new 1", TWO),
     Step::Serve,
-    Step::Tell(Asked::Unselect, SEEN),
+    Step::Tell("unselect", SEEN),
     Step::Serve,
     Step::Ask(
         "Mailbox/changes",
         ",\"sinceState\":\"000000000000001f-1\"",
         "\"created\":[],\"destroyed\":[],\"hasMoreChanges\":false,\"newState\":\"000000000000001f-2\",\"oldState\":\"000000000000001f-1\",\"updated\":[\"m1\"],\"updatedProperties\":[\"totalEmails\",\"unreadEmails\",\"totalThreads\",\"unreadThreads\"]}",
     ),
-    Step::Tell(Asked::List, INBOX),
+    Step::Tell("list", INBOX),
     Step::Serve,
     Step::Ask(
         "Mailbox/changes",
@@ -180,9 +180,9 @@ const COUNTS_ALONE: [Step; 10] = [
 ];
 
 const STATES: [Step; 15] = [
-    Step::Tell(Asked::List, INBOX),
-    Step::Tell(Asked::Select(b"INBOX"), VALIDITY),
-    Step::Tell(Asked::New(1), TWO),
+    Step::Tell("list", INBOX),
+    Step::Tell("select INBOX", VALIDITY),
+    Step::Tell("new 1", TWO),
     Step::Serve,
     Step::Ask(
         "Email/changes",

@@ -1,5 +1,5 @@
 // As many objects as may be asked, one more, and as many changes as are kept.
-use crate::dialogues::{Asked, exchange};
+use crate::dialogues::exchange;
 use crate::kept_mail::{INBOX, SEEN, UNSEEN, VALIDITY, answer};
 use mail_state::MailState;
 use std::alloc::Global;
@@ -50,7 +50,7 @@ fn served(rt: &impl Abort, alloc: Global, told: &Exchange) -> MailState {
 
 fn with_folders(rt: &impl Abort, alloc: Global, count: u32) -> MailState {
     let text = many_folders(rt, alloc, count);
-    let told = exchange(rt, alloc, Asked::List, b"", text.as_bytes());
+    let told = exchange(rt, alloc, "list", b"", text.as_bytes());
     served(rt, alloc, &told)
 }
 
@@ -137,24 +137,24 @@ fn as_many_as_null_stands_for(rt: HostRuntime) {
 const ONE: &[u8] =
     b"* 1 FETCH (UID 1 FLAGS () INTERNALDATE \"02-Jan-2024 09:00:00 +0000\" RFC822.SIZE 9 BODY[HEADER]<0> \"\")\r\na1 OK done\r\n";
 
-fn tell(rt: &impl Abort, alloc: Global, mirror: &mut Mirror, asked: Asked<'_>, octets: &[u8]) {
+fn tell(rt: &impl Abort, alloc: Global, mirror: &mut Mirror, asked: &str, octets: &[u8]) {
     let told = exchange(rt, alloc, asked, b"INBOX", octets);
     mirror.tell(&told).expect(rt, "told");
 }
 
 fn with_one_message(rt: &impl Abort, alloc: Global) -> Mirror {
     let mut mirror = Mirror::new(alloc);
-    tell(rt, alloc, &mut mirror, Asked::List, INBOX);
-    tell(rt, alloc, &mut mirror, Asked::Select(b"INBOX"), VALIDITY);
-    tell(rt, alloc, &mut mirror, Asked::New(1), ONE);
+    tell(rt, alloc, &mut mirror, "list", INBOX);
+    tell(rt, alloc, &mut mirror, "select INBOX", VALIDITY);
+    tell(rt, alloc, &mut mirror, "new 1", ONE);
     mirror
 }
 
 /// The Email is created at place 1, and then changed at each place up to the last one.
 fn changed_up_to(rt: &impl Abort, alloc: Global, last: u32) -> MailState {
     let mut mirror = with_one_message(rt, alloc);
-    let seen = exchange(rt, alloc, Asked::Unselect, b"INBOX", SEEN);
-    let unseen = exchange(rt, alloc, Asked::Unselect, b"INBOX", UNSEEN);
+    let seen = exchange(rt, alloc, "unselect", b"INBOX", SEEN);
+    let unseen = exchange(rt, alloc, "unselect", b"INBOX", UNSEEN);
     let mut state = MailState::new(alloc, 31).expect(rt, "out of memory");
     for place in 1..=last {
         let (next, _) = state.apply(&mirror).expect(rt, "applied");

@@ -15,14 +15,17 @@ const MAIL: Using = Using {
 };
 
 /// What a request uses, a name, and the method of the name.
-const NAMES: [(Using, &str, Result<Method, MethodError>); 11] = [
+const NAMES: [(Using, &str, Result<Method, MethodError>); 14] = [
     (CORE, "Core/echo", Ok(Method::CoreEcho)),
     (MAIL, "Mailbox/get", Ok(Method::MailboxGet)),
     (MAIL, "Mailbox/changes", Ok(Method::MailboxChanges)),
     (MAIL, "Thread/get", Ok(Method::ThreadGet)),
     (MAIL, "Thread/changes", Ok(Method::ThreadChanges)),
     (MAIL, "Email/changes", Ok(Method::EmailChanges)),
-    (MAIL, "Email/get", Err(MethodError::UnknownMethod)),
+    (MAIL, "Email/get", Ok(Method::EmailGet)),
+    (MAIL, "Email/parse", Ok(Method::EmailParse)),
+    (MAIL, "Email/set", Err(MethodError::UnknownMethod)),
+    (CORE, "Email/get", Err(MethodError::UnknownMethod)),
     (MAIL, "Core/echo", Err(MethodError::UnknownMethod)),
     (CORE, "Mailbox/get", Err(MethodError::UnknownMethod)),
     (MAIL, "mailbox/get", Err(MethodError::UnknownMethod)),

@@ -1,5 +1,8 @@
 // Clients over HTTP.
-use crate::scripts::{CONNECTED, DONE, EMPTY_INBOX, LISTED, expect_parts, scripted};
+use crate::scripts::{
+    CONNECTED, DONE, EMPTY_INBOX, LATER, LATER_WITH_BODY, LISTED, ONE, ONE_SELECTED, WITH_BODY,
+    expect_parts, scripted,
+};
 use crate::seen::follow;
 use std::alloc::Global;
 use std::process::Abort;
@@ -270,7 +273,33 @@ struct Serving {
     took: &'static [&'static [u8]],
 }
 
-const SERVINGS: [Serving; 5] = [
+/// A link life in which a body doesn't come whole.
+const WITHOUT_BODY: &[&[u8]] = &[
+    CONNECTED,
+    LISTED,
+    ONE_SELECTED,
+    ONE,
+    DONE,
+    b"* 1 FETCH (UID 1 BODY[]<0> {22}\r\nSubject",
+];
+
+const DOWNLOADS_MESSAGE: &[u8] =
+    b"GET /jmap/download/a1/r1/x?accept=message/rfc822 HTTP/1.1\r\nAuthorization: Bearer secret\r\n\r\n";
+
+const DOWNLOADS_TEXT: &[u8] =
+    b"GET /jmap/download/a1/r1-1/x?accept=text/plain HTTP/1.1\r\nAuthorization: Bearer secret\r\n\r\n";
+
+const DOWNLOADS_NO_LEAF: &[u8] =
+    b"GET /jmap/download/a1/r1-2/x?accept=text/plain HTTP/1.1\r\nAuthorization: Bearer secret\r\n\r\n";
+
+const MESSAGE: &[u8] =
+    b"Content-Length: 22\r\nContent-Type: message/rfc822\r\n\r\nSubject: hi\r\n\r\nhello\r\n";
+
+const TEXT: &[u8] = b"Content-Length: 7\r\nContent-Type: text/plain\r\n\r\nhello\r\n";
+
+const NOT_FOUND: &[u8] = b"HTTP/1.1 404 Not Found\r\n";
+
+const SERVINGS: [Serving; 7] = [
     // an upload is kept from client to client, and a client that ends early is sent nothing
     Serving {
         links: &[EMPTY_INBOX, &[b"* OK hi\r\n"]],
@@ -321,6 +350,24 @@ const SERVINGS: [Serving; 5] = [
         clients: &[&[CHANGES], &[LATER_CHANGES]],
         fails_at: 0,
         took: &[OK, FIXED, INBOX_CAME, OK, FIXED, COUNTS_CHANGED],
+    },
+    // a message and its text are downloaded of one body, and a leaf that it doesn't have isn't found
+    Serving {
+        links: &[WITH_BODY, LATER, LATER],
+        clients: &[
+            &[DOWNLOADS_MESSAGE],
+            &[DOWNLOADS_TEXT],
+            &[DOWNLOADS_NO_LEAF],
+        ],
+        fails_at: 0,
+        took: &[OK, FIXED, MESSAGE, OK, FIXED, TEXT, NOT_FOUND, FIXED, LOST],
+    },
+    // a body that doesn't come isn't found
+    Serving {
+        links: &[WITHOUT_BODY, LATER_WITH_BODY],
+        clients: &[&[DOWNLOADS_TEXT], &[DOWNLOADS_TEXT]],
+        fails_at: 0,
+        took: &[NOT_FOUND, FIXED, LOST, OK, FIXED, TEXT],
     },
     // a download for which no type is asked
     Serving {

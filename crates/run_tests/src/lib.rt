@@ -17,6 +17,8 @@ mod told_pages;
 #[cfg(test)]
 mod beginnings;
 #[cfg(test)]
+mod fetched_bodies;
+#[cfg(test)]
 mod http_clients;
 #[cfg(test)]
 mod shown_messages;

@@ -19,6 +19,27 @@ pub(crate) const DONE: &[u8] = b"a7 OK done\r\n";
 /// The link life of a store with an empty INBOX.
 pub(crate) const EMPTY_INBOX: &[&[u8]] = &[CONNECTED, LISTED, SELECTED, DONE];
 
+/// INBOX with one message, as it is selected.
+pub(crate) const ONE_SELECTED: &[u8] =
+    b"* 1 EXISTS\r\n* OK [UIDVALIDITY 7] x\r\n* OK [UIDNEXT 2] x\r\n* OK [HIGHESTMODSEQ 2] x\r\na6 OK [READ-WRITE] x\r\n";
+
+pub(crate) const ONE: &[u8] =
+    b"* 1 FETCH (UID 1 FLAGS (\\Seen) MODSEQ (2) INTERNALDATE \"01-Jan-2024 00:00:00 +0000\" RFC822.SIZE 22 BODY[HEADER]<0> {15}\r\nSubject: hi\r\n\r\n)\r\n";
+
+/// The message's body, as it is fetched after the round.
+pub(crate) const BODY: &[u8] =
+    b"* 1 FETCH (UID 1 BODY[]<0> {22}\r\nSubject: hi\r\n\r\nhello\r\n)\r\na8 OK done\r\n";
+
+/// A link life up to the round's end.
+pub(crate) const ROUND: &[&[u8]] = &[CONNECTED, LISTED, ONE_SELECTED, ONE, DONE];
+
+pub(crate) const WITH_BODY: &[&[u8]] = &[CONNECTED, LISTED, ONE_SELECTED, ONE, DONE, BODY];
+
+/// A later life, in which nothing changed.
+pub(crate) const LATER: &[&[u8]] = &[CONNECTED, LISTED, ONE_SELECTED, DONE];
+
+pub(crate) const LATER_WITH_BODY: &[&[u8]] = &[CONNECTED, LISTED, ONE_SELECTED, DONE, BODY];
+
 /// The most octets that one read gives.
 pub(crate) const PIECES: [usize; 4] = [1, 2, 3, 100_000];
 

@@ -223,7 +223,7 @@ fn opened(rt: &impl Abort, alloc: Global, world: &mut ScriptWorld) -> Gate {
 }
 
 /// The gate serves this many clients, and there are no more.
-fn serve(rt: &impl Abort, alloc: Global, world: &mut ScriptWorld, clients: usize) {
+pub(crate) fn serve(rt: &impl Abort, alloc: Global, world: &mut ScriptWorld, clients: usize) {
     let mut gate = opened(rt, alloc, world);
     for _ in 0..clients {
         assert_eq!(rt; gate.answer_one(alloc, world), Served::Whole);
