@@ -299,7 +299,7 @@ const TEXT: &[u8] = b"Content-Length: 7\r\nContent-Type: text/plain\r\n\r\nhello
 
 const NOT_FOUND: &[u8] = b"HTTP/1.1 404 Not Found\r\n";
 
-const SERVINGS: [Serving; 7] = [
+const SERVINGS: [Serving; 5] = [
     // an upload is kept from client to client, and a client that ends early is sent nothing
     Serving {
         links: &[EMPTY_INBOX, &[b"* OK hi\r\n"]],
@@ -351,6 +351,23 @@ const SERVINGS: [Serving; 7] = [
         fails_at: 0,
         took: &[OK, FIXED, INBOX_CAME, OK, FIXED, COUNTS_CHANGED],
     },
+    // a download for which no type is asked
+    Serving {
+        links: &[EMPTY_INBOX],
+        clients: &[&[UPLOADS], &[DOWNLOADS_ANY]],
+        fails_at: 0,
+        took: &[
+            b"HTTP/1.1 201 Created\r\n",
+            FIXED,
+            UPLOADED,
+            OK,
+            FIXED,
+            OCTETS,
+        ],
+    },
+];
+
+const DOWNLOADS_OF_MAIL: [Serving; 2] = [
     // a message and its text are downloaded of one body, and a leaf that it doesn't have isn't found
     Serving {
         links: &[WITH_BODY, LATER, LATER],
@@ -369,20 +386,6 @@ const SERVINGS: [Serving; 7] = [
         fails_at: 0,
         took: &[NOT_FOUND, FIXED, LOST, OK, FIXED, TEXT],
     },
-    // a download for which no type is asked
-    Serving {
-        links: &[EMPTY_INBOX],
-        clients: &[&[UPLOADS], &[DOWNLOADS_ANY]],
-        fails_at: 0,
-        took: &[
-            b"HTTP/1.1 201 Created\r\n",
-            FIXED,
-            UPLOADED,
-            OK,
-            FIXED,
-            OCTETS,
-        ],
-    },
 ];
 
 fn expect_served(rt: &impl Abort, alloc: Global, row: &Serving) {
@@ -396,6 +399,13 @@ fn expect_served(rt: &impl Abort, alloc: Global, row: &Serving) {
 #[test]
 fn clients_one_after_another(rt: HostRuntime) {
     for row in SERVINGS.iter() {
+        expect_served(&rt, rt.alloc(), row);
+    }
+}
+
+#[test]
+fn blobs_of_messages(rt: HostRuntime) {
+    for row in DOWNLOADS_OF_MAIL.iter() {
         expect_served(&rt, rt.alloc(), row);
     }
 }
