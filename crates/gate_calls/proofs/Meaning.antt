@@ -1,9 +1,9 @@
 -- What a call gave, and what is meant by the bodies that were asked.
-use Rattle.std.proofs.Common.{◌≡◌, ◌≢◌, ◌⊎◌, ◌++◌, ℕ, List, [], refl, sym, ap, inl, inr, Option, Some, None, Result, Ok, Err, subst}
+use Rattle.std.proofs.Common.{◌≡◌, ◌≢◌, ◌⊎◌, ◌++◌, ℕ, List, [], refl, sym, ap, inl, inr, Option, Result, Ok, Err, subst}
 use Rattle.serde_json.specs.declared.value.Value.{Value}
 use Rattle.serde_json.specs.Data.{Data}
 use Rattle.serde_json.specs.View.{view}
-use Rattle.email_bodies.specs.Asking.{BodyAsk, Asks, NoneAsked, AsksInVain}
+use Rattle.email_bodies.specs.Asking.{BodyAsk, NoneAsked, AsksInVain}
 use Rattle.email_bodies.specs.declared.source.MessagePlace.{MessagePlace}
 use Rattle.email_bodies.proofs.Joins.{asks_join}
 use Rattle.email_get.specs.Asked.{AsksAnd, AsksAndMeets}
@@ -11,8 +11,6 @@ use Rattle.jmap_methods.specs.Outcome.{Agrees, IsJust, Meets}
 use Rattle.jmap_methods.specs.declared.method_error.MethodError.{MethodError}
 use Rattle.jmap_methods.specs.declared.method_error.MethodError.TheVariants.{Memory}
 use Rattle.jmap_methods.specs.declared.method_error.MethodError.TheVariants as error
-use Rattle.mail_state.specs.History.{MailHistory}
-use Rattle.mail_state.specs.State.{ServedState, IsStateOf}
 use Rattle.gate_calls.specs.declared.mail.Mail.{Mail}
 use Rattle.gate_calls.specs.declared.mail.Mail.TheVariants as code
 use Rattle.gate_calls.specs.declared.mail.Over.{Over}

@@ -22,7 +22,7 @@ use Rattle.jmap_core.specs.Request.{CallData}
 use Rattle.read_methods.specs.Changes.{AnswersChanges, Further, no_further, updated_properties}
 use Rattle.gate_calls.specs.Mailings.{Mailing, MailAndUploads}
 use Rattle.gate_calls.specs.Places.{HasPlaces}
-use Rattle.gate_calls.specs.Methods.{AtOnce, RepliesTo}
+use Rattle.gate_calls.specs.Methods.{RepliesTo}
 use Rattle.gate_calls.specs.Calls.{AnswersCall, NoMethod, Unresolved, Resolved, answered_call, NextCall, AnswersCalls, NoCalls, MoreCalls}
 
 -- what is proved of a /changes

@@ -1,7 +1,7 @@
 // Bodies of messages that requests ask the store for.
 use crate::scripts::{
     BODY, CONNECTED, DONE, LATER, LATER_WITH_BODY, LISTED, ONE, ONE_SELECTED, ROUND, WITH_BODY,
-    expect_parts, scripted,
+    expect_parts, joined, scripted,
 };
 use crate::seen::seen_in;
 use crate::whole_runs::serve;
@@ -45,7 +45,7 @@ const PARSES: &[u8] =
     b"[\"Email/parse\",{\"accountId\":\"a1\",\"blobIds\":[\"r1\",\"r2\"],\"properties\":[\"subject\",\"preview\"]},\"c3\"]";
 
 const PARSED: &[u8] =
-    b"[\"Email/parse\",{\"accountId\":\"a1\",\"notFound\":[\"r2\"],\"notParsable\":[],\"parsed\":{\"r1\":{\"preview\":\"hello\",\"subject\":\"hi\"}}},\"c3\"]";
+    b"[\"Email/parse\",{\"accountId\":\"a1\",\"notFound\":[\"r2\"],\"notParsable\":null,\"parsed\":{\"r1\":{\"preview\":\"hello\",\"subject\":\"hi\"}}},\"c3\"]";
 
 const COMMA: &[u8] = b",";
 
@@ -172,5 +172,83 @@ fn expect_cut(rt: &impl Abort, alloc: Global, cut: usize) {
 fn a_link_lost_at_each_octet_of_a_body(rt: HostRuntime) {
     for cut in 0..BODY.len() {
         expect_cut(&rt, rt.alloc(), cut);
+    }
+}
+
+/// How many messages there are, and how many bodies are asked where each one's is, and then the first one's again: 32 are kept.
+const MANY: [(u32, usize); 3] = [(32, 32), (33, 34), (34, 35)];
+
+/// All bodies, and the first one again.
+const ALL_AND_FIRST: &[u8] =
+    b"[\"Email/get\",{\"accountId\":\"a1\",\"ids\":null,\"properties\":[\"preview\"]},\"c1\"],[\"Email/get\",{\"accountId\":\"a1\",\"ids\":[\"e1\"],\"properties\":[\"preview\"]},\"c2\"]";
+
+fn put(rt: &impl Abort, link: &mut Vec<u8>, text: &str) {
+    link.extend_from_slice(text.as_bytes())
+        .expect(rt, "out of memory");
+}
+
+fn put_message(rt: &impl Abort, alloc: Global, link: &mut Vec<u8>, uid: u32) {
+    let text = format!(in alloc;
+        "* {uid} FETCH (UID {uid} FLAGS () MODSEQ (2) INTERNALDATE \"01-Jan-2024 00:00:00 +0000\" RFC822.SIZE 22 BODY[HEADER]<0> {{15}}\r\nSubject: hi\r\n\r\n)\r\n"
+    ).expect(rt, "out of memory");
+    put(rt, link, text.as_str());
+}
+
+fn put_body(rt: &impl Abort, alloc: Global, link: &mut Vec<u8>, uid: u32, tag: u32) {
+    let text = format!(in alloc;
+        "* {uid} FETCH (UID {uid} BODY[]<0> {{22}}\r\nSubject: hi\r\n\r\nhello\r\n)\r\na{tag} OK done\r\n"
+    ).expect(rt, "out of memory");
+    put(rt, link, text.as_str());
+}
+
+/// INBOX with so many messages, as it is selected.
+fn many_selected(rt: &impl Abort, alloc: Global, count: u32) -> String {
+    let next = count.saturating_add(1);
+    format!(in alloc;
+        "* {count} EXISTS\r\n* OK [UIDVALIDITY 7] x\r\n* OK [UIDNEXT {next}] x\r\n* OK [HIGHESTMODSEQ 2] x\r\na6 OK [READ-WRITE] x\r\n"
+    ).expect(rt, "out of memory")
+}
+
+/// The round over them, their bodies, and the first one's again.
+fn many_link(rt: &impl Abort, alloc: Global, count: u32) -> Vec<u8> {
+    let mut link = joined(rt, alloc, &[CONNECTED, LISTED]);
+    put(rt, &mut link, many_selected(rt, alloc, count).as_str());
+    for uid in 1..=count {
+        put_message(rt, alloc, &mut link, uid);
+    }
+    put(rt, &mut link, "a7 OK done\r\n");
+    for uid in 1..=count {
+        put_body(rt, alloc, &mut link, uid, uid.saturating_add(7));
+    }
+    put_body(rt, alloc, &mut link, 1, count.saturating_add(8));
+    link
+}
+
+fn expect_many(rt: &impl Abort, alloc: Global, row: &(u32, usize)) {
+    let link = many_link(rt, alloc, row.0);
+    let script = scripted(
+        rt,
+        alloc,
+        &[&[&link]],
+        &[&[ASK, ALL_AND_FIRST, ASK_END]],
+        b"",
+    );
+    let mut world = ScriptWorld::new(alloc, script);
+    serve(rt, alloc, &mut world, 1);
+    let seen = seen_in(rt, alloc, 0, &world);
+    assert_eq!(rt;
+        count_of(&seen.client_took, b"\"preview\":\"hello\""),
+        row.0 as usize + 1
+    );
+    assert_eq!(rt;
+        count_of(&seen.store_took, b"BODY.PEEK[]<0.50000000>"),
+        row.1
+    );
+}
+
+#[test]
+fn the_bodies_used_last_are_kept(rt: HostRuntime) {
+    for row in MANY.iter() {
+        expect_many(&rt, rt.alloc(), row);
     }
 }

@@ -377,7 +377,7 @@ const DOWNLOADS_OF_MAIL: [Serving; 2] = [
             &[DOWNLOADS_NO_LEAF],
         ],
         fails_at: 0,
-        took: &[OK, FIXED, MESSAGE, OK, FIXED, TEXT, NOT_FOUND, FIXED, LOST],
+        took: &[OK, FIXED, MESSAGE, OK, FIXED, TEXT, NOT_FOUND, FIXED, EMPTY],
     },
     // a body that doesn't come isn't found
     Serving {

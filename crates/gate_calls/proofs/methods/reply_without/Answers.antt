@@ -1,4 +1,4 @@
-use Rattle.std.proofs.Common.{◌≡◌, ◌∙◌, Err, sym, ap, subst}
+use Rattle.std.proofs.Common.{◌≡◌, Err}
 use Rattle.serde_json.specs.View.{view}
 use Rattle.email_get.specs.EmailGet.{get_emails_refused}
 use Rattle.email_get.specs.EmailParse.{parse_refused}
@@ -8,7 +8,6 @@ use Rattle.gate_calls.specs.declared.method.Method.TheVariants.{EmailGet, EmailC
 use Rattle.read_methods.specs.Changes.{changes_refused}
 use Rattle.read_methods.specs.Mailboxes.{mailboxes_refused}
 use Rattle.read_methods.specs.Threads.{threads_refused}
-use Rattle.gate_calls.specs.Mailings.{MailAndUploads}
 use Rattle.gate_calls.specs.Methods.{unless_refused}
 use Rattle.gate_calls.proofs.Meaning.{just_meets, is_refusal, once, without}
 use Rattle.gate_calls.proofs.methods.reply_without.Goals as goal
