@@ -110,7 +110,7 @@ module _ (emails : Rows) (uploads : List (List ℕ)) (wanted : EmailAsked) (id :
   ShowsFound (Err e) r = r ≡ Err (error_by e)
   ShowsFound (Ok None) r = r ≡ Ok (record { id = id; found = None })
   ShowsFound (Ok (Some octets)) r = (root : BlobRoot) × (leaves : List ℕ) × (message : Data) × IsBlobId root leaves id
-      × IsParsedObject (record { octets = octets; id = message_id leaves id }) wanted message × (r ≡ Ok (record { id = id; found = Some message }))
+      × IsParsedObject (Some id) (record { octets = octets; id = message_id leaves id }) wanted message × (r ≡ Ok (record { id = id; found = Some message }))
 
   abbrev ShowsBy : List BodyAsk → Result ShownBlob MethodError → Type 0
   ShowsBy asks r = (found : OctetsFound) × FindsBlob emails uploads id asks found × ShowsFound found r
@@ -123,9 +123,9 @@ module _ (emails : Rows) (uploads : List (List ℕ)) (wanted : EmailAsked) (id :
 
   one_message : (octets : List ℕ) (r s : Result ShownBlob MethodError) → ShowsFound (Ok (Some octets)) r → ShowsFound (Ok (Some octets)) s → r ≡ s
   one_message octets r s f g =
-      let P : List ℕ → Type 0 = λ leaves. IsParsedObject (record { octets = octets; id = message_id leaves id }) wanted f.2 in
+      let P : List ℕ → Type 0 = λ leaves. IsParsedObject (Some id) (record { octets = octets; id = message_id leaves id }) wanted f.2 in
       let m : MessageData = record { octets = octets; id = message_id g.1 id } in
-      let same = one_parsed_object m wanted f.2 g.2 (subst P (one_leaves_of f.0 g.0 f.1 g.1 id f.3 g.3) f.4) g.4 in
+      let same = one_parsed_object (Some id) m wanted f.2 g.2 (subst P (one_leaves_of f.0 g.0 f.1 g.1 id f.3 g.3) f.4) g.4 in
       f.5 ∙ ap (λ (d : Data). let b : Result ShownBlob MethodError = Ok (record { id = id; found = Some d }) in b) same ∙ sym g.5
 
   one_shown : (found : OctetsFound) (r s : Result ShownBlob MethodError) → ShowsFound found r → ShowsFound found s → r ≡ s

@@ -110,7 +110,7 @@ module _ (emails : Rows) (uploads : List (List ℕ)) (wanted : EmailAsked) (id t
 
     -- the octets are a message
     pub blob_parsed : (asks : List BodyAsk) (octets : List ℕ) (o : Option (List ℕ)) (message : Data) → o ≡ Some octets → FindsOctets emails uploads root leaves asks (Ok o)
-        → IsParsedObject (record { octets = octets; id = message_id leaves id }) wanted message
+        → IsParsedObject (Some id) (record { octets = octets; id = message_id leaves id }) wanted message
         → ShowsBlob emails uploads wanted id asks (Ok (record { id = id; found = Some message }))
     blob_parsed asks octets o message some finds parsed =
         let P : Option (List ℕ) → Type 0 = λ p. FindsOctets emails uploads root leaves asks (Ok p) in

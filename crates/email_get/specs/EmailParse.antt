@@ -67,7 +67,7 @@ pub data ShowsBlob (emails : Rows) (uploads : List (List ℕ)) (wanted : EmailAs
   NotFound : {asks : List BodyAsk} → FindsBlob emails uploads id asks (Ok None) → ShowsBlob emails uploads wanted id asks
       (Ok (record { id = id; found = None }))
   Parsed : {asks : List BodyAsk} (root : BlobRoot) (leaves octets : List ℕ) (message : Data) → IsBlobId root leaves id
-      → FindsOctets emails uploads root leaves asks (Ok (Some octets)) → IsParsedObject (record { octets = octets; id = message_id leaves id }) wanted message
+      → FindsOctets emails uploads root leaves asks (Ok (Some octets)) → IsParsedObject (Some id) (record { octets = octets; id = message_id leaves id }) wanted message
       → ShowsBlob emails uploads wanted id asks (Ok (record { id = id; found = Some message }))
   NoBody : {asks : List BodyAsk} (e : BodyError) → FindsBlob emails uploads id asks (Err e) → ShowsBlob emails uploads wanted id asks (Err (error_by e))
 

@@ -1,5 +1,5 @@
 // Email/parse.
-ghost use Rattle.std.specs.Prelude.{◌≡◌, ◌++◌, false, IfOk, IfSome, OnOk, codes, map, option_map};
+ghost use Rattle.std.specs.Prelude.{◌≡◌, ◌++◌, false, Some, IfOk, IfSome, OnOk, codes, map, option_map};
 ghost use Rattle.std.specs.Option.{option_copied};
 ghost use Rattle.serde_json.specs.Data.{string};
 ghost use Rattle.serde_json.specs.View.{view, items_of, members_view};
@@ -89,7 +89,7 @@ fn message_value(
     id: &str,
     octets: &Bytes,
 ) -> Result<Value, AllocError>
-    ensures object { IfOk result (λ value. IsParsedObject (record { octets = octets.now; id = spec.message_id blob.now.leaves.items id.now })
+    ensures object { IfOk result (λ value. IsParsedObject (Some id.now) (record { octets = octets.now; id = spec.message_id blob.now.leaves.items id.now })
         (email_asked wanted.now) (view value)) }
     ensures whole { IfOk result (λ value. has_float (view value) ≡ false) }
 {
@@ -97,7 +97,7 @@ fn message_value(
         octets: octets.as_slice(),
         id: message_id(blob, id),
     };
-    parsed_value(alloc, &message, wanted)
+    parsed_value(alloc, Some(id.as_bytes()), &message, wanted)
 }
 
 /// The message that a blob is as an object, where the blob is found.

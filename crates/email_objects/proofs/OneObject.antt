@@ -80,8 +80,10 @@ one_email_object row octets asked x y g h =
     one_object (row_facts row h.fields) ps m asked x y (subst (λ (fs : List NameAndRaw). IsObject (row_facts row fs) ps m asked x) same g.is_object) h.is_object
 
 -- so have octets that are no Email
-pub one_parsed_object : (m : MessageData) (asked : EmailAsked) (x y : Data) → IsParsedObject m asked x → IsParsedObject m asked y → x ≡ y
-one_parsed_object m asked x y g h =
+pub one_parsed_object : (blob_id : Option (List ℕ)) (m : MessageData) (asked : EmailAsked) (x y : Data) → IsParsedObject blob_id m asked x
+    → IsParsedObject blob_id m asked y → x ≡ y
+one_parsed_object blob_id m asked x y g h =
     let ps = without_body asked.properties in
     let same = one_fields asked.properties m.octets g.fields h.fields g.are_fields h.are_fields in
-    one_object (message_facts m h.fields) ps (Some m) asked x y (subst (λ (fs : List NameAndRaw). IsObject (message_facts m fs) ps (Some m) asked x) same g.is_object) h.is_object
+    one_object (message_facts blob_id m h.fields) ps (Some m) asked x y
+    (subst (λ (fs : List NameAndRaw). IsObject (message_facts blob_id m fs) ps (Some m) asked x) same g.is_object) h.is_object

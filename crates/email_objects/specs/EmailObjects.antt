@@ -48,11 +48,11 @@ pub record IsEmailObject (row : EmailRow) (octets : Option (List ℕ)) (asked : 
   pub are_fields : AreFields asked.properties row.header fields
   pub is_object : IsObject (row_facts row fields) (Id ∷ without_body asked.properties) (option_map (row_message row) octets) asked d
 
--- the object of octets that are no Email
-pub record IsParsedObject (m : MessageData) (asked : EmailAsked) (d : Data) : Type 0 where
+-- The object of octets that are no Email. Where their blob id leaves no number for their parts, these have none.
+pub record IsParsedObject (blob_id : Option (List ℕ)) (m : MessageData) (asked : EmailAsked) (d : Data) : Type 0 where
   pub fields : List NameAndRaw
   pub are_fields : AreFields asked.properties m.octets fields
-  pub is_object : IsObject (message_facts m fields) (without_body asked.properties) (Some m) asked d
+  pub is_object : IsObject (message_facts blob_id m fields) (without_body asked.properties) (Some m) asked d
 
 -- the default properties of an Email/parse, with all body values, none of them cut
 abbrev pub shown_asked : EmailAsked
@@ -63,4 +63,4 @@ shown_asked = record {
 
 -- the object that `show` writes of octets, whose blob id is that of an upload
 abbrev pub IsShownObject : List ℕ → Data → Type 0
-IsShownObject octets d = IsParsedObject (record { octets = octets; id = Some (blob_id octets) }) shown_asked d
+IsShownObject octets d = IsParsedObject (Some (blob_id octets)) (record { octets = octets; id = Some (blob_id octets) }) shown_asked d

@@ -21,9 +21,9 @@ row_blob_id row = root_text (OfEmail row.number)
 abbrev pub row_facts : EmailRow → List NameAndRaw → FactsData
 row_facts row fields = record { row = Some row; blob_id = Some (row_blob_id row); size = row.size; fields = fields }
 
--- of octets that are no Email
-abbrev pub message_facts : MessageData → List NameAndRaw → FactsData
-message_facts m fields = record { row = None; blob_id = m.id; size = length m.octets; fields = fields }
+-- of octets that are no Email, with the blob id that they have
+abbrev pub message_facts : Option (List ℕ) → MessageData → List NameAndRaw → FactsData
+message_facts blob_id m fields = record { row = None; blob_id = blob_id; size = length m.octets; fields = fields }
 
 -- an Email's message with these octets
 abbrev pub row_message : EmailRow → List ℕ → MessageData

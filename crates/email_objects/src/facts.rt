@@ -1,5 +1,6 @@
 // What is told of an Email beside its body.
 ghost use Rattle.std.specs.Prelude.{◌≡◌, IfOk};
+ghost use Rattle.std.specs.Option.{option_copied};
 ghost use Rattle.mail_header.specs.Fields.{names_and_raws};
 ghost use Rattle.body_parts.specs.Messages.{message_data};
 ghost use Rattle.email_objects.specs.EmailObjects.{AreFields};
@@ -61,19 +62,20 @@ pub(crate) fn row_facts<'a>(
     })
 }
 
-/// What is told of octets that are no Email.
+/// What is told of octets that are no Email, with the blob id that they have.
 pub(crate) fn message_facts<'a>(
     alloc: Global,
+    blob_id: Option<&'a [u8]>,
     message: &Message<'a>,
     properties: &[EmailProperty<'_>],
 ) -> Result<Facts<'a>, AllocError>
-    ensures facts { IfOk result (λ e. facts_data e ≡ spec.message_facts (message_data message.now) (names_and_raws e.fields)) }
+    ensures facts { IfOk result (λ e. facts_data e ≡ spec.message_facts (option_copied blob_id.entry) (message_data message.now) (names_and_raws e.fields)) }
     ensures fields { IfOk result (λ e. AreFields properties.now message.now.octets.now (names_and_raws e.fields)) }
 {
     let fields = fields_asked(alloc, message.octets, properties)?;
     Ok(Facts {
         row: None,
-        blob_id: message.id,
+        blob_id,
         size: message.octets.len() as u64,
         fields,
     })

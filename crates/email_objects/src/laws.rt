@@ -14,5 +14,6 @@ pub fn one_email_object()
 
 /// No octets have two.
 pub fn one_parsed_object()
-    ensures { (m : MessageData) (asked : EmailAsked) (d e : Data) → IsParsedObject m asked d → IsParsedObject m asked e → d ≡ e }
+    ensures { (blob_id : Option (List ℕ)) (m : MessageData) (asked : EmailAsked) (d e : Data)
+        → IsParsedObject blob_id m asked d → IsParsedObject blob_id m asked e → d ≡ e }
 {}

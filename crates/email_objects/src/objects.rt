@@ -41,12 +41,13 @@ fn row_members(
 /// The members of octets that are no Email for which their body isn't needed.
 fn message_members(
     alloc: Global,
+    blob_id: Option<&[u8]>,
     message: &Message<'_>,
     properties: &[EmailProperty<'_>],
 ) -> Result<Map<String, Value>, AllocError>
-    ensures { IfOk result (λ members. TellsMessage (message_data message.now) properties.now (members_view members.entries)) }
+    ensures { IfOk result (λ members. TellsMessage (option_copied blob_id.entry) (message_data message.now) properties.now (members_view members.entries)) }
 {
-    let facts = message_facts(alloc, message, properties)?;
+    let facts = message_facts(alloc, blob_id, message, properties)?;
     let mut members = Map::new(alloc);
     put_properties(&mut members, alloc, &facts, properties)?;
     Ok(members)
@@ -72,16 +73,17 @@ pub fn email_value(
 }
 
 /// The object of octets that are no Email with the properties that are asked, as an Email/parse answers it (RFC 8621 section 4.9). Any
-/// octets are a message.
+/// octets are a message. Its blob id may be one that leaves no number for its parts; they have their ids from the message's.
 pub fn parsed_value(
     alloc: Global,
+    blob_id: Option<&[u8]>,
     message: &Message<'_>,
     wanted: &EmailWanted<'_>,
 ) -> Result<Value, AllocError>
-    ensures object { IfOk result (λ value. IsParsedObject (message_data message.now) (email_asked wanted.now) (view value)) }
+    ensures object { IfOk result (λ value. IsParsedObject (option_copied blob_id.entry) (message_data message.now) (email_asked wanted.now) (view value)) }
     ensures whole { IfOk result (λ value. has_float (view value) ≡ false) }
 {
-    let mut members = message_members(alloc, message, wanted.properties.as_slice())?;
+    let mut members = message_members(alloc, blob_id, message, wanted.properties.as_slice())?;
     put_body(&mut members, alloc, message, wanted)?;
     Ok(Value::Object(members))
 }

@@ -36,12 +36,12 @@ fn shown_wanted<'a>(alloc: Global) -> Result<EmailWanted<'a>, AllocError>
 
 /// The object of octets that have this blob id.
 fn shown_value(alloc: Global, octets: &[u8], id: &[u8]) -> Result<Value, AllocError>
-    ensures object { IfOk result (λ value. IsParsedObject (record { octets = octets.now; id = Some id.now }) shown_asked (view value)) }
+    ensures object { IfOk result (λ value. IsParsedObject (Some id.now) (record { octets = octets.now; id = Some id.now }) shown_asked (view value)) }
     ensures whole { IfOk result (λ value. has_float (view value) ≡ false) }
 {
     let wanted = shown_wanted(alloc)?;
     let id = Some(id);
-    parsed_value(alloc, &Message { octets, id }, &wanted)
+    parsed_value(alloc, id, &Message { octets, id }, &wanted)
 }
 
 /// The object of octets that are no Email, as an Email/parse answers it (RFC 8621 section 4.9) with its default properties and all values

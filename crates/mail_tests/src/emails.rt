@@ -67,10 +67,10 @@ fn object_of(
 ) -> Result<Value, AllocError> {
     match word {
         "email" => email_value(alloc, &row_of(alloc, octets)?, Some(octets), wanted),
-        "nameless" => parsed_value(alloc, &Message { octets, id: None }, wanted),
+        "nameless" => parsed_value(alloc, None, &Message { octets, id: None }, wanted),
         _ => {
             let id = Some(LEAF_ID);
-            parsed_value(alloc, &Message { octets, id }, wanted)
+            parsed_value(alloc, id, &Message { octets, id }, wanted)
         }
     }
 }

@@ -1,5 +1,5 @@
 -- The members of an object for which the body isn't needed.
-use Rattle.std.specs.Prelude.{List, ◌∷◌}
+use Rattle.std.specs.Prelude.{ℕ, List, ◌∷◌, Option}
 use Rattle.serde_json.specs.Data.{Members, no_members}
 use Rattle.mail_header.specs.Fields.{NameAndRaw}
 use Rattle.mail_maps.specs.declared.row.EmailRow.{EmailRow}
@@ -17,7 +17,7 @@ pub record TellsRow (row : EmailRow) (properties : List EmailProperty) (members 
   pub are_told : PutsProperties (row_facts row fields) (Id ∷ without_body properties) no_members members
 
 -- of octets that are no Email: those of these properties for which the body isn't needed
-pub record TellsMessage (m : MessageData) (properties : List EmailProperty) (members : Members) : Type 0 where
+pub record TellsMessage (blob_id : Option (List ℕ)) (m : MessageData) (properties : List EmailProperty) (members : Members) : Type 0 where
   pub fields : List NameAndRaw
   pub are_fields : AreFields properties m.octets fields
-  pub are_told : PutsProperties (message_facts m fields) (without_body properties) no_members members
+  pub are_told : PutsProperties (message_facts blob_id m fields) (without_body properties) no_members members
