@@ -163,6 +163,6 @@ module _ (law : ChangesLaw) (gets : IsOneGet) (parses : IsOneParse) where
         now.1,
       )
 
-  pub one_list : (uses : Using) (o : MailAndUploads) (calls : List CallData) (asks : List BodyAsk) (xs ys : List CallData) → HasPlaces o.mail
-      → AnswersCalls uses o calls asks xs → AnswersCalls uses o calls asks ys → xs ≡ ys
-  one_list uses o calls asks xs ys room a b = (lists uses o room [] [] a b refl refl).1
+  pub one_list : (uses : Using) (o : MailAndUploads) (calls : List CallData) (asks more also later : List BodyAsk) (xs ys : List CallData) → HasPlaces o.mail
+      → AnswersCalls uses o calls asks xs → AnswersCalls uses o calls also ys → asks ++ more ≡ also ++ later → (asks ≡ also) × (xs ≡ ys)
+  one_list uses o calls asks more also later xs ys room a b same = lists uses o room more later a b refl same

@@ -1,5 +1,5 @@
 //! Laws of answers to calls, as clauses of functions that do nothing.
-ghost use Rattle.std.specs.Prelude.{◌≡◌, List};
+ghost use Rattle.std.specs.Prelude.{◌≡◌, ◌++◌, List};
 ghost use Rattle.email_bodies.specs.Asking.{BodyAsk};
 ghost use Rattle.jmap_methods.specs.declared.using.Using.{Using};
 ghost use Rattle.jmap_core.specs.Request.{CallData};
@@ -10,10 +10,12 @@ ghost use Rattle.gate_calls.specs.Places.{HasPlaces};
 use email_get::laws::{one_get_answer, one_parse_answer};
 use read_methods::laws::one_changes_answer;
 
-/// Over some mail and uploads, and by what was asked and how it was answered, the calls of a request have one list of responses.
+/// Over some mail and uploads the calls of a request ask for bodies and have responses in one way: as long as bodies come or don't as before,
+/// the same are asked, and once all are asked the responses are the same.
 pub fn one_list_of_responses()
-    ensures { (uses : Using) (over : MailAndUploads) (calls : List CallData) (asks : List BodyAsk) (a b : List CallData)
-        → HasPlaces over.mail → AnswersCalls uses over calls asks a → AnswersCalls uses over calls asks b → a ≡ b }
+    ensures { (uses : Using) (over : MailAndUploads) (calls : List CallData) (asks more also later : List BodyAsk) (a b : List CallData)
+        → HasPlaces over.mail → AnswersCalls uses over calls asks a → AnswersCalls uses over calls also b → asks ++ more ≡ also ++ later
+        → (asks ≡ also) × (a ≡ b) }
 {
     one_changes_answer();
     one_get_answer();

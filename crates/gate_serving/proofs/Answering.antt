@@ -340,14 +340,14 @@ pub nothing_changed : {S X : Type 0} (Means : X → List BodyAsk → Type 0) (be
 nothing_changed Means before after (Ok x) makes = none_changed makes.asked
 nothing_changed Means before after (Err e) makes = elim makes.ends [ inl none ↦ none ∙ none_changed makes.asked | inr one ↦ one.1 ∙ none_changed makes.asked ]
 
-no_asks : (account : Account) (e : MethodError) (uploads : List (List ℕ)) (asking : Asking) (asks : List BodyAsk) (answer : Answer) → asks_for_mail asking ≡ true
+no_asks : (account : Account) (e : MethodError) (uploads : List (List ℕ)) (asking : Asking) (asks : List BodyAsk) (answer : Answer)
     → IsAnswer account (record { mail = Err e; uploads = uploads }) asking asks answer → asks ≡ []
-no_asks account e uploads (Calls request) asks answer needs is = none_asked is.1
-no_asks account e uploads (Problem p) asks answer needs is = is.0
-no_asks account e uploads Session asks answer needs is = is.0
-no_asks account e uploads (Upload media octets) asks answer needs is = is.0
-no_asks account e uploads (Download blob media) asks answer needs is = is.0
-no_asks account e uploads (Refused refusal) asks answer needs is = is.0
+no_asks account e uploads (Calls request) asks answer is = none_asked is.1
+no_asks account e uploads (Problem p) asks answer is = is.0
+no_asks account e uploads Session asks answer is = is.0
+no_asks account e uploads (Upload media octets) asks answer is = is.0
+no_asks account e uploads (Download blob media) asks answer is = is.0
+no_asks account e uploads (Refused refusal) asks answer is = is.0
 
 -- the response without mail, once the link life is over
 pub finished_untold : {door : Door} {account : Account} {uploads : List (List ℕ)} {asking : Asking} {machine kept : Machine} {client : ClientState} {how : Fall} {p : Progress}
@@ -372,7 +372,7 @@ finished_untold {client = client} {p = p} {was = was} {then = then} {now = now} 
 finished_untold {door} {account} {uploads} {asking} {client = client} {how = how} {p = p} {was = was} {then = then} {now = now} {ys = ys} error (Ok r) needs came is hangs same made of held =
     let so = made r refl in
     let response : IsResponse door account (record { mail = Err error; uploads = uploads }) asking so.0 (text_sent r) = so.1 (record { mail = Err error; uploads = uploads }) of in
-    let none : so.0 ≡ [] = no_asks account error uploads asking so.0 response.answer needs response.is_answer in
+    let none : so.0 ≡ [] = no_asks account error uploads asking so.0 response.answer response.is_answer in
     let mail_is : mailing_by p.standing p.machine.known ≡ Err error =
     ap (λ (s : Standing). mailing_by s p.machine.known) came.standing_is ∙ ap (λ (x : MethodError). let y : Mailing = Err x in y) (sym is) in
     record {
@@ -427,7 +427,7 @@ answers_at_once gate before secrets asking (Err e) f s holds needless rest held 
     mail = Err ServerUnavailable;
     asks = [];
     done = idle s.machine;
-    work = NoMail needless refl refl refl;
+    work = NoMail needless refl refl refl refl;
     machine_is = refl;
     bears = bears_none f f (later_same f f refl);
     may = subst (λ (u : List (List ℕ)). MayKeepUpload asking u gate.uploads) holds.uploads may;
@@ -442,7 +442,7 @@ answers_at_once gate before secrets asking (Ok r) f s holds needless rest held m
         mail = Err ServerUnavailable;
         asks = response.0;
         done = idle s.machine;
-        work = NoMail needless refl refl refl;
+        work = NoMail needless (no_asks (account_by gate secrets) ServerUnavailable gate.uploads asking response.0 response.1.answer response.1.is_answer) refl refl refl;
         machine_is = refl;
         bears = bears_none f f (later_same f f refl);
         may = subst (λ (u : List (List ℕ)). MayKeepUpload asking u gate.uploads) holds.uploads may;

@@ -31,7 +31,7 @@ CallsLaw = (before : Progress) (asks : List BodyAsk) (events : List Event) (afte
 
 works_on : Law → CallsLaw → {account : Account} {before : MachineState} {asking : Asking} {events : List Event} {mail : Mailing} {asks : List BodyAsk} {after : Progress}
     → Work account before asking events mail asks after → MachineGoesOn before events after.machine
-works_on law calls {before = before} {events = events} {after = after} (NoMail apart none mail is) =
+works_on law calls {before = before} {events = events} {after = after} (NoMail apart no_asks none mail is) =
     goes_still before after.machine events (ap (λ (p : Progress). p.machine) is)
 works_on law calls {account} {before} {events = events} {asks = asks} (WithMail needs work) =
     let prepared : MachineGoesOn before work.beginning work.begun.machine =

@@ -36,7 +36,7 @@ CallsLaw = (before : Progress) (asks : List BodyAsk) (events : List Event) (afte
 
 work_knows : NextLaw → CallsLaw → {account : Account} {before : MachineState} {asking : Asking} {events : List Event} {mail : Mailing} {asks : List BodyAsk} {after : Progress}
     → Work account before asking events mail asks after → KnowsExchanges before → KnowsExchanges after.machine
-work_knows law calls {before = before} {after = after} (NoMail apart none mail is) knows = knows_same before after.machine (ap (λ (p : Progress). p.machine) is) knows
+work_knows law calls {before = before} {after = after} (NoMail apart no_asks none mail is) knows = knows_same before after.machine (ap (λ (p : Progress). p.machine) is) knows
 work_knows law calls {account} {before} {asks = asks} {after = after} (WithMail needs work) knows =
     knows_same work.answered.machine after.machine (ap (λ (p : Progress). p.machine) work.after_is)
     (calls work.begun asks work.fetching work.answered work.calls_ask (law account.user account.password before work.beginning work.begun work.prepares knows))
@@ -53,7 +53,7 @@ places_by standing.OutOfMemory m knows = tt
 -- the mail over which calls are answered has places left
 pub work_places : NextLaw → {account : Account} {before : MachineState} {asking : Asking} {events : List Event} {mail : Mailing} {asks : List BodyAsk} {after : Progress}
     → Work account before asking events mail asks after → KnowsExchanges before → HasPlaces mail
-work_places law (NoMail apart none mail_is is) knows = subst (λ (m : Mailing). HasPlaces m) (sym mail_is) tt
+work_places law (NoMail apart no_asks none mail_is is) knows = subst (λ (m : Mailing). HasPlaces m) (sym mail_is) tt
 work_places law {account} {before} (WithMail needs work) knows =
     subst (λ (m : Mailing). HasPlaces m) (sym work.mail_is)
     (places_by work.begun.standing work.begun.machine (law account.user account.password before work.beginning work.begun work.prepares knows))

@@ -37,7 +37,7 @@ unblamed blames was now bears stood =
 pub no_life : (account : Account) (before : MachineState) (asking : Asking) (events : List Event) (mail : Mailing) (asks : List BodyAsk) (after : Progress)
     → Work account before asking events mail asks after
     → asks_for_mail asking ≡ false → (events ≡ []) × (after.machine ≡ before)
-no_life account before asking events mail asks after (NoMail apart none a is) apart_is = (none, ap (λ (p : Progress). p.machine) is)
+no_life account before asking events mail asks after (NoMail apart no_asks none a is) apart_is = (none, ap (λ (p : Progress). p.machine) is)
 no_life account before asking events mail asks after (WithMail needs work) apart_is = absurd (cc (needs, apart_is))
 
 -- ---- a store that obeys
@@ -120,7 +120,7 @@ served_from asking mail asks events begun answered after mail_is calls is (inr o
 -- where the store obeyed and nothing is blamed, calls are answered over the mail that is served then; or memory ran out
 pub answered_from : Law → (account : Account) (before : MachineState) (asking : Asking) (events : List Event) (mail : Mailing) (asks : List BodyAsk) (after : Progress)
     (work : Work account before asking events mail asks after) → IsWorkObeyed work → after.blamed ≡ no_faults → IsAnsweredFrom asking mail after ⊎ (after.standing ≡ OutOfMemory)
-answered_from law account before asking events mail asks after (NoMail apart a b c) obeyed none = inl (inl apart)
+answered_from law account before asking events mail asks after (NoMail apart a b c d) obeyed none = inl (inl apart)
 answered_from law account before asking events mail asks after (WithMail a work) obeyed none =
     served_from asking mail asks work.fetching work.begun work.answered after work.mail_is work.calls_ask work.after_is
     (law account.user account.password before work.beginning work.begun work.prepares obeyed

@@ -26,7 +26,7 @@ use Rattle.gate_serving.specs.Work.{Work, NoMail, WithMail}
 -- The store obeyed all that a request asks of it, where it asks anything.
 abbrev pub IsWorkObeyed : {account : Account} {before : MachineState} {asking : Asking} {events : List Event} {mail : Mailing} {asks : List BodyAsk} {after : Progress}
     → Work account before asking events mail asks after → Type 0
-IsWorkObeyed (NoMail a b c d) = Unit {0}
+IsWorkObeyed (NoMail a b c d e) = Unit {0}
 IsWorkObeyed (WithMail a work) = IsObeyedBeginning work.prepares
 
 -- The calls are answered over the mail that is served then; or none of them needs it.

@@ -26,8 +26,8 @@ pub record WorksOverMail (account : Account) (before : MachineState) (events : L
   pub whole : events ≡ beginning ++ (fetching ++ ending)
   pub after_is : after ≡ record answered { left = None }
 
--- A link life stands only after a request that needs the mail. No mail that is kept is served without one.
+-- A link life stands only after a request that needs the mail. No mail that is kept is served without one, and no body is asked.
 pub data Work (account : Account) (before : MachineState) (asking : Asking) (events : List Event) (mail : Mailing) (asks : List BodyAsk) (after : Progress) : Type 0 where
-  NoMail : asks_for_mail asking ≡ false → events ≡ [] → mail ≡ Err ServerUnavailable → after ≡ idle before
+  NoMail : asks_for_mail asking ≡ false → asks ≡ [] → events ≡ [] → mail ≡ Err ServerUnavailable → after ≡ idle before
       → Work account before asking events mail asks after
   WithMail : asks_for_mail asking ≡ true → WorksOverMail account before events mail asks after → Work account before asking events mail asks after

@@ -1,5 +1,5 @@
 // What the definitions rule out.
-ghost use Rattle.std.specs.Prelude.{◌≡◌, ◌⊎◌, ℕ, List, [], false};
+ghost use Rattle.std.specs.Prelude.{◌≡◌, ◌⊎◌, ◌++◌, ℕ, List, [], false};
 ghost use Rattle.gate_world.specs.Causes.{Faults, no_faults};
 ghost use Rattle.gate_world.specs.declared.event.Event.{Event};
 ghost use Rattle.gate_machine.specs.Progress.{Bears, Progress};
@@ -73,10 +73,12 @@ pub fn histories_go_on()
     calls_keep_history();
 }
 
-/// Over some mail and uploads, and by the bodies that were asked, what is asked has one response at a door.
+/// Over some mail and uploads what is asked has one response at a door, and asks for bodies in one way: as long as these come or don't as
+/// before, the same are asked.
 pub fn one_response()
-    ensures { (door : Door) (account : Account) (over : MailAndUploads) (asking : Asking) (asks : List BodyAsk) (a b : List ℕ)
-        → HasPlaces over.mail → IsResponse door account over asking asks a → IsResponse door account over asking asks b → a ≡ b }
+    ensures { (door : Door) (account : Account) (over : MailAndUploads) (asking : Asking) (asks more also later : List BodyAsk) (a b : List ℕ)
+        → HasPlaces over.mail → IsResponse door account over asking asks a → IsResponse door account over asking also b
+        → asks ++ more ≡ also ++ later → (asks ≡ also) × (a ≡ b) }
 {
     one_list_of_responses();
     one_blob_found();

@@ -2,5 +2,5 @@ use Rattle.gate_calls.proofs.OneAnswer.{one_list}
 use Rattle.gate_calls.proofs.laws.one_list_of_responses.Goals as goal
 
 pub returns : goal.returns
-returns c = λ uses over calls asks a b room first second.
-    one_list c.one_changes_answer.ensures c.one_get_answer.ensures c.one_parse_answer.ensures uses over calls asks a b room first second
+returns c = λ uses over calls asks more also later a b room first second same.
+    one_list c.one_changes_answer.ensures c.one_get_answer.ensures c.one_parse_answer.ensures uses over calls asks more also later a b room first second same
