@@ -1,5 +1,6 @@
 pub mod Stages
 mod Owed
+mod Coming
 mod Unequal
 mod Keeping
 pub mod Going

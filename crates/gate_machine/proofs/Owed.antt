@@ -104,7 +104,7 @@ connects_end {user} {password} law (Lived life is lives) w = lives_end law lives
 
 -- ---- settling
 
-settles_from : {before after : Progress} {events : List Event} → Settles before events after → before.standing ≡ Stands
+pub settles_from : {before after : Progress} {events : List Event} → Settles before events after → before.standing ≡ Stands
 settles_from (Same k is a b c d) = is
 settles_from (Moves new next a b c d) = new.stands
 settles_from (Spends new a b c) = new.stands

@@ -1,16 +1,21 @@
 -- Octets by which the store obeys all that a request asks of it.
-use Rattle.std.specs.Prelude.{◌≡◌, ◌++◌, ℕ, Bool, List, [], ◌∷◌, Some, None, Ok}
+use Rattle.std.specs.Prelude.{◌≡◌, ◌++◌, ℕ, Bool, List, [], ◌∷◌, Option, Some, None, Result, Ok, All, IsSome}
 use Rattle.std.specs.List.{flat_map}
 use Rattle.gate_world.specs.Octets.{store_gave_in}
 use Rattle.gate_world.specs.declared.event.Event.{Event}
 use Rattle.imap_syntax.specs.declared.response.Response.{Response}
+use Rattle.email_bodies.specs.Asking.{BodyAsk}
+use Rattle.email_bodies.specs.declared.source.MessagePlace.{MessagePlace}
 use Rattle.imap_exchange.specs.Begins.{Begins as begins_with}
+use Rattle.imap_exchange.specs.declared.link_end.LinkEnd.{LinkEnd}
+use Rattle.imap_client.specs.Bodies.{body_from, body_start}
 use Rattle.imap_client.specs.Connecting.{greeting_says, connect_plan}
 use Rattle.imap_client.specs.LinkLife.{LinkLife, next_number, selected}
 use Rattle.imap_client.specs.Obeying.{Obeys}
 use Rattle.imap_client.specs.Plans.{Planned}
 use Rattle.imap_client.specs.Rounds.{round_plan}
 use Rattle.gate_machine.specs.Beginning.{Dials, RunsRound, PreparesMail}
+use Rattle.gate_machine.specs.Fetching.{AsksStore, AsksBody, IsKept, IsTold, Ends, HasEnded, AsksBodies, NoBodies, MoreBodies, CallsAsk, AllAsked, RunsShort}
 use Rattle.gate_machine.specs.History.{KnownMail, IsSpent}
 use Rattle.gate_machine.specs.Progress.{Progress}
 use Rattle.gate_machine.specs.Machine.{MachineState}
@@ -47,3 +52,36 @@ pub record IsObeyedBeginning {user password : List ℕ} {before : MachineState} 
 -- the round stands, and mail is served
 abbrev pub IsServed : Progress → Type 0
 IsServed p = (k : KnownMail) × (p.standing ≡ Stands) × (p.machine.known ≡ Some k)
+
+-- ---- bodies
+
+-- the store obeyed the fetch of a body, and told it
+abbrev pub IsFetchObeyed : {message : MessagePlace} {before : Progress} {result : Result (List ℕ) LinkEnd} {events : List Event}
+    → AsksStore message before result events → Type 0
+IsFetchObeyed {message = message} {events = events} a =
+    ObeysIn (body_from message.folder message.uid (body_start (selected a.life) a.kept.known.told.mail message.folder)) a.life events
+
+-- it did where it was asked
+abbrev pub IsAskObeyed : {message : MessagePlace} {before : Progress} {body : Option (List ℕ)} {events : List Event} {after : Progress}
+    → AsksBody message before body events after → Type 0
+IsAskObeyed (IsKept a b c d e) = Unit {0}
+IsAskObeyed (IsTold octets asks a b) = IsFetchObeyed asks
+IsAskObeyed (Ends e asks a b c) = IsFetchObeyed asks
+IsAskObeyed (HasEnded a b c d e) = Unit {0}
+
+-- and each time that it was
+abbrev pub AreAsksObeyed : {before : Progress} {asks : List BodyAsk} {events : List Event} {after : Progress} → AsksBodies before asks events after → Type 0
+AreAsksObeyed NoBodies = Unit {0}
+AreAsksObeyed (MoreBodies next bodies) = AreAsksObeyed bodies × IsAskObeyed next.asks
+
+-- so it did for the calls of a request, unless memory ran out
+abbrev pub AreCallsObeyed : {before : Progress} {asks : List BodyAsk} {events : List Event} {after : Progress} → CallsAsk before asks events after → Type 0
+AreCallsObeyed (AllAsked bodies) = AreAsksObeyed bodies
+AreCallsObeyed (RunsShort short) = Unit {0}
+
+-- each body that was asked came
+abbrev pub HasCome : BodyAsk → Type 0
+HasCome ask = IsSome ask.body
+
+abbrev pub AllCame : List BodyAsk → Type 0
+AllCame asks = All HasCome asks

@@ -1,20 +1,20 @@
 // What a request is owed, what it leaves of the history, and what that comes of.
-ghost use Rattle.std.specs.Prelude.{◌≡◌, ◌⊎◌, ℕ, List};
+ghost use Rattle.std.specs.Prelude.{◌≡◌, ◌⊎◌, ℕ, List, true};
 ghost use Rattle.gate_world.specs.Causes.{no_faults};
 ghost use Rattle.gate_world.specs.declared.event.Event.{Event};
 ghost use Rattle.gate_machine.specs.Beginning.{PreparesMail};
 ghost use Rattle.mail_state.specs.History.{MailHistory};
 ghost use Rattle.email_bodies.specs.Asking.{BodyAsk};
-ghost use Rattle.gate_machine.specs.Fetching.{CallsAsk};
+ghost use Rattle.gate_machine.specs.Fetching.{AsksBodies, CallsAsk};
 ghost use Rattle.gate_machine.specs.Going.{HasGoneOn, MachineGoesOn};
 ghost use Rattle.gate_machine.specs.Machine.{MachineState, opened};
-ghost use Rattle.gate_machine.specs.Obeying.{IsObeyedBeginning, IsServed};
-ghost use Rattle.gate_machine.specs.Progress.{Progress};
+ghost use Rattle.gate_machine.specs.Obeying.{AllCame, AreAsksObeyed, IsObeyedBeginning, IsServed};
+ghost use Rattle.gate_machine.specs.Progress.{Progress, is_up};
 ghost use Rattle.gate_machine.specs.Sources.{KnowsExchanges};
 ghost use Rattle.gate_machine.specs.Staying.{KeepsMaps, KeepsTouches};
-ghost use Rattle.gate_machine.specs.declared.standing.Standing.TheVariants.{OutOfMemory};
+ghost use Rattle.gate_machine.specs.declared.standing.Standing.TheVariants.{OutOfMemory, Stands};
 
-use imap_client::obeyed_plans_end_ok;
+use imap_client::{finished_lives_go_on, obeyed_plans_end_ok};
 
 /// Where the store obeys, a place is left and no fault is blamed, the round stands and what it told is served; or memory
 /// ran out.
@@ -23,6 +23,17 @@ pub fn obeyed_rounds_stand()
         → IsObeyedBeginning begins → after.blamed ≡ no_faults → IsServed after ⊎ (after.standing ≡ OutOfMemory) }
 {
     obeyed_plans_end_ok();
+}
+
+/// Once a round stands the link is up. As long as it is, the store obeys and no fault is blamed, each body comes that calls ask for.
+pub fn obeyed_bodies_come()
+    ensures up { (user password : List ℕ) (before : MachineState) (events : List Event) (after : Progress)
+        → PreparesMail user password before events after → after.standing ≡ Stands → is_up after.left ≡ true }
+    ensures come { (before after : Progress) (asks : List BodyAsk) (events : List Event) (bodies : AsksBodies before asks events after)
+        → is_up before.left ≡ true → AreAsksObeyed bodies → after.blamed ≡ no_faults → AllCame asks }
+{
+    obeyed_plans_end_ok();
+    finished_lives_go_on();
 }
 
 /// Over a request the history that is served goes on, or the epoch that there is after it was drawn in it.

@@ -1,5 +1,5 @@
 -- What is blamed, and what a request without need of the mail adds.
-use Rattle.std.proofs.Common.{arith, ◌≡◌, ◌+◌, ◌-◌, ◌^◌, ◌<◌, ℕ, false, List, [], Option, Some, None, Ok, ◌⊎◌, inl, inr, refl, sym, ◌∙◌, ap}
+use Rattle.std.proofs.Common.{arith, ◌≡◌, ◌+◌, ◌-◌, ◌^◌, ◌<◌, ℕ, true, false, List, [], Option, Some, None, Ok, ◌⊎◌, inl, inr, refl, sym, ◌∙◌, ap}
 use Rattle.gate_world.specs.Causes.{Faults, RoseBy, no_faults}
 use Rattle.gate_world.specs.declared.event.Event.{Event}
 use Rattle.email_bodies.specs.Asking.{BodyAsk}
@@ -9,11 +9,11 @@ use Rattle.gate_machine.specs.Fetching.{AsksBody, IsKept, Ends, HasEnded, AsksBo
 use Rattle.gate_machine.specs.Fetching as fetching
 use Rattle.gate_machine.specs.History.{KnownMail}
 use Rattle.gate_machine.proofs.Asking.{bodies_stay}
-use Rattle.gate_machine.specs.Progress.{Bears, Progress, blame_link}
+use Rattle.gate_machine.specs.Progress.{Bears, Progress, blame_link, is_up}
 use Rattle.gate_machine.specs.Machine.{MachineState}
 use Rattle.gate_machine.specs.Beginning.{PreparesMail}
-use Rattle.gate_machine.specs.Obeying.{IsObeyedBeginning, IsServed}
-use Rattle.gate_machine.specs.declared.standing.Standing.TheVariants.{OutOfMemory}
+use Rattle.gate_machine.specs.Obeying.{AllCame, AreAsksObeyed, AreCallsObeyed, IsObeyedBeginning, IsServed}
+use Rattle.gate_machine.specs.declared.standing.Standing.TheVariants.{OutOfMemory, Stands}
 use Rattle.gate_calls.specs.Mailings.{Mailing, mailing_by}
 use Rattle.gate_serving.specs.Complete.{IsWorkObeyed, IsAnsweredFrom}
 use Rattle.gate_serving.specs.Requests.{Account, Asking, asks_for_mail}
@@ -46,6 +46,11 @@ abbrev pub Law : Type 0
 Law = (user password : List ℕ) (before : MachineState) (events : List Event) (after : Progress) (begins : PreparesMail user password before events after) → IsObeyedBeginning begins
     → after.blamed ≡ no_faults
     → IsServed after ⊎ (after.standing ≡ OutOfMemory)
+
+-- once a round stands the link is up
+abbrev pub UpLaw : Type 0
+UpLaw = (user password : List ℕ) (before : MachineState) (events : List Event) (after : Progress) → PreparesMail user password before events after → after.standing ≡ Stands
+    → is_up after.left ≡ true
 
 -- ---- what calls ask
 
@@ -82,11 +87,18 @@ lacking_out (fetching.Unasked none is) = ap (λ (x : Progress). x.standing) is
 lacking_out (fetching.Asked asks is) = ap (λ (x : Progress). x.standing) is
 lacking_out (fetching.NotKept octets asks is) = ap (λ (x : Progress). x.standing) is
 
--- the history that was served is served still; or memory ran out
-served_still : {p q : Progress} {asks : List BodyAsk} {events : List Event} (k : KnownMail) → p.machine.known ≡ Some k → CallsAsk p asks events q
-    → ((l : KnownMail) × (q.machine.known ≡ Some l) × (l.history ≡ k.history)) ⊎ (q.standing ≡ OutOfMemory)
-served_still k is (AllAsked bodies) = let stays = bodies_stay k is bodies in inl (stays.known, stays.ready, stays.history)
-served_still k is (RunsShort short) = inr (lacking_out short.lacks)
+-- what is proved of the bodies that calls ask for, over a link that is up
+abbrev pub BodiesLaw : Type 0
+BodiesLaw = (before after : Progress) (asks : List BodyAsk) (events : List Event) (bodies : AsksBodies before asks events after) → is_up before.left ≡ true → AreAsksObeyed bodies
+    → after.blamed ≡ no_faults → AllCame asks
+
+-- the history that was served is served still, and the bodies came; or memory ran out
+served_still : BodiesLaw → {p q : Progress} {asks : List BodyAsk} {events : List Event} (k : KnownMail) → p.machine.known ≡ Some k → is_up p.left ≡ true
+    → (calls : CallsAsk p asks events q) → AreCallsObeyed calls → q.blamed ≡ no_faults
+    → ((l : KnownMail) × (q.machine.known ≡ Some l) × (l.history ≡ k.history) × AllCame asks) ⊎ (q.standing ≡ OutOfMemory)
+served_still come {p} {q} {asks} {events} k is up (AllAsked bodies) obeyed none =
+    let stays = bodies_stay k is bodies in inl (stays.known, stays.ready, stays.history, come p q asks events bodies up obeyed none)
+served_still come k is up (RunsShort short) obeyed none = inr (lacking_out short.lacks)
 
 still_out : {p q : Progress} {asks : List BodyAsk} {events : List Event} → p.standing ≡ OutOfMemory → CallsAsk p asks events q → q.standing ≡ OutOfMemory
 still_out out (AllAsked bodies) = still bodies ∙ out
@@ -104,24 +116,35 @@ still_out out (RunsShort short) = lacking_out short.lacks
 
 -- ---- what is answered
 
-served_from : (asking : Asking) (mail : Mailing) (asks : List BodyAsk) (events : List Event) (begun answered after : Progress)
-    → mail ≡ mailing_by begun.standing begun.machine.known → CallsAsk begun asks events answered → after ≡ record answered { left = None }
-    → IsServed begun ⊎ (begun.standing ≡ OutOfMemory) → IsAnsweredFrom asking mail after ⊎ (after.standing ≡ OutOfMemory)
-served_from asking mail asks events begun answered after mail_is calls is (inl (k, stands, known)) = elim (served_still k known calls) [
-  | inl still ↦ inl (inr (
-    still.0,
-    ap (λ (p : Progress). p.machine.known) is ∙ still.1,
-    mail_is ∙ (λ i. mailing_by (stands i) (known i)) ∙ ap (λ (h : MailHistory). let x : Mailing = Ok h in x) (sym still.2),
-  ))
-  | inr out ↦ inr (ap (λ (p : Progress). p.standing) is ∙ out)
-]
-served_from asking mail asks events begun answered after mail_is calls is (inr out) = inr (ap (λ (p : Progress). p.standing) is ∙ still_out out calls)
+served_from : BodiesLaw → (asking : Asking) (mail : Mailing) (asks : List BodyAsk) (events : List Event) (begun answered after : Progress)
+    → mail ≡ mailing_by begun.standing begun.machine.known → (calls : CallsAsk begun asks events answered) → AreCallsObeyed calls → after ≡ record answered { left = None }
+    → answered.blamed ≡ no_faults → (begun.standing ≡ Stands → is_up begun.left ≡ true)
+    → IsServed begun ⊎ (begun.standing ≡ OutOfMemory) → IsAnsweredFrom asking mail asks after ⊎ (after.standing ≡ OutOfMemory)
+served_from come asking mail asks events begun answered after mail_is calls obeyed is none up (inl (k, stands, known)) =
+    elim (served_still come k known (up stands) calls obeyed none) [
+      | inl still ↦ inl (inr (
+        still.0,
+        ap (λ (p : Progress). p.machine.known) is ∙ still.1,
+        mail_is ∙ (λ i. mailing_by (stands i) (known i)) ∙ ap (λ (h : MailHistory). let x : Mailing = Ok h in x) (sym still.2),
+        still.3,
+      ))
+      | inr out ↦ inr (ap (λ (p : Progress). p.standing) is ∙ out)
+    ]
+served_from come asking mail asks events begun answered after mail_is calls obeyed is none up (inr out) = inr (ap (λ (p : Progress). p.standing) is ∙ still_out out calls)
 
--- where the store obeyed and nothing is blamed, calls are answered over the mail that is served then; or memory ran out
-pub answered_from : Law → (account : Account) (before : MachineState) (asking : Asking) (events : List Event) (mail : Mailing) (asks : List BodyAsk) (after : Progress)
-    (work : Work account before asking events mail asks after) → IsWorkObeyed work → after.blamed ≡ no_faults → IsAnsweredFrom asking mail after ⊎ (after.standing ≡ OutOfMemory)
-answered_from law account before asking events mail asks after (NoMail apart a b c d) obeyed none = inl (inl apart)
-answered_from law account before asking events mail asks after (WithMail a work) obeyed none =
-    served_from asking mail asks work.fetching work.begun work.answered after work.mail_is work.calls_ask work.after_is
-    (law account.user account.password before work.beginning work.begun work.prepares obeyed
-    (blamed_calls work.calls_ask (ap (λ (p : Progress). p.blamed) (sym work.after_is) ∙ none)))
+-- what is proved of the work on a request
+abbrev pub AnsweredLaw : Type 0
+AnsweredLaw = (account : Account) (before : MachineState) (asking : Asking) (events : List Event) (mail : Mailing) (asks : List BodyAsk) (after : Progress)
+    (work : Work account before asking events mail asks after) → IsWorkObeyed work → after.blamed ≡ no_faults
+    → IsAnsweredFrom asking mail asks after ⊎ (after.standing ≡ OutOfMemory)
+
+-- where the store obeyed and nothing is blamed, calls are answered over the mail that is served then and bodies that come; or memory ran out
+pub answered_from : Law → UpLaw → BodiesLaw → (account : Account) (before : MachineState) (asking : Asking) (events : List Event) (mail : Mailing) (asks : List BodyAsk) (after : Progress)
+    (work : Work account before asking events mail asks after) → IsWorkObeyed work → after.blamed ≡ no_faults
+    → IsAnsweredFrom asking mail asks after ⊎ (after.standing ≡ OutOfMemory)
+answered_from law links come account before asking events mail asks after (NoMail apart a b c d) obeyed none = inl (inl (apart, a))
+answered_from law links come account before asking events mail asks after (WithMail a work) obeyed none =
+    let free : work.answered.blamed ≡ no_faults = ap (λ (p : Progress). p.blamed) (sym work.after_is) ∙ none in
+    served_from come asking mail asks work.fetching work.begun work.answered after work.mail_is work.calls_ask obeyed.1 work.after_is free
+    (links account.user account.password before work.beginning work.begun work.prepares)
+    (law account.user account.password before work.beginning work.begun work.prepares obeyed.0 (blamed_calls work.calls_ask free))

@@ -16,7 +16,7 @@ use Rattle.gate_serving.specs.Requests.{Account}
 use Rattle.gate_serving.specs.Run.{Run, Begun, Then}
 use Rattle.gate_serving.specs.Segment.{AnswersAsking, Replies, Answered, LacksReading, LacksAnswering, Segment, NoneComes, NotAccepted, Left, Unasked, Replied}
 use Rattle.gate_serving.specs.Segment.{blame_front, blamed, reply_blamed, unsent, went}
-use Rattle.gate_serving.proofs.Needs.{Law, answered_from}
+use Rattle.gate_serving.proofs.Needs.{AnsweredLaw}
 
 -- one more is never none
 never : (n : ℕ) → n + 1 ≡ 0 → ⊥
@@ -39,7 +39,7 @@ blamed_once f is = never f.front (ap (λ (g : Faults). g.front) is)
 
 takes : (door : Door) (account : Account) (events replied heard : List Event) (text : List ℕ) (how : Served) (before after : GateState)
     → events ≡ Accepted ∷ ((replied ++ heard) ++ ClientDone ∷ []) → (a : AnswersAsking door account before replied text after) → Hears text heard → how ≡ served.Whole
-    → IsAnsweredFrom a.asking a.mail a.done ⊎ (a.done.standing ≡ OutOfMemory) → IsTold door account events how after
+    → IsAnsweredFrom a.asking a.mail a.asks a.done ⊎ (a.done.standing ≡ OutOfMemory) → IsTold door account events how after
 takes door account events replied heard text how before after is a hears whole (inl from) =
     IsAnswered record {
       asked = a.asked;
@@ -59,19 +59,19 @@ takes door account events replied heard text how before after is a hears whole (
     } whole
 takes door account events replied heard text how before after is a hears whole (inr out) = absurd (a.stands out)
 
-told_by : Law → (door : Door) (account : Account) (before : GateState) (events replied heard : List Event) (text : List ℕ) (how : Served) (after : GateState)
+told_by : AnsweredLaw → (door : Door) (account : Account) (before : GateState) (events replied heard : List Event) (text : List ℕ) (how : Served) (after : GateState)
     → events ≡ Accepted ∷ ((replied ++ heard) ++ ClientDone ∷ []) → (replies : Replies door account before replied text after) → Hears text heard → how ≡ served.Whole
     → IsReplyObeyed replies → reply_blamed replies ≡ no_faults → IsTold door account events how after
 told_by law door account before events replied heard text how after is (Answered a) hears whole obeyed none =
     takes door account events replied heard text how before after is a hears whole
-    (answered_from law account before.machine a.asking a.worked a.mail a.asks a.done a.work obeyed none)
+    (law account before.machine a.asking a.worked a.mail a.asks a.done a.work obeyed none)
 told_by law door account before events replied heard text how after is (LacksReading reads text_is after_is) hears whole obeyed none =
     LacksMemory replied heard is (subst (λ (t : List ℕ). Hears t heard) text_is hears) whole
 told_by law door account before events replied heard text how after is (LacksAnswering a) hears whole obeyed none =
     LacksMemory replied heard is (subst (λ (t : List ℕ). Hears t heard) a.text_is hears) whole
 
 -- what was sent whole is told; what wasn't is blamed on the front
-told_sent : Law → (door : Door) (account : Account) (before : GateState) (events replied heard : List Event) (text : List ℕ) (sent : Result (Unit {0}) Failed) (how : Served)
+told_sent : AnsweredLaw → (door : Door) (account : Account) (before : GateState) (events replied heard : List Event) (text : List ℕ) (sent : Result (Unit {0}) Failed) (how : Served)
     (after : GateState) → events ≡ Accepted ∷ ((replied ++ heard) ++ ClientDone ∷ []) → (replies : Replies door account before replied text after) → Sends text sent heard
     → how ≡ went sent → IsReplyObeyed replies → blame_front (unsent sent) (reply_blamed replies) ≡ no_faults → IsTold door account events how after
 told_sent law door account before events replied heard text (Ok u) how after is replies sends how_is obeyed none =
@@ -79,7 +79,7 @@ told_sent law door account before events replied heard text (Ok u) how after is 
 told_sent law door account before events replied heard text (Err e) how after is replies sends how_is obeyed none = absurd (blamed_once (reply_blamed replies) none)
 
 -- what comes of one client or none, where the store obeyed and nothing is blamed
-pub told : Law → (door : Door) (account : Account) (before : GateState) (events : List Event) (how : Served) (after : GateState)
+pub told : AnsweredLaw → (door : Door) (account : Account) (before : GateState) (events : List Event) (how : Served) (after : GateState)
     (segment : Segment door account before events how after) → IsSegmentObeyed segment → blamed segment ≡ no_faults → IsTold door account events how after
 told law door account before events how after (NoneComes is how_is same) obeyed none = NobodyComes is how_is
 told law door account before events how after (NotAccepted is how_is same) obeyed none = absurd (blamed_once no_faults none)

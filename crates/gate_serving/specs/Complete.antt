@@ -7,7 +7,7 @@ use Rattle.gate_world.specs.declared.event.Event.TheVariants.{Accepted, NoMore, 
 use Rattle.http_door.specs.declared.asking.AskError.TheVariants as unread
 use Rattle.email_bodies.specs.Asking.{BodyAsk}
 use Rattle.gate_machine.specs.History.{KnownMail}
-use Rattle.gate_machine.specs.Obeying.{IsObeyedBeginning}
+use Rattle.gate_machine.specs.Obeying.{AllCame, AreCallsObeyed, IsObeyedBeginning}
 use Rattle.gate_machine.specs.Progress.{Progress}
 use Rattle.gate_machine.specs.Machine.{MachineState}
 use Rattle.gate_calls.specs.Mailings.{Mailing}
@@ -27,12 +27,12 @@ use Rattle.gate_serving.specs.Work.{Work, NoMail, WithMail}
 abbrev pub IsWorkObeyed : {account : Account} {before : MachineState} {asking : Asking} {events : List Event} {mail : Mailing} {asks : List BodyAsk} {after : Progress}
     → Work account before asking events mail asks after → Type 0
 IsWorkObeyed (NoMail a b c d e) = Unit {0}
-IsWorkObeyed (WithMail a work) = IsObeyedBeginning work.prepares
+IsWorkObeyed (WithMail a work) = IsObeyedBeginning work.prepares × AreCallsObeyed work.calls_ask
 
--- The calls are answered over the mail that is served then; or none of them needs it.
-abbrev pub IsAnsweredFrom : Asking → Mailing → Progress → Type 0
-IsAnsweredFrom asking mail after =
-    (asks_for_mail asking ≡ false) ⊎ ((k : KnownMail) × (after.machine.known ≡ Some k) × (mail ≡ Ok k.history))
+-- The calls are answered over the mail that is served then, and each body that they ask for comes; or none of them needs the mail.
+abbrev pub IsAnsweredFrom : Asking → Mailing → List BodyAsk → Progress → Type 0
+IsAnsweredFrom asking mail asks after =
+    ((asks_for_mail asking ≡ false) × (asks ≡ [])) ⊎ ((k : KnownMail) × (after.machine.known ≡ Some k) × (mail ≡ Ok k.history) × AllCame asks)
 
 -- ---- a client
 
@@ -63,7 +63,7 @@ pub record TakesResponse (door : Door) (account : Account) (events : List Event)
   pub text : List ℕ
   pub whole : events ≡ Accepted ∷ (((asked ++ worked) ++ heard) ++ ClientDone ∷ [])
   pub reads : ReadsAsking door account.token (Ok asking) asked
-  pub answered : IsAnsweredFrom asking mail done
+  pub answered : IsAnsweredFrom asking mail asks done
   pub machine_is : after.machine ≡ done.machine
   pub is_response : IsResponse door account (record { mail = mail; uploads = after.uploads }) asking asks text
   pub hears : Hears text heard

@@ -23,7 +23,8 @@ ghost use Rattle.gate_serving.specs.declared.served.Served.{Served};
 use email_get::laws::one_blob_found;
 use gate_calls::one_list_of_responses;
 use gate_machine::{
-    calls_keep_history, machines_know_what_was_told, obeyed_rounds_stand, requests_keep_history,
+    calls_keep_history, machines_know_what_was_told, obeyed_bodies_come, obeyed_rounds_stand,
+    requests_keep_history,
 };
 
 /// Where no count rose, nothing is blamed.
@@ -37,14 +38,15 @@ pub fn no_life_without_need()
         → Work account before asking events mail asks after → asks_for_mail asking ≡ false → (events ≡ []) × (after.machine ≡ before) }
 {}
 
-/// Where the store obeys, a place is left and no fault is blamed, calls are answered over the mail that is served then; or
-/// memory ran out.
+/// Where the store obeys, a place is left and no fault is blamed, calls are answered over the mail that is served then, and each
+/// body comes that they ask for; or memory ran out.
 pub fn obeyed_requests_answered()
     ensures { (account : Account) (before : MachineState) (asking : Asking) (events : List Event) (mail : Mailing) (asks : List BodyAsk) (after : Progress)
         (work : Work account before asking events mail asks after) → IsWorkObeyed work → after.blamed ≡ no_faults
-        → IsAnsweredFrom asking mail after ⊎ (after.standing ≡ OutOfMemory) }
+        → IsAnsweredFrom asking mail asks after ⊎ (after.standing ≡ OutOfMemory) }
 {
     obeyed_rounds_stand();
+    obeyed_bodies_come();
 }
 
 /// Where the store obeys, a place is left and no fault is blamed, whoever comes takes the whole response that is due over
@@ -54,7 +56,7 @@ pub fn obeyed_clients_are_told()
         (segment : Segment door account before events how after) → IsSegmentObeyed segment → blamed segment ≡ no_faults
         → IsTold door account events how after }
 {
-    obeyed_rounds_stand();
+    obeyed_requests_answered();
 }
 
 /// Each client of a run of whom nothing fails and for whom the store obeyed is told, whatever comes of the others.

@@ -6,6 +6,7 @@ mod Greetings
 mod RoundSteps
 mod Refutations
 mod Finishing
+mod GoingOn
 mod Obedience
 mod OneRun
 mod InOrder

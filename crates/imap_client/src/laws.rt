@@ -1,5 +1,5 @@
 // What the definitions rule out, and what they promise.
-ghost use Rattle.std.specs.Prelude.{◌≡◌, ◌⊎◌, ◌++◌, ◌+◌, ◌∷◌, [], List, ℕ, Bool, Ok, Err, Result, length};
+ghost use Rattle.std.specs.Prelude.{◌≡◌, ◌⊎◌, ◌++◌, ◌+◌, ◌∷◌, [], List, ℕ, Bool, true, Ok, Err, Result, length};
 ghost use Rattle.std.specs.List.{flat_map};
 ghost use Rattle.gate_world.specs.declared.event.Event.{Event};
 ghost use Rattle.gate_world.specs.Octets.{store_gave_in, store_took_in};
@@ -9,6 +9,7 @@ ghost use Rattle.imap_exchange.specs.declared.link_end.LinkEnd.{LinkEnd};
 ghost use Rattle.imap_exchange.specs.declared.link_end.LinkEnd.TheVariants as ends;
 ghost use Rattle.imap_exchange.specs.Received.{Octets};
 ghost use Rattle.imap_exchange.specs.Begins.{Begins};
+ghost use Rattle.imap_client.specs.Bodies.{FetchesBody};
 ghost use Rattle.imap_client.specs.Connecting.{GreetsBy, greeting_says};
 ghost use Rattle.imap_client.specs.LinkLife.{LinkLife, ClientState, next_number, selected};
 ghost use Rattle.imap_client.specs.Plans.{Planned, Follows};
@@ -29,6 +30,14 @@ pub fn no_bye_is_welcome()
 pub fn finished_rounds_are_whole()
     ensures { (before after : Mail) (life left : LinkLife) (client : ClientState) (events : List Event) → Rounds before after life left client (Ok tt) events
         → IsFinishedRound before after life left events }
+{}
+
+/// After a round, or the fetch of a body, that ended in Ok the life goes on.
+pub fn finished_lives_go_on()
+    ensures round { (before after : Mail) (life left : LinkLife) (client : ClientState) (events : List Event) → Rounds before after life left client (Ok tt) events
+        → life.goes_on ≡ true → left.goes_on ≡ true }
+    ensures body { (folder uid : ℕ) (before after : Mail) (life left : LinkLife) (client : ClientState) (octets : List ℕ) (events : List Event)
+        → FetchesBody folder uid before after life left client (Ok octets) events → life.goes_on ≡ true → left.goes_on ≡ true }
 {}
 
 /// Octets that obey a plan whole let it end in nothing but Ok, a link that was lost, or out of memory.
