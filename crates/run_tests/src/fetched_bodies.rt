@@ -1,7 +1,7 @@
 // Bodies of messages that requests ask the store for.
 use crate::scripts::{
-    BODY, CONNECTED, DONE, LATER, LATER_WITH_BODY, LISTED, ONE, ONE_SELECTED, ROUND, WITH_BODY,
-    expect_parts, joined, scripted,
+    BODY, CONNECTED, DONE, LATER, LATER_WITH_BODY, LISTED, ONE, ONE_SELECTED, PIECES, ROUND,
+    WITH_BODY, expect_parts, joined, scripted,
 };
 use crate::seen::seen_in;
 use crate::whole_runs::serve;
@@ -56,6 +56,66 @@ struct Row {
     told: &'static [&'static [u8]],
     bodies: usize,
 }
+
+/// INBOX with two messages, as it is selected first, and later: one was read, one was marked unread again, one is gone.
+const TWO_SELECTED: &[u8] =
+    b"* 2 EXISTS\r\n* OK [UIDVALIDITY 7] x\r\n* OK [UIDNEXT 3] x\r\n* OK [HIGHESTMODSEQ 2] x\r\na6 OK [READ-WRITE] x\r\n";
+
+const TWO: &[u8] =
+    b"* 1 FETCH (UID 1 FLAGS () MODSEQ (2) INTERNALDATE \"01-Jan-2024 00:00:00 +0000\" RFC822.SIZE 40 BODY[HEADER]<0> {2}\r\n\r\n)\r\n* 2 FETCH (UID 2 FLAGS () MODSEQ (2) INTERNALDATE \"01-Jan-2024 00:00:00 +0000\" RFC822.SIZE 40 BODY[HEADER]<0> {2}\r\n\r\n)\r\n";
+
+const SEEN: &[u8] =
+    b"* 2 EXISTS\r\n* OK [UIDVALIDITY 7] x\r\n* OK [UIDNEXT 3] x\r\n* OK [HIGHESTMODSEQ 3] x\r\n* 1 FETCH (UID 1 FLAGS (\\Seen) MODSEQ (3))\r\na6 OK [READ-WRITE] x\r\n";
+
+const UNSEEN: &[u8] =
+    b"* 2 EXISTS\r\n* OK [UIDVALIDITY 7] x\r\n* OK [UIDNEXT 3] x\r\n* OK [HIGHESTMODSEQ 4] x\r\n* 1 FETCH (UID 1 FLAGS () MODSEQ (4))\r\na6 OK [READ-WRITE] x\r\n";
+
+const GONE: &[u8] =
+    b"* 1 EXISTS\r\n* OK [UIDVALIDITY 7] x\r\n* OK [UIDNEXT 3] x\r\n* OK [HIGHESTMODSEQ 5] x\r\n* VANISHED (EARLIER) 1\r\na6 OK [READ-WRITE] x\r\n";
+
+/// What changed of Emails, and an Email's keywords, as they are told at each of these lives.
+const ASKS_CHANGES: &[u8] =
+    b"[\"Email/changes\",{\"accountId\":\"a1\",\"sinceState\":\"000000000000001f-2\"},\"c1\"],[\"Email/get\",{\"accountId\":\"a1\",\"ids\":[\"e1\"],\"properties\":[\"keywords\"]},\"c2\"]";
+
+const NOTHING_CHANGED: &[u8] =
+    b"[\"Email/changes\",{\"accountId\":\"a1\",\"created\":[],\"destroyed\":[],\"hasMoreChanges\":false,\"newState\":\"000000000000001f-2\",\"oldState\":\"000000000000001f-2\",\"updated\":[]},\"c1\"],[\"Email/get\",{\"accountId\":\"a1\",\"list\":[{\"id\":\"e1\",\"keywords\":{}}],\"notFound\":[],\"state\":\"000000000000001f-2\"},\"c2\"]";
+
+const READ_SINCE: &[u8] =
+    b"[\"Email/changes\",{\"accountId\":\"a1\",\"created\":[],\"destroyed\":[],\"hasMoreChanges\":false,\"newState\":\"000000000000001f-3\",\"oldState\":\"000000000000001f-2\",\"updated\":[\"e1\"]},\"c1\"],[\"Email/get\",{\"accountId\":\"a1\",\"list\":[{\"id\":\"e1\",\"keywords\":{\"$seen\":true}}],\"notFound\":[],\"state\":\"000000000000001f-3\"},\"c2\"]";
+
+const UNREAD_AGAIN: &[u8] =
+    b"[\"Email/changes\",{\"accountId\":\"a1\",\"created\":[],\"destroyed\":[],\"hasMoreChanges\":false,\"newState\":\"000000000000001f-4\",\"oldState\":\"000000000000001f-2\",\"updated\":[\"e1\"]},\"c1\"],[\"Email/get\",{\"accountId\":\"a1\",\"list\":[{\"id\":\"e1\",\"keywords\":{}}],\"notFound\":[],\"state\":\"000000000000001f-4\"},\"c2\"]";
+
+const GONE_SINCE: &[u8] =
+    b"[\"Email/changes\",{\"accountId\":\"a1\",\"created\":[],\"destroyed\":[\"e1\"],\"hasMoreChanges\":false,\"newState\":\"000000000000001f-5\",\"oldState\":\"000000000000001f-2\",\"updated\":[]},\"c1\"],[\"Email/get\",{\"accountId\":\"a1\",\"list\":[],\"notFound\":[\"e1\"],\"state\":\"000000000000001f-5\"},\"c2\"]";
+
+const CHANGES_ASKED: &[&[u8]] = &[ASK, ASKS_CHANGES, ASK_END];
+
+/// The same, with mail that changes from request to request.
+const CHANGING: Row = Row {
+    links: &[
+        &[CONNECTED, LISTED, TWO_SELECTED, TWO, DONE],
+        &[CONNECTED, LISTED, SEEN, DONE],
+        &[CONNECTED, LISTED, UNSEEN, DONE],
+        &[CONNECTED, LISTED, GONE, DONE],
+    ],
+    clients: &[CHANGES_ASKED, CHANGES_ASKED, CHANGES_ASKED, CHANGES_ASKED],
+    told: &[
+        TOLD,
+        NOTHING_CHANGED,
+        TOLD_END,
+        TOLD,
+        READ_SINCE,
+        TOLD_END,
+        TOLD,
+        UNREAD_AGAIN,
+        TOLD_END,
+        TOLD,
+        GONE_SINCE,
+        TOLD_END,
+    ],
+    bodies: 0,
+};
 
 const ROWS: [Row; 6] = [
     // what the round told needs no body
@@ -152,6 +212,38 @@ fn expect_row(rt: &impl Abort, alloc: Global, row: &Row) {
 fn bodies_are_asked_as_they_are_needed(rt: HostRuntime) {
     for row in ROWS.iter() {
         expect_row(&rt, rt.alloc(), row);
+    }
+}
+
+#[test]
+fn emails_of_mail_that_changes(rt: HostRuntime) {
+    expect_row(&rt, rt.alloc(), &CHANGING);
+}
+
+/// A header with a line that looks like the answer to the fetch.
+const LINE_IN_LITERAL: &[u8] =
+    b"* 1 FETCH (UID 1 FLAGS () MODSEQ (3) INTERNALDATE \"01-Jan-2024 00:00:00 +0000\" RFC822.SIZE 40 BODY[HEADER]<0> {23}\r\nSubject: a\r\na7 OK x\r\n\r\n)\r\n";
+
+const GETS_ITS_SUBJECT: &[u8] =
+    b"[\"Email/get\",{\"accountId\":\"a1\",\"ids\":[\"e1\"],\"properties\":[\"subject\"]},\"c1\"]";
+
+const ITS_SUBJECT: &[u8] =
+    b"[\"Email/get\",{\"accountId\":\"a1\",\"list\":[{\"id\":\"e1\",\"subject\":\"a\"}],\"notFound\":[],\"state\":\"000000000000001f-1\"},\"c1\"]";
+
+fn expect_in_pieces(rt: &impl Abort, alloc: Global, piece: usize) {
+    let link: &[&[u8]] = &[CONNECTED, LISTED, ONE_SELECTED, LINE_IN_LITERAL, DONE];
+    let client: &[&[u8]] = &[ASK, GETS_ITS_SUBJECT, ASK_END];
+    let script = scripted(rt, alloc, &[link], &[client], b"");
+    let mut world = ScriptWorld::new(alloc, script.in_pieces(piece));
+    serve(rt, alloc, &mut world, 1);
+    let seen = seen_in(rt, alloc, 0, &world);
+    expect_parts(rt, alloc, &seen.client_took, &[TOLD, ITS_SUBJECT, TOLD_END]);
+}
+
+#[test]
+fn an_answer_within_a_header(rt: HostRuntime) {
+    for piece in PIECES.iter() {
+        expect_in_pieces(&rt, rt.alloc(), *piece);
     }
 }
 
