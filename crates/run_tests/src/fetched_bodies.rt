@@ -192,7 +192,14 @@ const ROWS: [Row; 6] = [
 
 /// How often the octets stand in the text.
 fn count_of(text: &[u8], octets: &[u8]) -> usize {
-    text.windows(octets.len()).filter(|w| *w == octets).count()
+    let mut count: usize = 0;
+    for at in 0..text.len() {
+        let rest = text.get(at..).unwrap_or(&[]);
+        if rest.starts_with(octets) {
+            count = count.saturating_add(1);
+        }
+    }
+    count
 }
 
 fn expect_row(rt: &impl Abort, alloc: Global, row: &Row) {
@@ -249,7 +256,7 @@ fn an_answer_within_a_header(rt: HostRuntime) {
 
 /// The link is lost after so many octets of a body's answer: the call is told so, and the next request is answered whole.
 fn expect_cut(rt: &impl Abort, alloc: Global, cut: usize) {
-    let (came, _) = BODY.split_at(cut);
+    let came = BODY.get(..cut).unwrap_or(BODY);
     let first: [&[u8]; 6] = [CONNECTED, LISTED, ONE_SELECTED, ONE, DONE, came];
     let asks: &[&[u8]] = &[ASK, GETS_PREVIEW, ASK_END];
     let script = scripted(rt, alloc, &[&first, LATER_WITH_BODY], &[asks, asks], b"");
@@ -330,7 +337,7 @@ fn expect_many(rt: &impl Abort, alloc: Global, row: &(u32, usize)) {
     let seen = seen_in(rt, alloc, 0, &world);
     assert_eq!(rt;
         count_of(&seen.client_took, b"\"preview\":\"hello\""),
-        row.0 as usize + 1
+        (row.0 as usize).saturating_add(1)
     );
     assert_eq!(rt;
         count_of(&seen.store_took, b"BODY.PEEK[]<0.50000000>"),
