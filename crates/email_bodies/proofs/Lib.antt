@@ -1,2 +1,3 @@
 pub mod Unused
+pub mod Due
 pub mod Joins

@@ -7,7 +7,8 @@ use Rattle.serde_json.specs.View.{view, items_of}
 use Rattle.serde_json.specs.Written.{has_float, items_have_float}
 use Rattle.serde_json.specs.declared.value.Value.{Value}
 use Rattle.change_list.proofs.HistoryLaws.{length-entries_from}
-use Rattle.email_bodies.specs.Asking.{BodyAsk}
+use Rattle.email_bodies.specs.Asking.{BodyAsk, AreDue}
+use Rattle.email_bodies.proofs.Due.{due_more}
 use Rattle.jmap_methods.specs.Gets.{get_data}
 use Rattle.jmap_methods.specs.State.{state_text}
 use Rattle.jmap_methods.specs.declared.method_error.MethodError.{MethodError}
@@ -15,8 +16,10 @@ use Rattle.mail_maps.specs.Rows.{Rows}
 use Rattle.mail_state.specs.History.{MailHistory}
 use Rattle.mail_state.specs.State.{ServedState, ServedRows, IsStateOf}
 use Rattle.read_methods.specs.Replies.{type_state}
+use Rattle.email_get.specs.Asked.{FailsAfter}
 use Rattle.email_get.specs.EmailGet.{EmailsAsked, emails_asked, ShowsEmail, AnswersEmailGet, Refused, Shown, Fails, RepliesEmailGet}
 use Rattle.email_get.specs.Showing.{ShowsAll}
+use Rattle.email_get.proofs.Due.{due_email, due_showing}
 
 -- ---- each history
 
@@ -53,6 +56,16 @@ module _ (s : ServedState) (d : Data) where
   get_fails a numbers e asks is same shows h stands =
       let P : List ℕ → Type 0 = λ ns. ShowsAll (ShowsEmail s.rows.numbered.rows a.wanted) ns asks (Err e) in
       get_over_history s h d asks (Err e) stands (Fails a e is (subst P same shows))
+
+  -- what was asked for the Emails is due
+  pub get_due : (a : EmailsAsked) (numbers : List ℕ) (asks : List BodyAsk) → emails_asked (keys_of s.rows.numbered.rows) d ≡ Ok a → numbers ≡ a.asked.numbers
+      → (r : Result (List Data) MethodError) → ShowsAll (ShowsEmail s.rows.numbered.rows a.wanted) numbers asks r
+      → AreDue (FailsAfter (λ (l : List BodyAsk) (r : Result Data MethodError). (h : MailHistory) → IsStateOf h s → RepliesEmailGet h d l r)) asks
+  get_due a numbers asks is same r shows =
+      due_more (FailsAfter (ShowsAll (ShowsEmail s.rows.numbered.rows a.wanted) numbers))
+      (FailsAfter (λ (l : List BodyAsk) (r : Result Data MethodError). (h : MailHistory) → IsStateOf h s → RepliesEmailGet h d l r)) asks
+      (λ l fails. (fails.0, get_fails a numbers fails.0 l is same fails.1))
+      (due_showing (ShowsEmail s.rows.numbered.rows a.wanted) (due_email s.rows.numbered.rows a.wanted) numbers asks r shows)
 
   -- the Emails are shown
   pub get_shown : (a : EmailsAsked) (numbers : List ℕ) (list : List Data) (reply : Data) (asks : List BodyAsk) → emails_asked (keys_of s.rows.numbered.rows) d ≡ Ok a

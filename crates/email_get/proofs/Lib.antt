@@ -1,6 +1,7 @@
 mod AskLemmas
 mod ShowingLemmas
 mod LoopLemmas
+pub mod Due
 mod NumberLemmas
 mod BlobLemmas
 mod GetLemmas

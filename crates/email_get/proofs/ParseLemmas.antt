@@ -9,15 +9,15 @@ use Rattle.serde_json.specs.View.{view, items_of, members_view}
 use Rattle.serde_json.specs.Written.{has_float, items_have_float, members_have_float}
 use Rattle.serde_json.specs.declared.value.Value.{Value}
 use Rattle.json_texts.proofs.WholeLemmas.{put_whole}
-use Rattle.email_bodies.specs.Asking.{BodyAsk}
+use Rattle.email_bodies.specs.Asking.{BodyAsk, AreDue}
 use Rattle.email_bodies.specs.declared.error.BodyError.{BodyError}
 use Rattle.email_objects.specs.EmailObjects.{IsParsedObject}
 use Rattle.email_properties.specs.Wanted.{EmailAsked}
 use Rattle.jmap_methods.specs.declared.method_error.MethodError.{MethodError}
 use Rattle.mail_maps.specs.Rows.{Rows}
 use Rattle.message_blobs.specs.BlobIds.{BlobRoot, IsBlobId}
-use Rattle.email_get.specs.Asked.{error_by}
-use Rattle.email_get.specs.Blobs.{FindsOctets, NoBlobId, OfBlobId}
+use Rattle.email_get.specs.Asked.{FailsAfter, error_by}
+use Rattle.email_get.specs.Blobs.{FindsOctets, NoBlobId, OfBlobId, OctetsFound}
 use Rattle.email_get.specs.EmailParse.{ShowsBlob, NotFound, Parsed, NoBody, message_id}
 use Rattle.jmap_methods.specs.Gets.{distinct_ids}
 use Rattle.mail_state.specs.History.{MailHistory}
@@ -26,6 +26,8 @@ use Rattle.email_get.specs.EmailParse.{ParseAsked, parse_asked, parse_answer, An
 use Rattle.email_get.specs.EmailParse.{ShownBlob, put_found, parsed_members, missing_id, missing_ids, object_or_null, list_or_null, parse_data}
 use Rattle.email_get.specs.reading.Gathered.{Gathered, Gathers, GathersThese}
 use Rattle.email_get.specs.Showing.{ShowsAll}
+use Rattle.email_bodies.proofs.Due.{due_more}
+use Rattle.email_get.proofs.Due.{blob_due, due_shown_blob, due_showing}
 use Rattle.email_get.proofs.GetLemmas.{same_emails}
 
 parsed-append : (done : List ShownBlob) (b : ShownBlob) (ms : Members) → parsed_members (done ++ b ∷ []) ms ≡ put_found b.id b.found (parsed_members done ms)
@@ -108,6 +110,10 @@ module _ (emails : Rows) (uploads : List (List ℕ)) (wanted : EmailAsked) (id t
         let P : MethodError → Type 0 = λ m. ShowsBlob emails uploads wanted id asks (Err m) in
         subst P (sym f_is) (NoBody e (OfBlobId root leaves is_id finds))
 
+    -- what was asked for them is due
+    pub octets_due : (asks : List BodyAsk) (r : OctetsFound) → FindsOctets emails uploads root leaves asks r → AreDue (FailsAfter (ShowsBlob emails uploads wanted id)) asks
+    octets_due asks r finds = blob_due emails uploads wanted id asks r (OfBlobId root leaves is_id finds)
+
     -- the octets are a message
     pub blob_parsed : (asks : List BodyAsk) (octets : List ℕ) (o : Option (List ℕ)) (message : Data) → o ≡ Some octets → FindsOctets emails uploads root leaves asks (Ok o)
         → IsParsedObject (Some id) (record { octets = octets; id = message_id leaves id }) wanted message
@@ -133,6 +139,16 @@ module _ (s : ServedState) (uploads : List (List ℕ)) (d : Data) where
   parsing_fails a ids e asks is same shows h stands =
       let P : List (List ℕ) → Type 0 = λ l. ShowsAll (ShowsBlob s.rows.numbered.rows uploads a.wanted) l asks (Err e) in
       parse_over_history h asks (Err e) stands (Fails a e is (subst P same shows))
+
+  -- what was asked for the blobs is due
+  pub parsing_due : (a : ParseAsked) (ids : List (List ℕ)) (asks : List BodyAsk) → parse_asked d ≡ Ok a → ids ≡ distinct_ids a.ids
+      → (r : Result (List ShownBlob) MethodError) → ShowsAll (ShowsBlob s.rows.numbered.rows uploads a.wanted) ids asks r
+      → AreDue (FailsAfter (λ (l : List BodyAsk) (r : Result Data MethodError). (h : MailHistory) → IsStateOf h s → RepliesEmailParse h uploads d l r)) asks
+  parsing_due a ids asks is same r shows =
+      due_more (FailsAfter (ShowsAll (ShowsBlob s.rows.numbered.rows uploads a.wanted) ids))
+      (FailsAfter (λ (l : List BodyAsk) (r : Result Data MethodError). (h : MailHistory) → IsStateOf h s → RepliesEmailParse h uploads d l r)) asks
+      (λ l fails. (fails.0, parsing_fails a ids fails.0 l is same fails.1))
+      (due_showing (ShowsBlob s.rows.numbered.rows uploads a.wanted) (due_shown_blob s.rows.numbered.rows uploads a.wanted) ids asks r shows)
 
   -- the blobs are shown
   pub parsing_shown : (a : ParseAsked) (ids : List (List ℕ)) (g : Gathered) (reply : Data) (asks : List BodyAsk) → parse_asked d ≡ Ok a → ids ≡ distinct_ids a.ids

@@ -1,3 +1,4 @@
 pub mod Meaning
+pub mod Due
 pub mod Calling
 pub mod OneAnswer

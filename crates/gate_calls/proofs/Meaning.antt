@@ -3,10 +3,10 @@ use Rattle.std.proofs.Common.{◌≡◌, ◌≢◌, ◌⊎◌, ◌++◌, ℕ, Li
 use Rattle.serde_json.specs.declared.value.Value.{Value}
 use Rattle.serde_json.specs.Data.{Data}
 use Rattle.serde_json.specs.View.{view}
-use Rattle.email_bodies.specs.Asking.{BodyAsk, NoneAsked, AsksInVain}
+use Rattle.email_bodies.specs.Asking.{BodyAsk, NoneAsked}
 use Rattle.email_bodies.specs.declared.source.MessagePlace.{MessagePlace}
-use Rattle.email_bodies.proofs.Joins.{asks_join}
-use Rattle.email_get.specs.Asked.{AsksAnd, AsksAndMeets}
+use Rattle.email_bodies.proofs.Joins.{asks_join, vain_at_once, vain_more}
+use Rattle.email_get.specs.Asked.{AsksAnd, AsksAndMeets, FailsAfter}
 use Rattle.jmap_methods.specs.Outcome.{Agrees, IsJust, Meets}
 use Rattle.jmap_methods.specs.declared.method_error.MethodError.{MethodError}
 use Rattle.jmap_methods.specs.declared.method_error.MethodError.TheVariants.{Memory}
@@ -104,24 +104,6 @@ mail_untold m e is mail of = by mail (subst (λ (x : Mail). IsMailOf mail x) is 
 -- ---- calls that may ask bodies
 
 module _ {S : Type 0} (Answers : S → MessagePlace → Option (List ℕ) → S → Type 0) (Lacks : S → MessagePlace → S → Type 0) where
-  pub in_vain : (s : S) → AsksInVain Answers Lacks s s
-  in_vain s = record { asks = []; mid = s; asked = NoneAsked; ends = inl refl }
-
-  -- out of memory after these
-  pub vain_after : {P : List BodyAsk → Type 0} {before after : S} → AsksAnd Answers Lacks before after P → AsksInVain Answers Lacks before after
-  vain_after {after = after} a = record { asks = a.asks; mid = after; asked = a.asked; ends = inl refl }
-
-  -- and after those before it
-  pub vain_then : {P : List BodyAsk → Type 0} (before mid after : S) → AsksAnd Answers Lacks before mid P → AsksInVain Answers Lacks mid after
-      → AsksInVain Answers Lacks before after
-  vain_then before mid after a vain =
-      record {
-        asks = a.asks ++ vain.asks;
-        mid = vain.mid;
-        asked = asks_join Answers before mid vain.mid a.asks vain.asks a.asked vain.asked;
-        ends = vain.ends;
-      }
-
   -- one after another
   pub asks_then : {P Q R : List BodyAsk → Type 0} (before mid after : S) → AsksAnd Answers Lacks before mid P → AsksAnd Answers Lacks mid after Q
       → ((xs ys : List BodyAsk) → P xs → Q ys → R (xs ++ ys)) → AsksAnd Answers Lacks before after R
@@ -137,7 +119,8 @@ module _ {S : Type 0} (Answers : S → MessagePlace → Option (List ℕ) → S 
       → ((asks : List BodyAsk) (r : Result Data MethodError) → P asks r → Q asks r) → AsksAndMeets Answers Lacks before after Memory view result P
       → AsksAndMeets Answers Lacks before after Memory view result Q
   gives_more P Q before after (Ok value) so a = record { asks = a.asks; asked = a.asked; meant = so a.asks (Ok (view value)) a.meant }
-  gives_more P Q before after (Err e) so (inl lacks) = inl lacks
+  gives_more P Q before after (Err e) so (inl lacks) =
+      inl (lacks.0, vain_more Answers Lacks (FailsAfter P) (FailsAfter Q) before after (λ asks fails. (fails.0, so asks (Err fails.0) fails.1)) lacks.1)
   gives_more P Q before after (Err e) so (inr a) = inr (record { asks = a.asks; asked = a.asked; meant = so a.asks (Err e) a.meant })
 
   -- where no body is asked
@@ -145,8 +128,8 @@ module _ {S : Type 0} (Answers : S → MessagePlace → Option (List ℕ) → S 
       → ((i : I) → J i → Meets Memory view result (P i))
       → AsksAndMeets Answers Lacks s s Memory view result (λ asks r. (i : I) → J i → AtOnce (P i) asks r)
   at_once P s (Ok value) meets = record { asks = []; asked = NoneAsked; meant = λ i j. (refl, meets i j) }
-  at_once P s (Err e) meets = elim (is_memory e) [
-    | inl lacks ↦ inl (lacks, in_vain s)
+  at_once {I} {J} P s (Err e) meets = elim (is_memory e) [
+    | inl lacks ↦ inl (lacks, vain_at_once Answers Lacks (FailsAfter (λ asks (r : Result Data MethodError). (i : I) → J i → AtOnce (P i) asks r)) s)
     | inr other ↦ inr (record { asks = []; asked = NoneAsked; meant = λ i j. (refl, known_meant e (P i (Err e)) other (meets i j)) })
   ]
 
@@ -155,8 +138,8 @@ module _ {S : Type 0} (Answers : S → MessagePlace → Option (List ℕ) → S 
       → ((i : I) → Meets Memory view result (P i []))
       → AsksAndMeets Answers Lacks s s Memory view result (λ asks r. (i : I) → P i asks r)
   replies_once P s (Ok value) meets = record { asks = []; asked = NoneAsked; meant = λ i. meets i }
-  replies_once P s (Err e) meets = elim (is_memory e) [
-    | inl lacks ↦ inl (lacks, in_vain s)
+  replies_once {I} P s (Err e) meets = elim (is_memory e) [
+    | inl lacks ↦ inl (lacks, vain_at_once Answers Lacks (FailsAfter (λ asks (r : Result Data MethodError). (i : I) → P i asks r)) s)
     | inr other ↦ inr (record { asks = []; asked = NoneAsked; meant = λ i. known_meant e (P i [] (Err e)) other (meets i) })
   ]
 

@@ -39,6 +39,14 @@ pub data AnswersCalls (uses : Using) (over : MailAndUploads) : List CallData →
   MoreCalls : {calls responses : List CallData} {asks : List BodyAsk} (next : NextCall uses over responses) → AnswersCalls uses over calls asks responses
       → AnswersCalls uses over (calls ++ next.call ∷ []) (asks ++ next.asks) (responses ++ answered_call next.call next.result ∷ [])
 
+-- The first of these calls ask these bodies.
+pub record FirstCallsAsk (uses : Using) (over : MailAndUploads) (calls : List CallData) (asks : List BodyAsk) : Type 0 where
+  pub firsts : List CallData
+  pub later : List CallData
+  pub responses : List CallData
+  pub calls_are : calls ≡ firsts ++ later
+  pub answers : AnswersCalls uses over firsts asks responses
+
 -- whether one of them needs the mail
 abbrev pub needs_mail : List CallData → Bool
 needs_mail calls = list_any (λ call. needs_mail_by call.name) calls

@@ -2,7 +2,7 @@
 ghost use Rattle.std.specs.Prelude.{◌≡◌, Err, Ok, IfOk, All, map, false};
 ghost use Rattle.serde_json.specs.View.{view};
 ghost use Rattle.serde_json.specs.Written.{has_float};
-ghost use Rattle.email_get.specs.Asked.{AsksAndMeets};
+ghost use Rattle.email_get.specs.Asked.{AsksAndMeets, FailsAfter};
 ghost use Rattle.jmap_methods.specs.declared.using.Using.{Using as using_type};
 ghost use Rattle.jmap_methods.specs.declared.method_error.MethodError.TheVariants.{Memory};
 ghost use Rattle.jmap_core.specs.Request.{call_data};
@@ -10,7 +10,7 @@ ghost use Rattle.jmap_core.specs.Response.{IsWhole};
 ghost use Rattle.gate_calls.specs.Asking.{AsksAndMakes};
 ghost use Rattle.gate_calls.specs.Mailings.{AreOf, MailAndUploads};
 ghost use Rattle.gate_calls.specs.MethodNames.{method_asked};
-ghost use Rattle.gate_calls.specs.Calls.{AnswersCall, AnswersCalls, answered_call};
+ghost use Rattle.gate_calls.specs.Calls.{AnswersCall, AnswersCalls, FirstCallsAsk, answered_call};
 ghost use Rattle.gate_calls.specs.reading.Responding.{IsResponseTo, RespondsTo};
 
 use crate::mail::Over;
@@ -112,7 +112,8 @@ fn response_to<W, B: BodySource<W>>(
     call: &Call,
 ) -> Result<Call, AllocError>
     ensures meant { AsksAndMakes B.answers B.lacks (bodies.old, world.old) (bodies.new, world.new) result
-        (λ r asks. (o : MailAndUploads) → AreOf o over.now → RespondsTo uses o (map call_data earlier.now) (call_data call.now) asks (call_data r)) }
+        (λ r asks. (o : MailAndUploads) → AreOf o over.now → RespondsTo uses o (map call_data earlier.now) (call_data call.now) asks (call_data r))
+        (λ asks. (o : MailAndUploads) → AreOf o over.now → FailsAfter (AnswersCall uses o (map call_data earlier.now) (call_data call.now)) asks) }
     ensures whole { IfOk result IsWhole }
 {
     let came = call_result(alloc, over, bodies, world, uses, earlier, call);
@@ -129,7 +130,8 @@ pub fn responses_to<W, B: BodySource<W>>(
     calls: &[Call],
 ) -> Result<Vec<Call>, AllocError>
     ensures meant { AsksAndMakes B.answers B.lacks (bodies.old, world.old) (bodies.new, world.new) result
-        (λ v asks. (o : MailAndUploads) → AreOf o over.now → AnswersCalls uses o (map call_data calls.now) asks (map call_data v.items)) }
+        (λ v asks. (o : MailAndUploads) → AreOf o over.now → AnswersCalls uses o (map call_data calls.now) asks (map call_data v.items))
+        (λ asks. (o : MailAndUploads) → AreOf o over.now → FirstCallsAsk uses o (map call_data calls.now) asks) }
     ensures whole { IfOk result (λ v. All IsWhole v.items) }
 {
     let mut responses = Vec::with_capacity(alloc, calls.len())?;

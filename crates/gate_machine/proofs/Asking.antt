@@ -5,7 +5,7 @@ use Rattle.gate_world.specs.Tape.{Adds}
 use Rattle.gate_world.specs.declared.event.Event.{Event}
 use Rattle.gate_world.proofs.Joins.{join, none, widen}
 use Rattle.told_mail.specs.Told.{Told}
-use Rattle.email_bodies.specs.Asking.{BodyAsk, Asks, NoneAsked, OneMore, AsksInVain}
+use Rattle.email_bodies.specs.Asking.{BodyAsk, unanswered, AreAsked, NoneAsked, OneMore, AreTried, AllAnswered, LastLacks, AsksInVain}
 use Rattle.email_bodies.specs.declared.source.MessagePlace.{MessagePlace}
 use Rattle.imap_client.specs.Rounds.{CountsOn}
 use Rattle.email_bodies.specs.Keeping.{Bodies}
@@ -83,7 +83,7 @@ module _ {S : Type 0} (moment : S → Moment) where
   Lacks before message after = RunsOut message (moment before) (moment after)
 
   -- each ask after those before it
-  pub asked_these : {before after : S} {asks : List BodyAsk} → Asks Answers before asks after → AsksThese asks (moment before) (moment after)
+  pub asked_these : {before after : S} {asks : List BodyAsk} → AreAsked Answers before asks after → AsksThese asks (moment before) (moment after)
   asked_these {before} NoneAsked = asks_none (moment before)
   asked_these (OneMore ask asks answers) = asks_more ask (asked_these asks) answers
 
@@ -109,23 +109,27 @@ short_of_room these =
     }
 
 -- or one more was
-pub short_of_body : {asks : List BodyAsk} {a b c : Moment} (message : MessagePlace) → AsksThese asks a b → RunsOut message b c → AsksShort asks a c
-short_of_body message these out =
+pub short_of_body : {asks tried : List BodyAsk} {a b c : Moment} (message : MessagePlace) → tried ≡ asks ++ unanswered message ∷ [] → AsksThese asks a b
+    → RunsOut message b c → AsksShort tried a c
+short_of_body {asks = asks} message is these out =
     record {
       run = join _ these.run out.run (λ es fs first then p was holds.
           let f = first p was holds in
           let t = then f.0 was f.2 in
-          (t.0, RunsShort (record { mid = f.0; message = message; asking = es; lacking = fs; asked = f.1; lacks = t.1; whole = refl }), t.2));
+          (t.0, RunsShort (record { asks = asks; mid = f.0; message = message; asking = es; lacking = fs; tried_are = is; asked = f.1; lacks = t.1; whole = refl }), t.2));
       counts = counts_join these.counts out.counts;
       goes_on = goes_on_joins these.goes_on out.goes_on;
     }
 
 module _ {S : Type 0} (moment : S → Moment) where
-  pub asked_in_vain : {before after : S} (vain : AsksInVain (Answers moment) (Lacks moment) before after) → AsksShort vain.asks (moment before) (moment after)
-  asked_in_vain {before} {after} vain = elim vain.ends [
-    | inl none ↦ subst (λ (s : S). AsksShort vain.asks (moment before) (moment s)) (sym none) (short_of_room (asked_these moment vain.asked))
-    | inr one ↦ short_of_body one.0 (asked_these moment vain.asked) one.1
-  ]
+  pub tried_these : {before after : S} {tried : List BodyAsk} → AreTried (Answers moment) (Lacks moment) before tried after
+      → AsksShort tried (moment before) (moment after)
+  tried_these (AllAnswered asks) = short_of_room (asked_these moment asks)
+  tried_these (LastLacks message asks lacks is) = short_of_body message is (asked_these moment asks) lacks
+
+  pub asked_in_vain : {AreAll : List BodyAsk → Type 0} {before after : S} (vain : AsksInVain (Answers moment) (Lacks moment) AreAll before after)
+      → AsksShort vain.tried (moment before) (moment after)
+  asked_in_vain vain = tried_these vain.are_tried
 
 -- ---- what is lent
 

@@ -3,7 +3,7 @@
 use Rattle.std.specs.Prelude.{◌≡◌, ◌≢◌, ◌++◌, ℕ, true, false, List, [], ◌∷◌, Option, Some, None, Result, Ok, Err}
 use Rattle.gate_world.specs.declared.event.Event.{Event}
 use Rattle.told_mail.specs.Told.{Told}
-use Rattle.email_bodies.specs.Asking.{BodyAsk}
+use Rattle.email_bodies.specs.Asking.{BodyAsk, unanswered}
 use Rattle.email_bodies.specs.Keeping.{Bodies, body_at, after_use, with_body}
 use Rattle.email_bodies.specs.declared.source.MessagePlace.{MessagePlace}
 use Rattle.imap_exchange.specs.declared.link_end.LinkEnd.{LinkEnd}
@@ -93,17 +93,19 @@ pub data AsksBodies (before : Progress) : List BodyAsk → List Event → Progre
   MoreBodies : {asks : List BodyAsk} {events : List Event} {mid : Progress} (next : NextBody mid) → AsksBodies before asks events mid
       → AsksBodies before (asks ++ next.ask ∷ []) (events ++ next.events) next.after
 
--- memory runs out as one more is asked
-pub record LacksNext (before : Progress) (asks : List BodyAsk) (events : List Event) (after : Progress) : Type 0 where
+-- memory runs out as the last of these is asked, which isn't answered
+pub record LacksLast (before : Progress) (tried : List BodyAsk) (events : List Event) (after : Progress) : Type 0 where
+  pub asks : List BodyAsk
   pub mid : Progress
   pub message : MessagePlace
   pub asking : List Event
   pub lacking : List Event
+  pub tried_are : tried ≡ asks ++ unanswered message ∷ []
   pub asked : AsksBodies before asks asking mid
   pub lacks : LacksBody message mid lacking after
   pub whole : events ≡ asking ++ lacking
 
--- What the calls of a request ask: these bodies; or memory runs out after them.
+-- What the calls of a request ask: these bodies, all of which are answered; or memory runs out as the last of them is asked.
 pub data CallsAsk (before : Progress) (asks : List BodyAsk) (events : List Event) (after : Progress) : Type 0 where
   AllAsked : AsksBodies before asks events after → CallsAsk before asks events after
-  RunsShort : LacksNext before asks events after → CallsAsk before asks events after
+  RunsShort : LacksLast before asks events after → CallsAsk before asks events after

@@ -12,7 +12,8 @@ use Rattle.gate_world.specs.declared.outside.Failed.{Failed}
 use Rattle.http_door.specs.declared.asking.AskError.TheVariants as unread
 use Rattle.gate_world.specs.Tape.{Adds}
 use Rattle.gate_world.proofs.Joins.{join}
-use Rattle.email_bodies.specs.Asking.{BodyAsk, Asks, NoneAsked, OneMore}
+use Rattle.email_bodies.specs.Asking.{BodyAsk, AreAsked, NoneAsked, OneMore, AreTried, AllAnswered, LastLacks, AreDue}
+use Rattle.email_bodies.proofs.Due.{none_due}
 use Rattle.email_bodies.specs.declared.source.MessagePlace.{MessagePlace}
 use Rattle.imap_exchange.specs.Answering.{HangsUp}
 use Rattle.imap_client.specs.LinkLife.{ClientState}
@@ -44,7 +45,7 @@ use Rattle.gate_serving.specs.declared.gate.Gate.{Gate}
 use Rattle.gate_serving.specs.declared.response.Response.{Response}
 use Rattle.gate_serving.specs.declared.served.Served.{Served}
 use Rattle.gate_serving.specs.declared.served.Served.TheVariants as served
-use Rattle.gate_serving.specs.Answers.{Answer, IsAnswer, IsResponse, KeepsUpload, MayKeepUpload, TakesMemory, no_memory_text, spelled}
+use Rattle.gate_serving.specs.Answers.{Answer, AsksFirst, IsAnswer, IsResponse, KeepsUpload, MayKeepUpload, TakesMemory, no_memory_text, spelled}
 use Rattle.gate_serving.specs.GateState.{GateState, unready_state}
 use Rattle.gate_serving.specs.Requests.{Account, Asking, Calls, Problem, Session, Upload, Download, Refused, ReadsAsking, asks_for_mail}
 use Rattle.gate_serving.specs.Segment.{Replies, Answered, LacksReading, LacksAnswering, Segment, NoneComes, NotAccepted, Left, Unasked, Replied, reply_blamed, blamed, went, unsent}
@@ -144,7 +145,10 @@ made_over door account asking begun answered asks before after gone (Ok r) needs
   made.1,
   subst (λ (u : List (List ℕ)). KeepsUpload asking before.uploads u) (sym stays) (keeps_for_mail asking before.uploads needs),
 )
-made_over door account asking begun answered asks before after gone (Err e) needs same stays made = takes_for_mail asking true needs refl
+made_over door account asking begun answered asks before after gone (Err e) needs same stays made = (
+  takes_for_mail asking true needs refl,
+  subst (λ (u : List (List ℕ)). AreDue (AsksFirst (record { mail = mailing_by begun.standing begun.machine.known; uploads = u }) asking) asks) same made,
+)
 
 -- the way to the mail, and then the answer over it
 pub answers_over : {machine : Machine} {client : ClientState} {how : Standing} {was then now : Faults} {xs ys : List Event} (gate before : Gate) (secrets : Hidden)
@@ -185,7 +189,7 @@ answers_over {xs = xs} gate before secrets asking result s begun finishes holds 
 pub finishes_nothing : {door : Door} {account : Account} {uploads : List (List ℕ)} {asking : Asking} {machine : Machine} {client : ClientState} {how : Standing}
     {p : Progress} {was then now : Faults} {ys : List Event} (kept : Machine) (e : AllocError) → CameTo machine client how was then p → kept.known ≡ None
     → HangsUp client.alive ys → NoFault then now → Finishes door account uploads asking p kept was now (Err e) ys
-finishes_nothing {client = client} {p = p} {was = was} {then = then} {now = now} {ys = ys} kept e came none hangs same =
+finishes_nothing {uploads = uploads} {asking = asking} {client = client} {p = p} {was = was} {then = then} {now = now} {ys = ys} kept e came none hangs same =
     record {
       asks = [];
       answered = p;
@@ -196,7 +200,7 @@ finishes_nothing {client = client} {p = p} {was = was} {then = then} {now = now}
       whole = refl;
       held = holds_none (forgotten p.machine) kept none;
       bears = stays_borne p.blamed was then now came.bears same;
-      made = tt;
+      made = none_due (AsksFirst (record { mail = mailing_by p.standing p.machine.known; uploads = uploads }) asking);
     }
 
 -- the way to the mail, and then what finishes the answer, whoever's the user's text and the secrets were called
@@ -268,10 +272,11 @@ module _ {door : Door} {account : Account} {uploads : List (List ℕ)} {asking :
         );
       })
 
-  pub finished_err : {asks : List BodyAsk} (e : AllocError) → AsksShort asks m n → kept.known ≡ None
+  pub finished_err : {asks : List BodyAsk} (e : AllocError) → AsksShort asks m n
+      → AreDue (λ (l : List BodyAsk). (o : MailAndUploads) → AreOf o over → AsksFirst o asking l) asks → kept.known ≡ None
       → Adds m.tape tape (λ es. (p : Progress) (was : Faults) → CameTo machine client Stands was m.faults p
       → Finishes door account uploads asking p kept was now (Err e) es)
-  finished_err {asks} e short none =
+  finished_err {asks} e short due none =
       join _ short.run hang (λ es fs run hangs p was came.
       let l = lent p was m.faults came in
       let q = run p was l.3 in
@@ -285,7 +290,8 @@ module _ {door : Door} {account : Account} {uploads : List (List ℕ)} {asking :
         whole = refl;
         held = holds_none (forgotten q.0.machine) kept none;
         bears = stays_borne q.0.blamed was n.faults now q.2.bears same;
-        made = tt;
+        made = subst (λ (x : Mailing). AreDue (AsksFirst (record { mail = x; uploads = uploads }) asking) asks) (sym (holds_stands p l.0 came.standing_is l.1))
+            (λ firsts last is. due firsts last is (record { mail = Ok l.0.history; uploads = uploads }) (is_over l.0 l.2.state));
       })
 
   -- the response, or that there was no memory for it
@@ -293,6 +299,7 @@ module _ {door : Door} {account : Account} {uploads : List (List ℕ)} {asking :
       → m ≡ moment a → n ≡ moment b → answered_by secrets ≡ account → result ≡ made
       → AsksAndMakes (Answers moment) (Lacks moment) a b made
       (λ r asks. (h : Hidden) (o : MailAndUploads) → AreOf o over → IsResponse door (answered_by h) o asking asks (text_sent r))
+      (λ asks. (o : MailAndUploads) → AreOf o over → AsksFirst o asking asks)
       → ((p : Progress) (k : KnownMail) (was then : Faults) → p.machine.known ≡ Some k → IsLentOf k served → HoldsSource p n.source was then → HoldsMachine p.machine taken)
       → OnOk result (kept ≡ taken) → OnErr result (kept.known ≡ None)
       → Adds m.tape tape (λ es. (p : Progress) (was : Faults) → CameTo machine client Stands was m.faults p
@@ -307,18 +314,20 @@ module _ {door : Door} {account : Account} {uploads : List (List ℕ)} {asking :
       (λ p k was then ready of holds. subst (λ (x : Machine). HoldsMachine p.machine x) (sym kept_is) (held p k was then ready of holds))
   finished moment a b (Err e) (Err f) taken answered_by secrets m_is n_is same_account is makes held kept_is none =
       finished_err e
-      (subst (λ (x : Moment). AsksShort makes.asks x n) (sym m_is) (subst (λ (x : Moment). AsksShort makes.asks (moment a) x) (sym n_is) (asked_in_vain moment makes))) none
+      (subst (λ (x : Moment). AsksShort makes.tried x n) (sym m_is) (subst (λ (x : Moment). AsksShort makes.tried (moment a) x) (sym n_is) (asked_in_vain moment makes)))
+      makes.due none
   finished moment a b (Ok r) (Err f) taken answered_by secrets m_is n_is same_account is makes held kept_is none = absurd (let never : Ok r ≡ Err f = is in cc)
   finished moment a b (Err e) (Ok r) taken answered_by secrets m_is n_is same_account is makes held kept_is none = absurd (let never : Err e ≡ Ok r = is in cc)
 
 -- what asking did, however it came out
-module _ {S : Type 0} (moment : S → Moment) {X : Type 0} (Means : X → List BodyAsk → Type 0) (before after : S) where
-  pub counts_of : (result : Result X AllocError) → AsksAndMakes (Answers moment) (Lacks moment) before after result Means
+module _ {S : Type 0} (moment : S → Moment) {X : Type 0} (Means : X → List BodyAsk → Type 0) (AreAll : List BodyAsk → Type 0) (before after : S) where
+  pub counts_of : (result : Result X AllocError) → AsksAndMakes (Answers moment) (Lacks moment) before after result Means AreAll
       → CountsOn (moment before).source.told (moment after).source.told
   counts_of (Ok x) makes = (asked_these moment makes.asked).counts
   counts_of (Err e) makes = (asked_in_vain moment makes).counts
 
-  pub goes_on_of : (result : Result X AllocError) → AsksAndMakes (Answers moment) (Lacks moment) before after result Means → GoesOn (moment before) (moment after)
+  pub goes_on_of : (result : Result X AllocError) → AsksAndMakes (Answers moment) (Lacks moment) before after result Means AreAll
+      → GoesOn (moment before) (moment after)
   goes_on_of (Ok x) makes = (asked_these moment makes.asked).goes_on
   goes_on_of (Err e) makes = (asked_in_vain moment makes).goes_on
 
@@ -331,14 +340,18 @@ NoAnswer before message body after = (body ≡ None) × (after ≡ before)
 abbrev pub NoLack : {S : Type 0} → S → MessagePlace → S → Type 0
 NoLack before message after = after ≡ before
 
-none_changed : {S : Type 0} {before after : S} {asks : List BodyAsk} → Asks NoAnswer before asks after → after ≡ before
+none_changed : {S : Type 0} {before after : S} {asks : List BodyAsk} → AreAsked NoAnswer before asks after → after ≡ before
 none_changed NoneAsked = refl
 none_changed (OneMore ask asks answers) = answers.1 ∙ none_changed asks
 
-pub nothing_changed : {S X : Type 0} (Means : X → List BodyAsk → Type 0) (before after : S) (result : Result X AllocError)
-    → AsksAndMakes NoAnswer NoLack before after result Means → after ≡ before
-nothing_changed Means before after (Ok x) makes = none_changed makes.asked
-nothing_changed Means before after (Err e) makes = elim makes.ends [ inl none ↦ none ∙ none_changed makes.asked | inr one ↦ one.1 ∙ none_changed makes.asked ]
+none_tried : {S : Type 0} {before after : S} {tried : List BodyAsk} → AreTried NoAnswer NoLack before tried after → after ≡ before
+none_tried (AllAnswered asks) = none_changed asks
+none_tried (LastLacks message asks lacks is) = lacks ∙ none_changed asks
+
+pub nothing_changed : {S X : Type 0} (Means : X → List BodyAsk → Type 0) (AreAll : List BodyAsk → Type 0) (before after : S) (result : Result X AllocError)
+    → AsksAndMakes NoAnswer NoLack before after result Means AreAll → after ≡ before
+nothing_changed Means AreAll before after (Ok x) makes = none_changed makes.asked
+nothing_changed Means AreAll before after (Err e) makes = none_tried makes.are_tried
 
 no_asks : (account : Account) (e : MethodError) (uploads : List (List ℕ)) (asking : Asking) (asks : List BodyAsk) (answer : Answer)
     → IsAnswer account (record { mail = Err e; uploads = uploads }) asking asks answer → asks ≡ []
@@ -356,7 +369,7 @@ pub finished_untold : {door : Door} {account : Account} {uploads : List (List �
     → ((r : Response) → result ≡ Ok r → (asks : List BodyAsk) × ((o : MailAndUploads) → AreOf o over → IsResponse door account o asking asks (text_sent r)))
     → AreOf (record { mail = Err error; uploads = uploads }) over → HoldsMachine (machine_left result p.machine) kept
     → Finishes door account uploads asking p kept was now result ys
-finished_untold {client = client} {p = p} {was = was} {then = then} {now = now} {ys = ys} error (Err e) needs came is hangs same made of held =
+finished_untold {uploads = uploads} {asking = asking} {client = client} {p = p} {was = was} {then = then} {now = now} {ys = ys} error (Err e) needs came is hangs same made of held =
     record {
       asks = [];
       answered = p;
@@ -367,7 +380,7 @@ finished_untold {client = client} {p = p} {was = was} {then = then} {now = now} 
       whole = refl;
       held = held;
       bears = stays_borne p.blamed was then now came.bears same;
-      made = tt;
+      made = none_due (AsksFirst (record { mail = mailing_by p.standing p.machine.known; uploads = uploads }) asking);
     }
 finished_untold {door} {account} {uploads} {asking} {client = client} {how = how} {p = p} {was = was} {then = then} {now = now} {ys = ys} error (Ok r) needs came is hangs same made of held =
     let so = made r refl in
@@ -394,15 +407,15 @@ finished_untold {door} {account} {uploads} {asking} {client = client} {how = how
 
 -- the response that was made, whoever's account it was called
 pub made_untold : {S : Type 0} (A : S → MessagePlace → Option (List ℕ) → S → Type 0) (L : S → MessagePlace → S → Type 0) (before after : S) {door : Door} {asking : Asking}
-    {over : Over} (made result : Result Response AllocError) (answered_by : Hidden → Account) (secrets : Hidden) → result ≡ made
-    → AsksAndMakes A L before after made (λ r asks. (h : Hidden) (o : MailAndUploads) → AreOf o over → IsResponse door (answered_by h) o asking asks (text_sent r))
+    {over : Over} (AreAll : List BodyAsk → Type 0) (made result : Result Response AllocError) (answered_by : Hidden → Account) (secrets : Hidden) → result ≡ made
+    → AsksAndMakes A L before after made (λ r asks. (h : Hidden) (o : MailAndUploads) → AreOf o over → IsResponse door (answered_by h) o asking asks (text_sent r)) AreAll
     → (r : Response) → result ≡ Ok r
     → (asks : List BodyAsk) × ((o : MailAndUploads) → AreOf o over → IsResponse door (answered_by secrets) o asking asks (text_sent r))
-made_untold A L before after {door = door} {asking = asking} (Ok r') result answered_by secrets is makes r r_is =
+made_untold A L before after {door = door} {asking = asking} AreAll (Ok r') result answered_by secrets is makes r r_is =
     let both : Ok r' ≡ Ok r = sym is ∙ r_is in
     let same : r' ≡ r = cc in
     (makes.asks, (λ o of. subst (λ (x : Response). IsResponse door (answered_by secrets) o asking makes.asks (text_sent x)) same (makes.meant secrets o of)))
-made_untold A L before after (Err e) result answered_by secrets is makes r r_is = absurd (let both : Err e ≡ Ok r = sym is ∙ r_is in cc)
+made_untold A L before after AreAll (Err e) result answered_by secrets is makes r r_is = absurd (let both : Err e ≡ Ok r = sym is ∙ r_is in cc)
 
 -- the machine that is left holds what it held, or isn't ready
 pub kept_left : {m : MachineState} (taken kept : Machine) (result : Result Response AllocError) → HoldsMachine m taken → OnOk result (kept ≡ taken)
@@ -431,7 +444,7 @@ answers_at_once gate before secrets asking (Err e) f s holds needless rest held 
     machine_is = refl;
     bears = bears_none f f (later_same f f refl);
     may = subst (λ (u : List (List ℕ)). MayKeepUpload asking u gate.uploads) holds.uploads may;
-    made = takes;
+    made = (takes, none_due (AsksFirst (record { mail = Err ServerUnavailable; uploads = s.uploads }) asking));
   },
 )
 answers_at_once gate before secrets asking (Ok r) f s holds needless rest held may made takes =
@@ -541,8 +554,9 @@ replied_lacking {asking = asking} {events = events} e text text_is a =
           done = a.done;
           whole = refl;
           reads = reads;
-          takes = a.made;
+          takes = a.made.0;
           work = a.work;
+          due = a.made.1;
           text_is = text_is;
           machine_is = ap (λ (m : MachineState). forgotten m) a.machine_is;
           may_keep = a.may;

@@ -1,25 +1,29 @@
 -- Responses that are made over mail, and the bodies that are asked for them.
-use Rattle.std.proofs.Common.{◌≡◌, ◌⊎◌, ℕ, List, [], Option, Result, Ok, Err, refl, sym, ◌∙◌, ap, subst, inl, inr}
+use Rattle.std.proofs.Common.{◌≡◌, ◌⊎◌, ◌++◌, ◌∷◌, ℕ, List, [], Option, Result, Ok, Err, refl, sym, ◌∙◌, ap, subst, inl, inr}
 use Rattle.std.specs.Prelude.{IfOk}
 use Rattle.std.specs.declared.alloc.AllocError.{AllocError}
 use Rattle.serde_json.specs.Written.{compact_text}
 use Rattle.gate_world.specs.Causes.{Hidden}
-use Rattle.email_bodies.specs.Asking.{BodyAsk, NoneAsked, AsksInVain}
+use Rattle.email_bodies.specs.Asking.{BodyAsk, NoneAsked, AsksInVain, unanswered}
+use Rattle.email_bodies.proofs.Joins.{vain_at_once, vain_after}
 use Rattle.email_bodies.specs.declared.error.BodyError.TheVariants as body
 use Rattle.email_bodies.specs.declared.source.MessagePlace.{MessagePlace}
-use Rattle.email_get.specs.Asked.{AsksAnd}
-use Rattle.email_get.specs.Blobs.{OctetsFound}
+use Rattle.email_get.specs.Asked.{AsksAnd, FailsAfter}
+use Rattle.email_get.specs.Blobs.{FindsBlob, OctetsFound}
+use Rattle.email_get.proofs.Due.{due_blob}
 use Rattle.jmap_core.specs.Request.{CallData, RequestData}
 use Rattle.jmap_methods.specs.declared.method_error.MethodError.{MethodError}
 use Rattle.gate_calls.specs.declared.mail.Mail.TheVariants as code
 use Rattle.gate_calls.specs.declared.mail.Over.{Over}
 use Rattle.gate_calls.specs.Asking.{AsksAndMakes}
-use Rattle.gate_calls.specs.Calls.{AnswersCalls}
+use Rattle.gate_calls.specs.Calls.{AnswersCalls, FirstCallsAsk}
+use Rattle.mail_maps.specs.Rows.{Rows}
 use Rattle.gate_calls.specs.Mailings.{Mailing, MailAndUploads, AreOf}
-use Rattle.gate_calls.proofs.Meaning.{in_vain, mail_untold, vain_after}
+use Rattle.gate_calls.proofs.Due.{due_calls}
+use Rattle.gate_calls.proofs.Meaning.{mail_untold}
 use Rattle.gate_serving.specs.declared.door.Door.{Door}
 use Rattle.gate_serving.specs.declared.response.Response.{Response}
-use Rattle.gate_serving.specs.Answers.{Answer, IsDownload, IsResponse, calls_text, found_answer, json_answer, problem_answer, spelled, untold_problem}
+use Rattle.gate_serving.specs.Answers.{Answer, DownloadAsks, IsDownload, IsResponse, calls_text, found_answer, json_answer, problem_answer, spelled, untold_problem}
 use Rattle.gate_serving.specs.Requests.{Account, Calls}
 use Rattle.gate_serving.specs.reading.Texts.{text_sent}
 use Rattle.gate_serving.proofs.Answering.{NoAnswer, NoLack}
@@ -28,11 +32,15 @@ module _ {S : Type 0} (Answers : S → MessagePlace → Option (List ℕ) → S 
   -- ---- downloads
 
   -- what was found is told
-  pub made_found : (Finds : List BodyAsk → OctetsFound → Type 0) (before after : S) (door : Door) (media : Option (List ℕ)) (found : OctetsFound) (made : Result Response AllocError)
-      → AsksAnd Answers Lacks before after (λ asks. Finds asks found) → IfOk made (λ r. text_sent r ≡ spelled door (found_answer found media))
-      → AsksAndMakes Answers Lacks before after made (λ r asks. (o : OctetsFound) × Finds asks o × (text_sent r ≡ spelled door (found_answer o media)))
-  made_found Finds before after door media found (Ok r) gives text_is = record { asks = gives.asks; asked = gives.asked; meant = (found, gives.meant, text_is) }
-  made_found Finds before after door media found (Err e) gives text_is = vain_after Answers Lacks gives
+  pub made_found : (emails : Rows) (uploads : List (List ℕ)) (id : List ℕ) (before after : S) (door : Door) (media : Option (List ℕ)) (found : OctetsFound)
+      (made : Result Response AllocError) → AsksAnd Answers Lacks before after (λ asks. FindsBlob emails uploads id asks found)
+      → IfOk made (λ r. text_sent r ≡ spelled door (found_answer found media))
+      → AsksAndMakes Answers Lacks before after made
+      (λ r asks. (o : OctetsFound) × FindsBlob emails uploads id asks o × (text_sent r ≡ spelled door (found_answer o media))) (FailsAfter (FindsBlob emails uploads id))
+  made_found emails uploads id before after door media found (Ok r) gives text_is =
+      record { asks = gives.asks; asked = gives.asked; meant = (found, gives.meant, text_is) }
+  made_found emails uploads id before after door media found (Err e) gives text_is =
+      vain_after Answers Lacks (FailsAfter (FindsBlob emails uploads id)) before after gives.asks gives.asked (due_blob emails uploads id gives.asks found gives.meant)
 
   -- a body that didn't come isn't want of memory
   pub ended : {V : Type 0} {P : List BodyAsk → Type 0} (before after : S) → ((body.Ended ≡ body.Memory) × V) ⊎ AsksAnd Answers Lacks before after P
@@ -40,16 +48,20 @@ module _ {S : Type 0} (Answers : S → MessagePlace → Option (List ℕ) → S 
   ended before after (inl never) = absurd (let same : body.Ended ≡ body.Memory = never.0 in cc)
   ended before after (inr gives) = gives
 
-  pub lacked : {X : Type 0} {P : List BodyAsk → Type 0} (before after : S) → (X × AsksInVain Answers Lacks before after) ⊎ AsksAnd Answers Lacks before after P
-      → AsksInVain Answers Lacks before after
-  lacked before after (inl vain) = vain.1
-  lacked before after (inr gives) = vain_after Answers Lacks gives
+  pub lacked : {X : Type 0} (emails : Rows) (uploads : List (List ℕ)) (id : List ℕ) (found : OctetsFound) (before after : S)
+      → (X × AsksInVain Answers Lacks (FailsAfter (FindsBlob emails uploads id)) before after)
+      ⊎ AsksAnd Answers Lacks before after (λ asks. FindsBlob emails uploads id asks found)
+      → AsksInVain Answers Lacks (FailsAfter (FindsBlob emails uploads id)) before after
+  lacked emails uploads id found before after (inl vain) = vain.1
+  lacked emails uploads id found before after (inr gives) =
+      vain_after Answers Lacks (FailsAfter (FindsBlob emails uploads id)) before after gives.asks gives.asked (due_blob emails uploads id gives.asks found gives.meant)
 
   -- where the mail can't be told
   pub untold_made : (s : S) (door : Door) (over : Over) (e : MethodError) (blob : List ℕ) (media : Option (List ℕ)) (made : Result Response AllocError)
       → over.mail ≡ code.Untold e → IfOk made (λ r. text_sent r ≡ spelled door (problem_answer 404 (compact_text untold_problem)))
       → AsksAndMakes Answers Lacks s s made
       (λ r asks. (o : MailAndUploads) → AreOf o over → (answer : Answer) × IsDownload o.mail o.uploads blob media asks answer × (text_sent r ≡ spelled door answer))
+      (λ asks. (o : MailAndUploads) → AreOf o over → DownloadAsks o.mail o.uploads blob asks)
   untold_made s door over e blob media (Ok r) is text_is =
       record {
         asks = [];
@@ -61,7 +73,8 @@ module _ {S : Type 0} (Answers : S → MessagePlace → Option (List ℕ) → S 
           text_is,
         );
       }
-  untold_made s door over e blob media (Err x) is text_is = in_vain Answers Lacks s
+  untold_made s door over e blob media (Err x) is text_is =
+      vain_at_once Answers Lacks (λ asks. (o : MailAndUploads) → AreOf o over → DownloadAsks o.mail o.uploads blob asks) s
 
   -- ---- calls
 
@@ -72,6 +85,7 @@ module _ {S : Type 0} (Answers : S → MessagePlace → Option (List ℕ) → S 
       → IfOk made (λ r. text_sent r ≡ spelled door (json_answer 200 (calls_text user base shown request)))
       → AsksAndMakes Answers Lacks before after made (λ r asks. (o : MailAndUploads) → AreOf o over → (responses : List CallData)
       × AnswersCalls request.uses o request.calls asks responses × (text_sent r ≡ spelled door (json_answer 200 (calls_text user base responses request))))
+      (λ asks. (o : MailAndUploads) → AreOf o over → FirstCallsAsk request.uses o request.calls asks)
   calls_made before after door user base over request calls responses shown (Ok r) calls_are shown_is gives text_is =
       record {
         asks = gives.asks;
@@ -82,13 +96,27 @@ module _ {S : Type 0} (Answers : S → MessagePlace → Option (List ℕ) → S 
           text_is ∙ ap (λ (rs : List CallData). spelled door (json_answer 200 (calls_text user base rs request))) shown_is,
         );
       }
-  calls_made before after door user base over request calls responses shown (Err e) calls_are shown_is gives text_is = vain_after Answers Lacks gives
+  calls_made before after door user base over request calls responses shown (Err e) calls_are shown_is gives text_is =
+      vain_after Answers Lacks (λ asks. (o : MailAndUploads) → AreOf o over → FirstCallsAsk request.uses o request.calls asks) before after gives.asks gives.asked
+      (λ firsts last is o of. subst (λ (cs : List CallData). FirstCallsAsk request.uses o cs (firsts ++ unanswered last.message ∷ [])) calls_are
+      (due_calls (gives.meant o of) firsts last is))
+
+  -- there was no memory for the responses
+  pub calls_lacked : {X : Type 0} (Means : X → List BodyAsk → Type 0) (before after : S) (over : Over) (request : RequestData) (calls : List CallData)
+      (result : Result X AllocError) (e : AllocError) → result ≡ Err e → calls ≡ request.calls
+      → AsksInVain Answers Lacks (λ asks. (o : MailAndUploads) → AreOf o over → FirstCallsAsk request.uses o calls asks) before after
+      → AsksAndMakes Answers Lacks before after result Means (λ asks. (o : MailAndUploads) → AreOf o over → FirstCallsAsk request.uses o request.calls asks)
+  calls_lacked {X} Means before after over request calls result e is calls_are vain =
+      subst (λ (r : Result X AllocError). AsksAndMakes Answers Lacks before after r Means (λ asks. (o : MailAndUploads) → AreOf o over
+      → FirstCallsAsk request.uses o request.calls asks)) (sym is)
+      (subst (λ (cs : List CallData). AsksInVain Answers Lacks (λ asks. (o : MailAndUploads) → AreOf o over → FirstCallsAsk request.uses o cs asks) before after) calls_are vain)
 
 -- the response to calls that need no mail
 pub calls_without : {S : Type 0} (before after : S) (door : Door) (account : Hidden → Account) (user base : List ℕ) (over : Over) (o : MailAndUploads) (request : RequestData)
     (made : Result Response AllocError) → ((h : Hidden) → (user ≡ (account h).user) × (base ≡ (account h).base)) → AreOf o over
     → AsksAndMakes NoAnswer NoLack before after made (λ r asks. (o : MailAndUploads) → AreOf o over → (responses : List CallData)
     × AnswersCalls request.uses o request.calls asks responses × (text_sent r ≡ spelled door (json_answer 200 (calls_text user base responses request))))
+    (λ asks. (o : MailAndUploads) → AreOf o over → FirstCallsAsk request.uses o request.calls asks)
     → IfOk made (λ r. (h : Hidden) → (asks : List BodyAsk) × IsResponse door (account h) o (Calls request) asks (text_sent r))
 calls_without before after door account user base over o request (Ok r) named of makes = λ h.
     let so = makes.meant o of in

@@ -10,8 +10,9 @@ use Rattle.jmap_core.specs.Problem.{text_of_problem, status_of as problem_status
 use Rattle.jmap_core.specs.Request.{CallData, RequestData}
 use Rattle.jmap_core.specs.Response.{response_data}
 use Rattle.jmap_core.specs.Session.{session_data, session_state_text}
-use Rattle.gate_calls.specs.Calls.{AnswersCalls}
+use Rattle.gate_calls.specs.Calls.{AnswersCalls, FirstCallsAsk}
 use Rattle.email_bodies.specs.Asking.{BodyAsk}
+use Rattle.email_get.specs.Asked.{FailsAfter}
 use Rattle.email_get.specs.Blobs.{FindsBlob, OctetsFound}
 use Rattle.gate_calls.specs.Mailings.{Mailing, MailAndUploads}
 use Rattle.gate_serving.specs.declared.door.Door.{Door}
@@ -76,6 +77,11 @@ IsDownload (Ok h) uploads blob media asks answer =
     (found : OctetsFound) × FindsBlob h.numbered.rows uploads blob asks found × (answer ≡ found_answer found media)
 IsDownload (Err e) uploads blob media asks answer = (asks ≡ []) × (answer ≡ problem_answer 404 (compact_text untold_problem))
 
+-- these bodies are asked for it, of which the last one doesn't come
+abbrev pub DownloadAsks : Mailing → List (List ℕ) → List ℕ → List BodyAsk → Type 0
+DownloadAsks (Ok h) uploads blob asks = FailsAfter (FindsBlob h.numbered.rows uploads blob) asks
+DownloadAsks (Err e) uploads blob asks = ⊥
+
 -- ---- what is answered
 
 -- The answer over this mail and these uploads, for which these bodies are asked: to method calls it has the responses to them.
@@ -88,6 +94,13 @@ IsAnswer account over Session asks answer = (asks ≡ []) × (answer ≡ json_an
 IsAnswer account over (Upload media octets) asks answer = (asks ≡ []) × (answer ≡ json_answer 201 (compact_text (upload_data media octets)))
 IsAnswer account over (Download blob media) asks answer = IsDownload over.mail over.uploads blob media asks answer
 IsAnswer account over (Refused refusal) asks answer = (asks ≡ []) × (answer ≡ empty_answer (refusal_status refusal))
+
+-- These bodies are asked over this mail and these uploads for what is asked, of which the last one doesn't come: for a download, or for the first of
+-- the calls.
+abbrev pub AsksFirst : MailAndUploads → Asking → List BodyAsk → Type 0
+AsksFirst over (Calls request) asks = FirstCallsAsk request.uses over request.calls asks
+AsksFirst over (Download blob media) asks = DownloadAsks over.mail over.uploads blob asks
+AsksFirst over _ asks = ⊥
 
 -- each line ends so
 abbrev pub line_end : List ℕ

@@ -6,7 +6,7 @@ use Rattle.gate_world.specs.declared.event.Event.{Event}
 use Rattle.gate_world.specs.declared.event.Event.TheVariants.{Accepted, NoMore, ClientDone, FrontFailed}
 use Rattle.gate_world.specs.declared.outside.Failed.{Failed}
 use Rattle.http_door.specs.declared.asking.AskError.TheVariants as unread
-use Rattle.email_bodies.specs.Asking.{BodyAsk}
+use Rattle.email_bodies.specs.Asking.{BodyAsk, AreDue}
 use Rattle.gate_machine.specs.Machine.{forgotten as forgotten_machine}
 use Rattle.gate_machine.specs.Progress.{Progress}
 use Rattle.gate_machine.specs.declared.standing.Standing.TheVariants.{OutOfMemory}
@@ -14,7 +14,7 @@ use Rattle.gate_calls.specs.Mailings.{Mailing}
 use Rattle.gate_serving.specs.declared.door.Door.{Door}
 use Rattle.gate_serving.specs.declared.served.Served.{Served}
 use Rattle.gate_serving.specs.declared.served.Served.TheVariants as served
-use Rattle.gate_serving.specs.Answers.{KeepsUpload, MayKeepUpload, TakesMemory, IsResponse, no_memory_text}
+use Rattle.gate_serving.specs.Answers.{KeepsUpload, MayKeepUpload, TakesMemory, IsResponse, AsksFirst, no_memory_text}
 use Rattle.gate_serving.specs.GateState.{GateState, unready_state}
 use Rattle.gate_serving.specs.Requests.{Account, Asking, ReadsAsking}
 use Rattle.gate_serving.specs.Work.{Work}
@@ -41,7 +41,7 @@ pub record AnswersAsking (door : Door) (account : Account) (before : GateState) 
   pub is_response : IsResponse door account (record { mail = mail; uploads = after.uploads }) asking asks text
 
 -- Memory runs out after a request was read whose response takes memory: in the link life, while what it told was to be served or a body was asked,
--- or while the response was made. An upload may be kept then.
+-- or while the response was made. Bodies were asked by then that were due. An upload may be kept then.
 pub record LacksForAsking (door : Door) (account : Account) (before : GateState) (events : List Event) (text : List ℕ) (after : GateState) : Type 0 where
   pub asked : List Event
   pub worked : List Event
@@ -53,6 +53,7 @@ pub record LacksForAsking (door : Door) (account : Account) (before : GateState)
   pub reads : ReadsAsking door account.token (Ok asking) asked
   pub takes : TakesMemory asking
   pub work : Work account before.machine asking worked mail asks done
+  pub due : AreDue (AsksFirst (record { mail = mail; uploads = before.uploads }) asking) asks
   pub text_is : text ≡ no_memory_text door
   pub machine_is : after.machine ≡ forgotten_machine done.machine
   pub may_keep : MayKeepUpload asking before.uploads after.uploads

@@ -8,11 +8,12 @@ ghost use Rattle.jmap_core.specs.Problem.{text_of_problem, status_of as status_o
 ghost use Rattle.jmap_core.specs.Request.{CallData, call_data, request_data};
 ghost use Rattle.jmap_core.specs.Response.{IsWhole};
 ghost use Rattle.jmap_core.specs.Session.{session_data};
+ghost use Rattle.email_get.specs.Asked.{FailsAfter};
 ghost use Rattle.email_get.specs.Blobs.{FindsBlob, OctetsFound};
 ghost use Rattle.gate_calls.specs.Asking.{AsksAndMakes};
-ghost use Rattle.gate_calls.specs.Calls.{AnswersCalls};
+ghost use Rattle.gate_calls.specs.Calls.{AnswersCalls, FirstCallsAsk};
 ghost use Rattle.gate_calls.specs.Mailings.{AreOf, MailAndUploads};
-ghost use Rattle.gate_serving.specs.Answers.{Answer, IsDownload, calls_text as text_of_calls, found_answer, json_answer, problem_answer, spelled, untold_problem, upload_data};
+ghost use Rattle.gate_serving.specs.Answers.{Answer, DownloadAsks, IsDownload, calls_text as text_of_calls, found_answer, json_answer, problem_answer, spelled, untold_problem, upload_data};
 ghost use Rattle.gate_serving.specs.reading.Texts.{text_sent};
 
 use crate::door::Door;
@@ -98,7 +99,8 @@ pub fn calls_response<W, B: BodySource<W>>(
     ensures { AsksAndMakes B.answers B.lacks (bodies.old, world.old) (bodies.new, world.new) result
         (λ r asks. (o : MailAndUploads) → AreOf o over.now → (responses : List CallData)
         × AnswersCalls (request_data request.now).uses o (request_data request.now).calls asks responses
-        × (text_sent r ≡ spelled door (json_answer 200 (text_of_calls user.now base.now responses (request_data request.now))))) }
+        × (text_sent r ≡ spelled door (json_answer 200 (text_of_calls user.now base.now responses (request_data request.now)))))
+        (λ asks. (o : MailAndUploads) → AreOf o over.now → FirstCallsAsk (request_data request.now).uses o (request_data request.now).calls asks) }
 {
     let responses = responses_to(
         alloc,
@@ -237,7 +239,8 @@ fn told_response<W, B: BodySource<W>>(
 ) -> Result<Response, AllocError>
     ensures { AsksAndMakes B.answers B.lacks (bodies.old, world.old) (bodies.new, world.new) result
         (λ r asks. (found : OctetsFound) × FindsBlob state.now.rows.numbered.rows uploads.now blob.now asks found
-        × (text_sent r ≡ spelled door (found_answer found (option_copied media.entry)))) }
+        × (text_sent r ≡ spelled door (found_answer found (option_copied media.entry))))
+        (FailsAfter (FindsBlob state.now.rows.numbered.rows uploads.now blob.now)) }
 {
     match find_blob(alloc, state, uploads, bodies, world, blob) {
         Err(BodyError::Memory) => Err(AllocError),
@@ -258,7 +261,8 @@ pub fn download_response<W, B: BodySource<W>>(
 ) -> Result<Response, AllocError>
     ensures { AsksAndMakes B.answers B.lacks (bodies.old, world.old) (bodies.new, world.new) result
         (λ r asks. (o : MailAndUploads) → AreOf o over.now → (answer : Answer)
-        × IsDownload o.mail o.uploads blob.now (option_copied media.entry) asks answer × (text_sent r ≡ spelled door answer)) }
+        × IsDownload o.mail o.uploads blob.now (option_copied media.entry) asks answer × (text_sent r ≡ spelled door answer))
+        (λ asks. (o : MailAndUploads) → AreOf o over.now → DownloadAsks o.mail o.uploads blob.now asks) }
 {
     match &over.mail {
         Mail::Told(state) => told_response(

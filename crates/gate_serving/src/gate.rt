@@ -12,7 +12,7 @@ ghost use Rattle.gate_machine.specs.declared.standing.Standing.TheVariants.{Fell
 ghost use Rattle.gate_calls.specs.Asking.{AsksAndMakes};
 ghost use Rattle.gate_calls.specs.Mailings.{AreOf, MailAndUploads, error_of as error_meant};
 ghost use Rattle.gate_serving.specs.GateState.{GateState, unready_state};
-ghost use Rattle.gate_serving.specs.Answers.{IsResponse, KeepsUpload, TakesMemory, no_memory_text};
+ghost use Rattle.gate_serving.specs.Answers.{AsksFirst, IsResponse, KeepsUpload, TakesMemory, no_memory_text};
 ghost use Rattle.gate_serving.specs.Run.{AddsSegment, account_of};
 ghost use Rattle.gate_serving.specs.declared.door.Door.TheVariants.{Bare};
 ghost use Rattle.gate_serving.specs.reading.Askings.{asking_data, id_asked};
@@ -276,7 +276,8 @@ impl Gate {
         requires { asks_for_mail (asking_data asking.now) ≡ true }
         ensures { AsksAndMakes B.answers B.lacks (bodies.old, world.old) (bodies.new, world.new) result
             (λ r asks. (secrets : Hidden) (o : MailAndUploads) → AreOf o over.now
-            → IsResponse self.now.door (account_by self.now secrets) o (asking_data asking.now) asks (text_sent r)) }
+            → IsResponse self.now.door (account_by self.now secrets) o (asking_data asking.now) asks (text_sent r))
+            (λ asks. (o : MailAndUploads) → AreOf o over.now → AsksFirst o (asking_data asking.now) asks) }
     {
         match asking {
             Asking::Calls(request) => calls_response(

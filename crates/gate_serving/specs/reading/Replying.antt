@@ -7,7 +7,7 @@ use Rattle.gate_world.specs.declared.event.Event.{Event}
 use Rattle.gate_world.specs.declared.event.Event.TheVariants.{Accepted}
 use Rattle.gate_world.specs.declared.outside.Failed.{Failed}
 use Rattle.http_door.specs.declared.asking.AskError.TheVariants as unread
-use Rattle.email_bodies.specs.Asking.{BodyAsk}
+use Rattle.email_bodies.specs.Asking.{BodyAsk, AreDue}
 use Rattle.imap_exchange.specs.Answering.{HangsUp}
 use Rattle.gate_machine.specs.Fetching.{CallsAsk}
 use Rattle.gate_machine.specs.Progress.{Progress, Bears, is_up}
@@ -20,19 +20,20 @@ use Rattle.gate_serving.specs.declared.door.Door.{Door}
 use Rattle.gate_serving.specs.declared.response.Response.{Response}
 use Rattle.gate_serving.specs.declared.served.Served.{Served}
 use Rattle.gate_serving.specs.declared.served.Served.TheVariants as served
-use Rattle.gate_serving.specs.Answers.{KeepsUpload, MayKeepUpload, TakesMemory, IsResponse}
+use Rattle.gate_serving.specs.Answers.{KeepsUpload, MayKeepUpload, TakesMemory, IsResponse, AsksFirst}
 use Rattle.gate_serving.specs.GateState.{GateState}
 use Rattle.gate_serving.specs.Requests.{Account, Asking, ReadsAsking}
 use Rattle.gate_serving.specs.Segment.{Replies, Segment, reply_blamed, blamed, went}
 use Rattle.gate_serving.specs.Work.{Work}
 use Rattle.gate_serving.specs.reading.Texts.{text_sent}
 
--- the response that is made over the mail of the work so far; or none
+-- the response that is made over the mail of the work so far; or none, after bodies were asked that were due
 abbrev pub IsMadeOver : Door → Account → List (List ℕ) → Asking → Progress → List BodyAsk → Progress → Result Response AllocError → Type 0
 IsMadeOver door account uploads asking begun asks answered (Ok response) =
     IsResponse door account (record { mail = mailing_by begun.standing begun.machine.known; uploads = uploads }) asking asks (text_sent response)
     × (answered.standing ≢ OutOfMemory)
-IsMadeOver door account uploads asking begun asks answered (Err _) = Unit {0}
+IsMadeOver door account uploads asking begun asks answered (Err _) =
+    AreDue (AsksFirst (record { mail = mailing_by begun.standing begun.machine.known; uploads = uploads }) asking) asks
 
 -- the machine that is left: where there was no response it isn't ready
 abbrev pub machine_left : Result Response AllocError → MachineState → MachineState
@@ -58,7 +59,8 @@ abbrev pub IsMade : Door → Account → Mailing → Asking → List BodyAsk →
 IsMade door account mail asking asks before after done (Ok response) =
     IsResponse door account (record { mail = mail; uploads = after.uploads }) asking asks (text_sent response)
     × (done.standing ≢ OutOfMemory) × KeepsUpload asking before.uploads after.uploads
-IsMade door account mail asking asks before after done (Err _) = TakesMemory asking
+IsMade door account mail asking asks before after done (Err _) =
+    TakesMemory asking × AreDue (AsksFirst (record { mail = mail; uploads = before.uploads }) asking) asks
 
 pub record AnswersTo (door : Door) (account : Account) (asking : Asking) (before after : GateState) (was now : Faults) (result : Result Response AllocError)
     (events : List Event) : Type 0 where

@@ -2,9 +2,11 @@ use Rattle.std.proofs.Common.{List, ℕ, Option, None, Ok, Err}
 use Rattle.email_bodies.specs.Asking.{BodyAsk}
 use Rattle.email_bodies.specs.declared.error.BodyError.TheVariants.{Memory}
 use Rattle.message_blobs.specs.BlobIds.{root_view}
+use Rattle.email_get.specs.Asked.{FailsAfter}
 use Rattle.email_get.specs.Blobs.{FindsRoot, NoBody, FindsOctets}
 use Rattle.email_get.proofs.AskLemmas.{lacks_memory, same_error, vain_after, given_after, refused_after}
 use Rattle.email_get.proofs.BlobLemmas.{no_leaf_of_none, leaf_given}
+use Rattle.email_get.proofs.Due.{due_octets_of}
 use Rattle.email_get.proofs.blobs.blob_octets.Goals as goal
 
 pub returns-in_err-root_octets : goal.returns-in_err-root_octets
@@ -18,8 +20,8 @@ returns-in_err-root_octets g c =
     c.from_residual.result e (FindsOctets emails c.args.blobs.now root leaves) c.from_residual.ensures.1
     (refused_after g.B.BodySource.answers g.B.BodySource.lacks Memory (λ (o : Option (List ℕ)). o) (c.args.bodies.now, c.args.world.now)
     (c.root_octets.new.bodies, c.root_octets.new.world)
-    e (FindsOctets emails c.args.blobs.now root leaves) (λ (asks : List BodyAsk). FindsRoot emails c.args.blobs.now root asks (Err e))
-    (λ asks m. record { of_root = Err e; finds_root = m; finds_leaf = NoBody e }) c.in_err-root_octets.ensures)
+    e (FindsOctets emails c.args.blobs.now root leaves) (FindsRoot emails c.args.blobs.now root)
+    (λ asks f m. record { of_root = Err f; finds_root = m; finds_leaf = NoBody f }) c.in_err-root_octets.ensures)
 
 pub returns-in_err-leaf_octets-in-Some : goal.returns-in_err-leaf_octets-in-Some
 returns-in_err-leaf_octets-in-Some g c =
@@ -28,8 +30,9 @@ returns-in_err-leaf_octets-in-Some g c =
     lacks_memory g.B.BodySource.answers g.B.BodySource.lacks Memory (λ (o : Option (List ℕ)). o) (c.args.bodies.now, c.args.world.now)
     (c.root_octets.new.bodies, c.root_octets.new.world)
     c.from_residual-in_err-leaf_octets-in-Some.result (FindsOctets emails c.args.blobs.now root c.args.id.now.leaves.items) c.from_residual-in_err-leaf_octets-in-Some.ensures.1
-    (vain_after g.B.BodySource.answers g.B.BodySource.lacks (c.args.bodies.now, c.args.world.now) (c.root_octets.new.bodies, c.root_octets.new.world)
-    (λ (asks : List BodyAsk). FindsRoot emails c.args.blobs.now root asks (Ok c.in_ok-root_octets.field-0)) c.in_ok-root_octets.ensures)
+    (vain_after g.B.BodySource.answers g.B.BodySource.lacks (FailsAfter (FindsOctets emails c.args.blobs.now root c.args.id.now.leaves.items))
+    (λ (asks : List BodyAsk). FindsRoot emails c.args.blobs.now root asks (Ok c.in_ok-root_octets.field-0)) (c.args.bodies.now, c.args.world.now)
+    (c.root_octets.new.bodies, c.root_octets.new.world) (λ asks m. due_octets_of emails c.args.blobs.now root c.args.id.now.leaves.items m) c.in_ok-root_octets.ensures)
 
 pub returns-in-None : goal.returns-in-None
 returns-in-None g c =

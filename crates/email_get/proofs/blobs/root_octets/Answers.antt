@@ -1,9 +1,10 @@
 use Rattle.std.proofs.Common.{List, ℕ, Option, Some, None, refl}
 use Rattle.email_bodies.specs.declared.error.BodyError.TheVariants.{Memory}
 use Rattle.message_blobs.specs.BlobIds.{root_view}
-use Rattle.email_get.specs.Asked.{place_of}
+use Rattle.email_bodies.proofs.Joins.{vain_at_once}
+use Rattle.email_get.specs.Asked.{FailsAfter, place_of}
 use Rattle.email_get.specs.Blobs.{FindsRoot}
-use Rattle.email_get.proofs.AskLemmas.{unasked, came, failed, lacks_memory, same_error, vain_at_once}
+use Rattle.email_get.proofs.AskLemmas.{unasked, came, failed, lacks_memory, same_error}
 use Rattle.email_get.proofs.BlobLemmas.{upload_given, email_gone, email_came, email_lacks}
 use Rattle.email_get.proofs.blobs.root_octets.Goals as goal
 
@@ -11,7 +12,7 @@ pub returns-in_err-upload_octets-in-Upload : goal.returns-in_err-upload_octets-i
 returns-in_err-upload_octets-in-Upload g c =
     lacks_memory g.B.BodySource.answers g.B.BodySource.lacks Memory (λ (o : Option (List ℕ)). o) (c.args.bodies.now, c.args.world.now) (c.args.bodies.now, c.args.world.now)
     c.from_residual.result (FindsRoot c.args.state.now.rows.numbered.rows c.args.blobs.now (root_view c.args.root)) c.from_residual.ensures.1
-    (vain_at_once g.B.BodySource.answers g.B.BodySource.lacks (c.args.bodies.now, c.args.world.now))
+    (vain_at_once g.B.BodySource.answers g.B.BodySource.lacks (FailsAfter (FindsRoot c.args.state.now.rows.numbered.rows c.args.blobs.now (root_view c.args.root))) (c.args.bodies.now, c.args.world.now))
 
 pub returns-in_ok-upload_octets-in-Upload : goal.returns-in_ok-upload_octets-in-Upload
 returns-in_ok-upload_octets-in-Upload g c =

@@ -8,11 +8,12 @@ use Rattle.jmap_methods.specs.declared.method_error.MethodError.{MethodError}
 use Rattle.jmap_methods.specs.declared.method_error.MethodError.TheVariants.{Memory}
 use Rattle.mail_state.specs.History.{MailHistory}
 use Rattle.mail_state.specs.State.{ServedState, IsStateOf}
+use Rattle.email_get.specs.Asked.{FailsAfter}
 use Rattle.email_get.specs.EmailGet.{EmailsAsked, emails_asked, ShowsEmail, RepliesEmailGet}
 use Rattle.email_get.specs.Showing.{ShowsAll}
 use Rattle.email_get.specs.declared.emails.AskedEmails.{AskedEmails}
 use Rattle.email_get.proofs.AskLemmas.{lacks_memory, same_error, vain_after, given_after, refused_after, refused_unasked}
-use Rattle.email_get.proofs.GetLemmas.{emails_text, get_refused, get_fails, get_shown, get_whole}
+use Rattle.email_get.proofs.GetLemmas.{emails_text, get_refused, get_fails, get_due, get_shown, get_whole}
 use Rattle.email_get.proofs.emails.email_get.Goals as goal
 
 -- what the code's value stands for
@@ -45,18 +46,21 @@ returns-in_err-list-clause-exact g c =
     same_error g.B.BodySource.answers g.B.BodySource.lacks Memory view (c.args.bodies.now, c.args.world.now) (c.emails_at.new.bodies, c.emails_at.new.world)
     c.from_residual-in_err-list.result e (Meant s d) c.from_residual-in_err-list.ensures.1
     (refused_after g.B.BodySource.answers g.B.BodySource.lacks Memory view (c.args.bodies.now, c.args.world.now) (c.emails_at.new.bodies, c.emails_at.new.world) e (Meant s d)
-    (λ (asks : List BodyAsk). ShowsAll (ShowsEmail s.rows.numbered.rows a.wanted) c.as_slice.result.now asks (Err e))
-    (λ asks m. get_fails s d a c.as_slice.result.now e asks c.in_ok-asked.ensures.asked c.as_slice.ensures.value m) c.in_err-list.ensures.shows)
+    (ShowsAll (ShowsEmail s.rows.numbered.rows a.wanted) c.as_slice.result.now)
+    (λ asks f m. get_fails s d a c.as_slice.result.now f asks c.in_ok-asked.ensures.asked c.as_slice.ensures.value m) c.in_err-list.ensures.shows)
 
 pub returns-in_err-answer_of-clause-exact : goal.returns-in_err-answer_of-clause-exact
 returns-in_err-answer_of-clause-exact g c =
     let s = c.args.state.now in
+    let d = view c.args.arguments.now in
+    let a = meant_by c.in_ok-asked.field-0 in
+    let list = map view c.in_ok-list.list.items in
     lacks_memory g.B.BodySource.answers g.B.BodySource.lacks Memory view (c.args.bodies.now, c.args.world.now) (c.emails_at.new.bodies, c.emails_at.new.world)
-    c.from_residual-in_err-answer_of.result (Meant s (view c.args.arguments.now)) c.from_residual-in_err-answer_of.ensures.1
-    (vain_after g.B.BodySource.answers g.B.BodySource.lacks (c.args.bodies.now, c.args.world.now) (c.emails_at.new.bodies, c.emails_at.new.world)
-    (λ (asks : List BodyAsk). ShowsAll (ShowsEmail s.rows.numbered.rows (email_asked c.in_ok-asked.field-0.wanted)) c.as_slice.result.now asks
-    (Ok (map view c.in_ok-list.list.items)))
-    c.in_ok-list.ensures.shows)
+    c.from_residual-in_err-answer_of.result (Meant s d) c.from_residual-in_err-answer_of.ensures.1
+    (vain_after g.B.BodySource.answers g.B.BodySource.lacks (FailsAfter (Meant s d))
+    (λ (asks : List BodyAsk). ShowsAll (ShowsEmail s.rows.numbered.rows a.wanted) c.as_slice.result.now asks (Ok list)) (c.args.bodies.now, c.args.world.now)
+    (c.emails_at.new.bodies, c.emails_at.new.world)
+    (λ asks m. get_due s d a c.as_slice.result.now asks c.in_ok-asked.ensures.asked c.as_slice.ensures.value (Ok list) m) c.in_ok-list.ensures.shows)
 
 pub returns-clause-exact : goal.returns-clause-exact
 returns-clause-exact g c =

@@ -6,9 +6,12 @@ use Rattle.email_properties.specs.Wanted.{email_asked}
 use Rattle.jmap_methods.specs.declared.method_error.MethodError.TheVariants.{Memory}
 use Rattle.email_get.specs.EmailGet.{ShowsRow, ShowsEmail}
 use Rattle.email_get.specs.Showing.{ShowsAll}
-use Rattle.email_get.proofs.AskLemmas.{lacks_memory, same_error, said_more, refused_after, vain_at_once}
+use Rattle.email_bodies.proofs.Joins.{vain_at_once}
+use Rattle.email_get.specs.Asked.{FailsAfter}
+use Rattle.email_get.proofs.AskLemmas.{lacks_memory, same_error, said_more, refused_after}
+use Rattle.email_get.proofs.Due.{due_email}
 use Rattle.email_get.proofs.GetLemmas.{seen-add, none_seen, none_whole, more_whole}
-use Rattle.email_get.proofs.LoopLemmas.{begins, continues, stops, lacks_behind, finishes}
+use Rattle.email_get.proofs.LoopLemmas.{begins, continues, stops, lacks_after, finishes}
 use Rattle.email_get.proofs.NumberLemmas.{row_or_none}
 use Rattle.email_get.proofs.emails.emails_at.Goals as goal
 
@@ -16,7 +19,8 @@ pub returns-in_err-list-clause-shows : goal.returns-in_err-list-clause-shows
 returns-in_err-list-clause-shows g c =
     lacks_memory g.B.BodySource.answers g.B.BodySource.lacks Memory (λ v. map view v.items) (c.args.bodies.now, c.args.world.now) (c.args.bodies.now, c.args.world.now)
     c.from_residual.result (ShowsAll (ShowsEmail c.args.state.now.rows.numbered.rows (email_asked c.args.wanted.now)) c.args.numbers.now) c.from_residual.ensures.1
-    (vain_at_once g.B.BodySource.answers g.B.BodySource.lacks (c.args.bodies.now, c.args.world.now))
+    (vain_at_once g.B.BodySource.answers g.B.BodySource.lacks (FailsAfter (ShowsAll (ShowsEmail c.args.state.now.rows.numbered.rows (email_asked c.args.wanted.now)) c.args.numbers.now))
+    (c.args.bodies.now, c.args.world.now))
 
 pub loop-number-init : goal.loop-number-init
 loop-number-init g c = record {
@@ -45,19 +49,24 @@ returns-in_err-object-clause-shows g c =
     (c.row_value.new.bodies, c.row_value.new.world) (drop i numbers) (drop (i + 1) numbers) n (map view c.loop-number.list.items) e
     (drop_more numbers i 0 c.loop-number-test.true) c.loop-number.invariant.shown
     (refused_after g.B.BodySource.answers g.B.BodySource.lacks Memory view (c.loop-number.bodies, c.loop-number.world) (c.row_value.new.bodies, c.row_value.new.world) e
-    (Shows n) (λ (asks : List BodyAsk). ShowsRow (email_asked c.args.wanted.now) row asks (Err e))
-    (λ asks m. record { row = row; there = sym c.in-Some.ensures; shows = m }) c.in_err-object.ensures.shows))
+    (Shows n) (ShowsRow (email_asked c.args.wanted.now) row)
+    (λ asks f m. record { row = row; there = sym c.in-Some.ensures; shows = m }) c.in_err-object.ensures.shows))
 
 pub returns-in_err-add_object-clause-shows : goal.returns-in_err-add_object-clause-shows
 returns-in_err-add_object-clause-shows g c =
     let Shows = ShowsEmail c.args.state.now.rows.numbered.rows (email_asked c.args.wanted.now) in
     let numbers = c.args.numbers.now in
+    let i = c.loop-number.number-index in
+    let n = get_or numbers i 0 in
+    let row = c.in-Some.row.now in
+    let object = view c.in_ok-object.object in
     lacks_memory g.B.BodySource.answers g.B.BodySource.lacks Memory (λ v. map view v.items) (c.args.bodies.now, c.args.world.now) (c.row_value.new.bodies, c.row_value.new.world)
     c.from_residual-in_err-add_object.result (ShowsAll Shows numbers) c.from_residual-in_err-add_object.ensures.1
-    (lacks_behind g.B.BodySource.answers g.B.BodySource.lacks Shows numbers (c.args.bodies.now, c.args.world.now) (c.loop-number.bodies, c.loop-number.world)
-    (c.row_value.new.bodies, c.row_value.new.world) (drop c.loop-number.number-index numbers) (map view c.loop-number.list.items)
-    (λ (asks : List BodyAsk). ShowsRow (email_asked c.args.wanted.now) c.in-Some.row.now asks (Ok (view c.in_ok-object.object))) c.loop-number.invariant.shown
-    c.in_ok-object.ensures.shows)
+    (lacks_after g.B.BodySource.answers g.B.BodySource.lacks Shows numbers (c.args.bodies.now, c.args.world.now) (c.loop-number.bodies, c.loop-number.world)
+    (c.row_value.new.bodies, c.row_value.new.world) (drop i numbers) (drop (i + 1) numbers) n (map view c.loop-number.list.items)
+    (λ (asks : List BodyAsk). ShowsRow (email_asked c.args.wanted.now) row asks (Ok object)) (drop_more numbers i 0 c.loop-number-test.true)
+    (λ asks m. due_email c.args.state.now.rows.numbered.rows (email_asked c.args.wanted.now) n asks (Ok object)
+    (record { row = row; there = sym c.in-Some.ensures; shows = m })) c.loop-number.invariant.shown c.in_ok-object.ensures.shows)
 
 pub loop-number-preserved : goal.loop-number-preserved
 loop-number-preserved g c =
@@ -72,7 +81,8 @@ loop-number-preserved g c =
     record {
       shown = continues g.B.BodySource.answers g.B.BodySource.lacks Shows numbers (c.args.bodies.now, c.args.world.now) (c.loop-number.bodies, c.loop-number.world)
           (c.row_value.new.bodies, c.row_value.new.world) (drop i numbers) (drop (i + 1) numbers) n (map view list) (map view next) (view object)
-          (drop_more numbers i 0 c.loop-number-test.true) (seen-add list next object c.in_ok-add_object.ensures) c.loop-number.invariant.shown
+          (drop_more numbers i 0 c.loop-number-test.true) (seen-add list next object c.in_ok-add_object.ensures)
+          (λ asks m. due_email c.args.state.now.rows.numbered.rows (email_asked c.args.wanted.now) n asks (Ok (view object)) m) c.loop-number.invariant.shown
           (said_more g.B.BodySource.answers g.B.BodySource.lacks (c.loop-number.bodies, c.loop-number.world) (c.row_value.new.bodies, c.row_value.new.world)
           (λ (asks : List BodyAsk). ShowsRow (email_asked c.args.wanted.now) row asks (Ok (view object))) (λ (asks : List BodyAsk). Shows n asks (Ok (view object)))
           (λ asks m. record { row = row; there = sym c.in-Some.ensures; shows = m }) c.in_ok-object.ensures.shows);

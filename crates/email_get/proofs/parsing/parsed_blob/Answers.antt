@@ -6,11 +6,11 @@ use Rattle.email_bodies.specs.declared.error.BodyError.TheVariants as body
 use Rattle.email_properties.specs.Wanted.{email_asked}
 use Rattle.jmap_methods.specs.declared.method_error.MethodError.TheVariants.{Memory}
 use Rattle.message_blobs.specs.BlobIds.{root_view}
-use Rattle.email_get.specs.Asked.{error_by}
+use Rattle.email_get.specs.Asked.{FailsAfter, error_by}
 use Rattle.email_get.specs.Blobs.{FindsOctets}
 use Rattle.email_get.specs.EmailParse.{ShownBlob, ShowsBlob}
 use Rattle.email_get.proofs.AskLemmas.{unasked, lacks_memory, vain_after, given_after, turned}
-use Rattle.email_get.proofs.ParseLemmas.{no_blob, blob_gone, blob_fails, blob_parsed}
+use Rattle.email_get.proofs.ParseLemmas.{no_blob, blob_gone, blob_fails, blob_parsed, octets_due}
 use Rattle.email_get.proofs.parsing.parsed_blob.Goals as goal
 
 abbrev shown_as : List ℕ → Option Value → ShownBlob
@@ -32,8 +32,11 @@ returns-in_err-message_value-in-Ok-Some-clause-shows g c =
     let blob = c.in-Some.blob in
     lacks_memory g.B.BodySource.answers g.B.BodySource.lacks Memory (shown_as id) (c.args.bodies.now, c.args.world.now) (c.blob_octets.new.bodies, c.blob_octets.new.world)
     c.from_residual.result (ShowsBlob emails c.args.blobs.now wanted id) c.from_residual.ensures.1
-    (vain_after g.B.BodySource.answers g.B.BodySource.lacks (c.args.bodies.now, c.args.world.now) (c.blob_octets.new.bodies, c.blob_octets.new.world)
-    (λ (asks : List BodyAsk). FindsOctets emails c.args.blobs.now (root_view blob.root) blob.leaves.items asks (Ok c.in-Ok-Some.field-0)) c.in-Ok-Some.ensures)
+    (vain_after g.B.BodySource.answers g.B.BodySource.lacks (FailsAfter (ShowsBlob emails c.args.blobs.now wanted id))
+    (λ (asks : List BodyAsk). FindsOctets emails c.args.blobs.now (root_view blob.root) blob.leaves.items asks (Ok c.in-Ok-Some.field-0)) (c.args.bodies.now, c.args.world.now)
+    (c.blob_octets.new.bodies, c.blob_octets.new.world)
+    (λ asks m. octets_due emails c.args.blobs.now wanted id c.as_bytes.result.now c.as_bytes.ensures.value (root_view blob.root) blob.leaves.items c.in-Some.ensures asks
+    (Ok c.in-Ok-Some.field-0) m) c.in-Ok-Some.ensures)
 
 pub returns-in-Err-clause-shows : goal.returns-in-Err-clause-shows
 returns-in-Err-clause-shows g c =
@@ -45,9 +48,9 @@ returns-in-Err-clause-shows g c =
     let e = c.in-Err.error in
     let f = c.error_of.result in
     turned g.B.BodySource.answers g.B.BodySource.lacks body.Memory Memory error_by (c.args.bodies.now, c.args.world.now) (c.blob_octets.new.bodies, c.blob_octets.new.world) e f
-    (λ (asks : List BodyAsk). FindsOctets emails c.args.blobs.now root leaves asks (Err e)) (λ (asks : List BodyAsk). ShowsBlob emails c.args.blobs.now wanted id asks (Err f))
+    (FindsOctets emails c.args.blobs.now root leaves) (ShowsBlob emails c.args.blobs.now wanted id)
     c.error_of.ensures refl
-    (λ asks m. blob_fails emails c.args.blobs.now wanted id c.as_bytes.result.now c.as_bytes.ensures.value root leaves c.in-Some.ensures asks e f c.error_of.ensures m)
+    (λ asks e f is m. blob_fails emails c.args.blobs.now wanted id c.as_bytes.result.now c.as_bytes.ensures.value root leaves c.in-Some.ensures asks e f is m)
     c.in-Err.ensures
 
 pub returns-in-Ok-None-clause-shows : goal.returns-in-Ok-None-clause-shows

@@ -9,7 +9,8 @@ use Rattle.email_get.specs.declared.parsing.Shown.{Shown}
 use Rattle.email_get.specs.reading.Gathered.{Gathered, GathersThese}
 use Rattle.email_get.specs.Showing.{ShowsAll}
 use Rattle.email_get.proofs.AskLemmas.{lacks_memory, same_error, given_after}
-use Rattle.email_get.proofs.LoopLemmas.{begins, continues, stops, lacks_behind, finishes}
+use Rattle.email_get.proofs.Due.{due_shown_blob}
+use Rattle.email_get.proofs.LoopLemmas.{begins, continues, stops, lacks_after, finishes}
 use Rattle.email_get.proofs.ParseLemmas.{none_gathered, members_whole, gathers_on, put_found_whole, missing_whole}
 use Rattle.email_get.proofs.parsing.show_blobs.Goals as goal
 
@@ -60,9 +61,11 @@ returns-in_err-add_shown-clause-shows g c =
     lacks_memory g.B.BodySource.answers g.B.BodySource.lacks Memory gathered (c.args.bodies.now, c.args.world.now) (c.parsed_blob.new.bodies, c.parsed_blob.new.world)
     c.from_residual-in_err-add_shown.result (GathersThese c.args.state.now.rows.numbered.rows c.args.blobs.now (email_asked c.args.wanted.now) ids)
     c.from_residual-in_err-add_shown.ensures.1
-    (lacks_behind g.B.BodySource.answers g.B.BodySource.lacks Shows ids (c.args.bodies.now, c.args.world.now) (c.loop-id.bodies, c.loop-id.world)
-    (c.parsed_blob.new.bodies, c.parsed_blob.new.world) (nows (drop i items)) c.loop-id.invariant.done
-    (λ (asks : List BodyAsk). Shows id asks (Ok (record { id = id; found = option_map view c.in_ok-found.found }))) c.loop-id.invariant.shown c.in_ok-found.ensures.shows)
+    (lacks_after g.B.BodySource.answers g.B.BodySource.lacks Shows ids (c.args.bodies.now, c.args.world.now) (c.loop-id.bodies, c.loop-id.world)
+    (c.parsed_blob.new.bodies, c.parsed_blob.new.world) (nows (drop i items)) (nows (drop (i + 1) items)) id c.loop-id.invariant.done
+    (λ (asks : List BodyAsk). Shows id asks (Ok (record { id = id; found = option_map view c.in_ok-found.found }))) (from_here items i c.loop-id-test.true)
+    (λ asks m. due_shown_blob c.args.state.now.rows.numbered.rows c.args.blobs.now (email_asked c.args.wanted.now) id asks
+    (Ok (record { id = id; found = option_map view c.in_ok-found.found })) m) c.loop-id.invariant.shown c.in_ok-found.ensures.shows)
 
 pub loop-id-preserved : goal.loop-id-preserved
 loop-id-preserved g c =
@@ -77,7 +80,9 @@ loop-id-preserved g c =
       done = done ++ blob ∷ [];
       shown = continues g.B.BodySource.answers g.B.BodySource.lacks Shows ids (c.args.bodies.now, c.args.world.now) (c.loop-id.bodies, c.loop-id.world)
           (c.parsed_blob.new.bodies, c.parsed_blob.new.world) (nows (drop i items)) (nows (drop (i + 1) items)) id done (done ++ blob ∷ []) blob
-          (from_here items i c.loop-id-test.true) refl c.loop-id.invariant.shown c.in_ok-found.ensures.shows;
+          (from_here items i c.loop-id-test.true) refl
+          (λ asks m. due_shown_blob c.args.state.now.rows.numbered.rows c.args.blobs.now (email_asked c.args.wanted.now) id asks (Ok blob) m)
+          c.loop-id.invariant.shown c.in_ok-found.ensures.shows;
       gathers = gathers_on done (gathered c.loop-id.shown) (gathered c.add_shown.new.shown) blob c.loop-id.invariant.gathers
           c.in_ok-add_shown.ensures.parsed c.in_ok-add_shown.ensures.missing;
       whole = put_found_whole id c.in_ok-found.found (members_view c.loop-id.shown.parsed.entries) (members_view c.add_shown.new.shown.parsed.entries)

@@ -1,8 +1,15 @@
 use Rattle.std.proofs.Common.{ap, map, List}
+use Rattle.std.proofs.lemmas.Result.{err_from_is_err_and}
 use Rattle.jmap_core.specs.Request.{call_data, request_data}
 use Rattle.jmap_core.specs.declared.call.Call.{Call}
-use Rattle.gate_serving.proofs.Made.{calls_made}
+use Rattle.gate_serving.proofs.Made.{calls_lacked, calls_made}
 use Rattle.gate_serving.proofs.answers.calls_response.Goals as goal
+
+pub returns-in_err-responses : goal.returns-in_err-responses
+returns-in_err-responses g c =
+    let ends = err_from_is_err_and c.from_residual.result c.from_residual.ensures.1 in
+    calls_lacked g.B.BodySource.answers g.B.BodySource.lacks _ _ _ c.args.over.now (request_data c.args.request.now) _ c.from_residual.result ends.0 ends.1
+    (ap (λ (cs : List Call). map call_data cs) c.as_slice.ensures.value) c.in_err-responses.ensures.meant
 
 pub returns : goal.returns
 returns g c =

@@ -20,7 +20,7 @@ moment g s =
 
 pub take_back-client-requires : goal.take_back-client-requires
 take_back-client-requires g c =
-    same_on c.lend-served.ensures.same (counts_of (moment g) _ _ _ c.response_over-made.result c.response_over-made.ensures)
+    same_on c.lend-served.ensures.same (counts_of (moment g) _ _ _ _ c.response_over-made.result c.response_over-made.ensures)
 
 pub returns-clause-run : goal.returns-clause-run
 returns-clause-run g c =
@@ -39,8 +39,8 @@ returns-clause-run g c =
 pub returns-clause-alone : goal.returns-clause-alone
 returns-clause-alone g c =
     subst (λ (f : Faults). LinkAlone (g.W.Taped.faults c.args.world.now) f) (sym c.leave.ensures.cause)
-    (goes_on_of (moment g) _ _ _ c.response_over-made.result c.response_over-made.ensures).alone
+    (goes_on_of (moment g) _ _ _ _ c.response_over-made.result c.response_over-made.ensures).alone
 
 pub returns-clause-hidden : goal.returns-clause-hidden
 returns-clause-hidden g c =
-    c.leave.ensures.hidden ∙ (goes_on_of (moment g) _ _ _ c.response_over-made.result c.response_over-made.ensures).hidden
+    c.leave.ensures.hidden ∙ (goes_on_of (moment g) _ _ _ _ c.response_over-made.result c.response_over-made.ensures).hidden

@@ -10,7 +10,7 @@ use Rattle.gate_serving.proofs.gate.Gate.answer_untold.Goals as goal
 
 -- asking no source leaves the outside as the link life's end left it
 world_same : (g : given.Over) (c : goal.Joined-client g) → c.response_over-made.new.world ≡ c.leave.new.link
-world_same g c = ap (λ p. p.1) (nothing_changed _ _ _ c.response_over-made.result c.response_over-made.ensures)
+world_same g c = ap (λ p. p.1) (nothing_changed _ _ _ _ c.response_over-made.result c.response_over-made.ensures)
 
 pub returns-clause-run : goal.returns-clause-run
 returns-clause-run g c =
@@ -19,7 +19,7 @@ returns-clause-run g c =
     (widen _ c.leave.ensures.tape (λ es hangs p was how came is.
     finished_untold c.args.error c.unless_lacking.result c.requires.needs came is hangs
     (ap (λ (w : g.row.W.Denot). g.W.Taped.faults w) same ∙ c.leave.ensures.cause)
-    (made_untold _ _ _ _ c.response_over-made.result c.unless_lacking.result (λ (h : Hidden). account_by c.args.self.now h) (g.W.Taped.hidden c.args.world.now)
+    (made_untold _ _ _ _ _ c.response_over-made.result c.unless_lacking.result (λ (h : Hidden). account_by c.args.self.now h) (g.W.Taped.hidden c.args.world.now)
     c.unless_lacking.ensures.made c.response_over-made.ensures)
     (record { mail = refl; uploads = refl })
     (kept_left c.args.self.now.machine c.unless_lacking.new.self.machine c.unless_lacking.result came.held

@@ -14,4 +14,4 @@ returns-clause-made g c =
     (record { mail = refl; uploads = refl }) c.calls_response.ensures
 
 pub returns-clause-world : goal.returns-clause-world
-returns-clause-world g c = ap (λ p. p.1) (nothing_changed _ _ _ c.calls_response.result c.calls_response.ensures)
+returns-clause-world g c = ap (λ p. p.1) (nothing_changed _ _ _ _ c.calls_response.result c.calls_response.ensures)
