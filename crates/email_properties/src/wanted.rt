@@ -10,14 +10,14 @@ use crate::defaults::{Defaults, email_defaults, part_defaults};
 use crate::email_property::{EmailProperty, email_properties_named, is_of_body};
 use crate::kinds::{flag_at, natural_at, texts_given};
 use crate::part_property::{PartProperty, part_properties_named};
-use jmap_methods::{MethodError, texts_or_null};
+use jmap_methods::{MethodError, distinct, texts_or_null};
 use serde_json::Value;
 use std::alloc::Global;
 
 /// What is asked of an Email's body: the properties of its parts, and which of its values (RFC 8621 section 4.2).
 #[derive(Debug, Drop)]
 pub struct BodyWanted<'a> {
-    /// `bodyProperties`, in the order asked, each as often as it is asked.
+    /// `bodyProperties`, in the order asked, each name once.
     pub parts: Vec<PartProperty<'a>>,
     /// `fetchTextBodyValues`: the values of the text parts of `textBody`.
     pub text_values: bool,
@@ -32,7 +32,7 @@ pub struct BodyWanted<'a> {
 /// What is asked of an Email (RFC 8621 sections 4.2 and 4.9).
 #[derive(Debug, Drop)]
 pub struct EmailWanted<'a> {
-    /// `properties`, in the order asked, each as often as it is asked. `id` is among them only where it is asked.
+    /// `properties`, in the order asked, each name once. `id` is among them only where it is asked.
     pub properties: Vec<EmailProperty<'a>>,
     /// What is asked of the body.
     pub body: BodyWanted<'a>,
@@ -63,7 +63,8 @@ fn properties_asked<'a>(
     let Some(names) = names_asked(alloc, arguments, defaults)? else {
         return Ok(email_defaults(alloc, defaults)?);
     };
-    match email_properties_named(alloc, &names)? {
+    let once = distinct(alloc, &names)?;
+    match email_properties_named(alloc, &once)? {
         None => Err(MethodError::InvalidArguments),
         Some(properties) => Ok(properties),
     }
@@ -79,7 +80,8 @@ fn parts_asked<'a>(
     let Some(names) = texts_given(alloc, arguments, "bodyProperties")? else {
         return Ok(part_defaults(alloc)?);
     };
-    match part_properties_named(alloc, &names)? {
+    let once = distinct(alloc, &names)?;
+    match part_properties_named(alloc, &once)? {
         None => Err(MethodError::InvalidArguments),
         Some(properties) => Ok(properties),
     }

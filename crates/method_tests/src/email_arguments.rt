@@ -142,8 +142,8 @@ const ARGUMENTS: [(Defaults, &str, &str); 64] = [
     ),
     (
         Defaults::Get,
-        "{\"properties\":[\"subject\",\"header:X:asText:all\",\"subject\",\"header:x\"],\"bodyProperties\":[\"subParts\",\"header:Content-Type\",\"size\"]}",
-        "subject header:X:asText:all subject header:x / subParts header:Content-Type size / false false false 0 false",
+        "{\"properties\":[\"subject\",\"header:X:asText:all\",\"subject\",\"header:x\"],\"bodyProperties\":[\"subParts\",\"header:Content-Type\",\"size\",\"subParts\"]}",
+        "subject header:X:asText:all header:x / subParts header:Content-Type size / false false false 0 false",
     ),
     (
         Defaults::Parse,
