@@ -71,6 +71,7 @@ impl Machine {
             → (k : KnownMail) × (p.machine.known ≡ Some k) × IsLentOf k result.0 × HoldsSource p result.1 was now }
         ensures same { IsSameSince result.0 result.1.told }
         ensures client { result.1.client ≡ client }
+        ensures out { self.new ≡ unready self.old }
     {
         let Some(known) = self.known.take() else {
             unreachable!();
