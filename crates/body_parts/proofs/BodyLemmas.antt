@@ -10,7 +10,7 @@ use Rattle.mime_tree.specs.declared.lists.BodyLists.{BodyLists}
 use Rattle.mime_tree.specs.declared.part.Part.{Part}
 use Rattle.mime_tree.specs.BodyLists.{PartLists, start}
 use Rattle.body_parts.specs.declared.body_properties.Body.{Body}
-use Rattle.body_parts.specs.BodyProperties.{IsDataOf, IsListData, IsPreviewData, Reading}
+use Rattle.body_parts.specs.BodyProperties.{IsDataOf, IsPartListData, IsPreviewData, Reading}
 use Rattle.body_parts.specs.Messages.{MessageData}
 use Rattle.body_parts.specs.PartObjects.{AreObjects}
 use Rattle.body_parts.specs.reading.LeafLists.{parts_of, parts_at}
@@ -52,24 +52,24 @@ module _ (m : MessageData) (asked : BodyAsked) (read : Reading m.octets) (p : Em
   data_of q e t h = subst (λ (x : EmailProperty). IsOfBody m asked x d) (sym e) (t, (read, h))
 
   list_of : (parts : List PartProperty) (ns ms : List ℕ) (ls : List Part) → parts ≡ asked.parts → ns ≡ ms → parts_at read.leaves ms ≡ ls
-      → IsListData m parts (parts_at read.leaves ns) d → IsListData m asked.parts ls d
+      → IsPartListData m parts (parts_at read.leaves ns) d → IsPartListData m asked.parts ls d
   list_of parts ns ms ls e f g h =
-      subst (λ (qs : List Part). IsListData m asked.parts qs d) (ap (parts_at read.leaves) f ∙ g)
-      (subst (λ (a : List PartProperty). IsListData m a (parts_at read.leaves ns) d) e h)
+      subst (λ (qs : List Part). IsPartListData m asked.parts qs d) (ap (parts_at read.leaves) f ∙ g)
+      (subst (λ (a : List PartProperty). IsPartListData m a (parts_at read.leaves ns) d) e h)
 
   pub structure_of : (parts : List PartProperty) → p ≡ property.BodyStructure → parts ≡ asked.parts → AreObjects m parts (read.root ∷ []) (d ∷ []) → IsOfBody m asked p d
   structure_of parts e f h = data_of property.BodyStructure e refl (subst (λ (a : List PartProperty). AreObjects m a (read.root ∷ []) (d ∷ [])) f h)
 
   pub text_of : (parts : List PartProperty) (ns : List ℕ) → p ≡ property.TextBody → parts ≡ asked.parts → ns ≡ read.lists.text
-      → IsListData m parts (parts_at read.leaves ns) d → IsOfBody m asked p d
+      → IsPartListData m parts (parts_at read.leaves ns) d → IsOfBody m asked p d
   text_of parts ns e f g h = data_of property.TextBody e refl (list_of parts ns _ _ f g (are_named read).text h)
 
   pub html_of : (parts : List PartProperty) (ns : List ℕ) → p ≡ property.HtmlBody → parts ≡ asked.parts → ns ≡ read.lists.html
-      → IsListData m parts (parts_at read.leaves ns) d → IsOfBody m asked p d
+      → IsPartListData m parts (parts_at read.leaves ns) d → IsOfBody m asked p d
   html_of parts ns e f g h = data_of property.HtmlBody e refl (list_of parts ns _ _ f g (are_named read).html h)
 
   pub attachments_of : (parts : List PartProperty) (ns : List ℕ) → p ≡ property.Attachments → parts ≡ asked.parts → ns ≡ read.lists.attachments
-      → IsListData m parts (parts_at read.leaves ns) d → IsOfBody m asked p d
+      → IsPartListData m parts (parts_at read.leaves ns) d → IsOfBody m asked p d
   attachments_of parts ns e f g h = data_of property.Attachments e refl (list_of parts ns _ _ f g (are_named read).attachments h)
 
   pub values_of : p ≡ property.BodyValues → IsDataOf m asked read property.BodyValues d → IsOfBody m asked p d

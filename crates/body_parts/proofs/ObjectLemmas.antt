@@ -133,8 +133,7 @@ module _ (m : MessageData) (asked : List PartProperty) where
   pub objects_both : (ps qs : List Part) (ds es : List Data) → AreObjects m asked ps ds → AreObjects m asked qs es → AreObjects m asked (ps ++ qs) (ds ++ es)
   objects_both _ qs _ es objects.End more = more
   objects_both _ qs _ es (objects.Leaf p ps behind own leaf rest) more = objects.Leaf p (ps ++ qs) (behind ++ es) own leaf (objects_both ps qs behind es rest more)
-  objects_both _ qs _ es (objects.Multi p ps inner behind own no_leaf kids rest) more =
-      objects.Multi p (ps ++ qs) inner (behind ++ es) own no_leaf kids (objects_both ps qs behind es rest more)
+  objects_both _ qs _ es (objects.Multi p ps behind x kids rest) more = objects.Multi p (ps ++ qs) (behind ++ es) x kids (objects_both ps qs behind es rest more)
 
   -- no parts have no objects
   pub no_objects : (ds : List Data) → ds ≡ [] → AreObjects m asked [] ds
@@ -149,7 +148,8 @@ module _ (m : MessageData) (asked : List PartProperty) where
   pub multi_object : (p : Part) (ms : Members) (inner : List Data) (d : Data) → is_leaf p ≡ false → PutsProperties m p asked no_members ms → AreObjects m asked (children p) inner
       → d ≡ object (with_sub_parts inner ms) → AreObjects m asked (p ∷ []) (d ∷ [])
   multi_object p ms inner d no_leaf puts kids is =
-      subst (λ (u : Data). AreObjects m asked (p ∷ []) (u ∷ [])) (sym is) (objects.Multi p [] inner [] (record { members = ms; are = puts }) no_leaf kids objects.End)
+      subst (λ (u : Data). AreObjects m asked (p ∷ []) (u ∷ [])) (sym is) (objects.Multi p [] []
+      (record { no_leaf = no_leaf; own = record { members = ms; are = puts }; inner = inner }) kids objects.End)
 
   -- with one part more, its object is one more
   pub objects_next : (ps : List Part) (i : ℕ) (p : Part) (ds : List Data) (d : Data) (after : List Data) → i < length ps → AreObjects m asked (take i ps) ds

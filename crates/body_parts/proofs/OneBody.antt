@@ -37,8 +37,8 @@ use Rattle.mime_tree.specs.Roles.{leaf_number, is_plain_part}
 use Rattle.mime_tree.specs.SameTrees.{AllSame}
 use Rattle.mime_tree.proofs.OneTree.{one_message}
 use Rattle.mime_tree.proofs.SameWalks.{same_lists}
-use Rattle.body_parts.specs.BodyProperties.{AddsBodyProperties, AreValuesData, IsBodyProperty, IsDataOf, IsListData, PutsBodyProperty, Reading}
-use Rattle.body_parts.specs.BodyValues.{has_value, IsValueData, is_among, is_fetched, PutsValue, value_data}
+use Rattle.body_parts.specs.BodyProperties.{AddsBodyProperties, AreValuesData, IsBodyProperty, IsDataOf, IsPartListData, PutsBodyProperty, Reading}
+use Rattle.body_parts.specs.BodyValues.{has_value, IsValueData, is_listed, is_fetched, PutsValue, value_data}
 use Rattle.body_parts.specs.Cuts.{IsBounded, IsCut}
 use Rattle.body_parts.specs.Languages.{IsLanguage, tags}
 use Rattle.body_parts.specs.Messages.{MessageData}
@@ -158,7 +158,7 @@ Ends (p ∷ ps) es = Unit {0}
 ends : (m : MessageData) (asked : List PartProperty) (ps : List Part) (es : List Data) → AreObjects m asked ps es → Ends ps es
 ends m asked _ _ objects.End = refl
 ends m asked _ _ (objects.Leaf p ps behind own leaf rest) = tt
-ends m asked _ _ (objects.Multi p ps inner behind own no_leaf kids rest) = tt
+ends m asked _ _ (objects.Multi p ps behind x kids rest) = tt
 
 -- parts that are alike have equal objects
 one_objects : (m : MessageData) (asked : List PartProperty) (ps qs : List Part) (ds es : List Data) → AllSame Like ps qs → AreObjects m asked ps ds
@@ -166,18 +166,18 @@ one_objects : (m : MessageData) (asked : List PartProperty) (ps qs : List Part) 
 one_objects m asked _ [] _ es same objects.End other = sym (ends m asked [] es other)
 one_objects m asked _ (q ∷ qs) _ es same objects.End other = absurd same
 one_objects m asked _ [] _ es same (objects.Leaf p ps behind own leaf rest) other = absurd same
-one_objects m asked _ [] _ es same (objects.Multi p ps inner behind own no_leaf kids rest) other = absurd same
+one_objects m asked _ [] _ es same (objects.Multi p ps behind x kids rest) other = absurd same
 one_objects m asked _ (q ∷ qs) _ _ same (objects.Leaf p ps behind own leaf rest) (objects.Leaf _ _ behind' own' leaf' rest') =
     let one = one_members m asked p q (kin_of_like p q same.0) own own' in
     let more = one_objects m asked ps qs behind behind' same.1 rest rest' in
     λ i. object (one i) ∷ more i
-one_objects m asked _ (q ∷ qs) _ _ same (objects.Leaf p ps behind own leaf rest) (objects.Multi _ _ inner' behind' own' no_leaf' kids' rest') =
-    absurd (let e = sym leaf ∙ ap is_some (kin_of_like p q same.0).number ∙ no_leaf' in cc)
-one_objects m asked _ (q ∷ qs) _ _ same (objects.Multi p ps inner behind own no_leaf kids rest) (objects.Leaf _ _ behind' own' leaf' rest') =
-    absurd (let e = sym no_leaf ∙ ap is_some (kin_of_like p q same.0).number ∙ leaf' in cc)
-one_objects m asked _ (q ∷ qs) _ _ same (objects.Multi p ps inner behind own no_leaf kids rest) (objects.Multi _ _ inner' behind' own' no_leaf' kids' rest') =
-    let one = one_members m asked p q (kin_of_like p q same.0) own own' in
-    let below = one_objects m asked (children p) (children q) inner inner' (children_like p q same.0) kids kids' in
+one_objects m asked _ (q ∷ qs) _ _ same (objects.Leaf p ps behind own leaf rest) (objects.Multi _ _ behind' x' kids' rest') =
+    absurd (let e = sym leaf ∙ ap is_some (kin_of_like p q same.0).number ∙ x'.no_leaf in cc)
+one_objects m asked _ (q ∷ qs) _ _ same (objects.Multi p ps behind x kids rest) (objects.Leaf _ _ behind' own' leaf' rest') =
+    absurd (let e = sym x.no_leaf ∙ ap is_some (kin_of_like p q same.0).number ∙ leaf' in cc)
+one_objects m asked _ (q ∷ qs) _ _ same (objects.Multi p ps behind x kids rest) (objects.Multi _ _ behind' x' kids' rest') =
+    let one = one_members m asked p q (kin_of_like p q same.0) x.own x'.own in
+    let below = one_objects m asked (children p) (children q) x.inner x'.inner (children_like p q same.0) kids kids' in
     let more = one_objects m asked ps qs behind behind' same.1 rest rest' in
     λ i. object (with_sub_parts (below i) (one i)) ∷ more i
 
@@ -189,7 +189,7 @@ one_first : (d e : Data) → d ∷ [] ≡ e ∷ [] → d ≡ e
 unfolding first_or
 one_first d e h = ap (first_or d) h
 
-one_list : (m : MessageData) (asked : List PartProperty) (ps qs : List Part) (d e : Data) → AllSame Like ps qs → IsListData m asked ps d → IsListData m asked qs e → d ≡ e
+one_list : (m : MessageData) (asked : List PartProperty) (ps qs : List Part) (d e : Data) → AllSame Like ps qs → IsPartListData m asked ps d → IsPartListData m asked qs e → d ≡ e
 one_list m asked ps qs d e same g h = g.2 ∙ ap (λ (ds : List Data). array (items_of ds)) (one_objects m asked ps qs g.0 h.0 same g.1 h.1) ∙ sym h.2
 
 -- ---- texts
@@ -280,7 +280,7 @@ like_filter asked lists (p ∷ ps) (q ∷ qs) same = by (has_value asked lists p
 
     fetched : is_fetched asked lists p ≡ is_fetched asked lists q
     fetched = ap
-        (λ (n : Option ℕ). asked.all_values || (asked.text_values && is_among lists.text (unwrap_or n 0) || asked.html_values && is_among lists.html (unwrap_or n 0))) k.number
+        (λ (n : Option ℕ). asked.all_values || (asked.text_values && is_listed lists.text (unwrap_or n 0) || asked.html_values && is_listed lists.html (unwrap_or n 0))) k.number
 
     both : has_value asked lists p ≡ has_value asked lists q
     both = let t = ap is_text k.media in let f = fetched in λ i. t i && f i

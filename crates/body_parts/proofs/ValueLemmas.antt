@@ -8,7 +8,7 @@ use Rattle.std.proofs.lemmas.List.{take_more}
 use Rattle.std.proofs.lemmas.List.Folds.{list_any-append}
 use Rattle.mime_tree.specs.declared.part.Part.{Part}
 use Rattle.mime_tree.specs.Roles.{is_plain_part}
-use Rattle.body_parts.specs.BodyValues.{is_among}
+use Rattle.body_parts.specs.BodyValues.{is_listed}
 use Rattle.body_parts.specs.Previews.{IsPreviewOf, IsPreview}
 use Rattle.body_parts.specs.reading.LeafLists.{parts_at, part_at}
 
@@ -46,11 +46,11 @@ or_last false false true = refl
 or_last false false false = refl
 
 -- the numbers up to a place, and the one there
-pub among_more : (numbers : List ℕ) (i k n : ℕ) (before so_far after : Bool) → i < length numbers → k ≡ get_or numbers i 0 → so_far ≡ (before || is_among (take i numbers) n)
-    → after ≡ (so_far || k == n) → after ≡ (before || is_among (take (i + 1) numbers) n)
+pub among_more : (numbers : List ℕ) (i k n : ℕ) (before so_far after : Bool) → i < length numbers → k ≡ get_or numbers i 0 → so_far ≡ (before || is_listed (take i numbers) n)
+    → after ≡ (so_far || k == n) → after ≡ (before || is_listed (take (i + 1) numbers) n)
 among_more numbers i k n before so_far after lt at h e =
-    let x = is_among (take i numbers) n in
+    let x = is_listed (take i numbers) n in
     let here = λ (j : ℕ). j == n in
-    let last : is_among (take (i + 1) numbers) n ≡ (x || (here (get_or numbers i 0) || false)) =
+    let last : is_listed (take (i + 1) numbers) n ≡ (x || (here (get_or numbers i 0) || false)) =
     ap (list_any here) (take_more numbers i 0 lt) ∙ list_any-append here (take i numbers) (get_or numbers i 0 ∷ []) in
     e ∙ ap (λ (b : Bool). b || k == n) h ∙ or_last before x (k == n) ∙ ap (λ (j : ℕ). before || (x || (here j || false))) at ∙ sym (ap (λ (b : Bool). before || b) last)

@@ -67,9 +67,9 @@ objects_whole : (m : MessageData) (asked : List PartProperty) (ps : List Part) (
 objects_whole m asked _ _ objects.End = refl
 objects_whole m asked _ _ (objects.Leaf p ps behind own leaf rest) =
     ap (λ (t : Bool). t || items_have_float (items_of behind)) (members_whole m asked p own) ∙ objects_whole m asked ps behind rest
-objects_whole m asked _ _ (objects.Multi p ps inner behind own no_leaf kids rest) =
+objects_whole m asked _ _ (objects.Multi p ps behind x kids rest) =
     ap (λ (t : Bool). t || items_have_float (items_of behind))
-    (put_whole (codes "subParts") (array (items_of inner)) own.members (objects_whole m asked _ inner kids) (members_whole m asked p own))
+    (put_whole (codes "subParts") (array (items_of x.inner)) x.own.members (objects_whole m asked _ x.inner kids) (members_whole m asked p x.own))
     ∙ objects_whole m asked ps behind rest
 
 first_whole : (d : Data) → items_have_float (items_of (d ∷ [])) ≡ false → has_float d ≡ false

@@ -21,8 +21,8 @@ use Rattle.body_parts.specs.Previews.{IsPreview}
 use Rattle.body_parts.specs.Steps.{InTurn}
 
 -- a list of the objects of these parts
-abbrev pub IsListData : MessageData → List PartProperty → List Part → Data → Type 0
-IsListData m asked ps d = (objects : List Data) × AreObjects m asked ps objects × (d ≡ array (items_of objects))
+abbrev pub IsPartListData : MessageData → List PartProperty → List Part → Data → Type 0
+IsPartListData m asked ps d = (objects : List Data) × AreObjects m asked ps objects × (d ≡ array (items_of objects))
 
 abbrev pub IsPreviewData : List ℕ → List Part → Data → Type 0
 IsPreviewData b ps d = (preview : List ℕ) × IsPreview b ps preview × (d ≡ text_data preview)
@@ -43,9 +43,9 @@ pub record Reading (b : List ℕ) : Type 0 where
 abbrev pub IsDataOf : (m : MessageData) → BodyAsked → Reading m.octets → EmailProperty → Data → Type 0
 IsDataOf m asked read property.BodyStructure d = AreObjects m asked.parts (read.root ∷ []) (d ∷ [])
 IsDataOf m asked read property.BodyValues d = AreValuesData asked read.lists m.octets read.leaves d
-IsDataOf m asked read property.TextBody d = IsListData m asked.parts read.are_lists.parts.text d
-IsDataOf m asked read property.HtmlBody d = IsListData m asked.parts read.are_lists.parts.html d
-IsDataOf m asked read property.Attachments d = IsListData m asked.parts read.are_lists.parts.attachments d
+IsDataOf m asked read property.TextBody d = IsPartListData m asked.parts read.are_lists.parts.text d
+IsDataOf m asked read property.HtmlBody d = IsPartListData m asked.parts read.are_lists.parts.html d
+IsDataOf m asked read property.Attachments d = IsPartListData m asked.parts read.are_lists.parts.attachments d
 IsDataOf m asked read property.HasAttachment d = d ≡ boolean read.lists.has_attachment
 IsDataOf m asked read property.Preview d = IsPreviewData m.octets read.are_lists.parts.text d
 IsDataOf m asked read _ d = ⊥

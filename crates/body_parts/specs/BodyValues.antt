@@ -39,13 +39,13 @@ pub record PutsValue (most : ℕ) (b : List ℕ) (p : Part) (before after : Memb
 
 -- ---- the values that are asked
 
-abbrev pub is_among : List ℕ → ℕ → Bool
-is_among numbers n = list_any (λ (m : ℕ). m == n) numbers
+abbrev pub is_listed : List ℕ → ℕ → Bool
+is_listed numbers n = list_any (λ (m : ℕ). m == n) numbers
 
 -- the values of all texts are fetched, or those of the leaves of textBody, or of htmlBody
 abbrev pub is_fetched : BodyAsked → BodyLists → Part → Bool
 is_fetched asked lists p =
-    asked.all_values || (asked.text_values && is_among lists.text (leaf_number p) || asked.html_values && is_among lists.html (leaf_number p))
+    asked.all_values || (asked.text_values && is_listed lists.text (leaf_number p) || asked.html_values && is_listed lists.html (leaf_number p))
 
 -- a leaf has a value where it is a text that is fetched
 abbrev pub has_value : BodyAsked → BodyLists → Part → Bool

@@ -80,11 +80,16 @@ pub record OwnMembers (m : MessageData) (asked : List PartProperty) (p : Part) :
 abbrev pub with_sub_parts : List Data → Members → Members
 with_sub_parts inner members = put (codes "subParts") (array (items_of inner)) members
 
+-- the members of a multipart's own, and the objects of the parts in it
+pub record MultipartMembers (m : MessageData) (asked : List PartProperty) (p : Part) : Type 0 where
+  pub no_leaf : is_leaf p ≡ false
+  pub own : OwnMembers m asked p
+  pub inner : List Data
+
 -- these are the objects of the parts, in their order
 pub data AreObjects (m : MessageData) (asked : List PartProperty) : List Part → List Data → Type 0 where
   End : AreObjects m asked [] []
   Leaf : (p : Part) (ps : List Part) (behind : List Data) (own : OwnMembers m asked p) → is_leaf p ≡ true → AreObjects m asked ps behind
       → AreObjects m asked (p ∷ ps) (object own.members ∷ behind)
-  Multi : (p : Part) (ps : List Part) (inner behind : List Data) (own : OwnMembers m asked p) → is_leaf p ≡ false
-      → AreObjects m asked (children p) inner → AreObjects m asked ps behind
-      → AreObjects m asked (p ∷ ps) (object (with_sub_parts inner own.members) ∷ behind)
+  Multi : (p : Part) (ps : List Part) (behind : List Data) (x : MultipartMembers m asked p) → AreObjects m asked (children p) x.inner
+      → AreObjects m asked ps behind → AreObjects m asked (p ∷ ps) (object (with_sub_parts x.inner x.own.members) ∷ behind)

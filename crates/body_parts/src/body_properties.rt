@@ -38,7 +38,7 @@ fn list_value(
     asked: &[PartProperty<'_>],
 ) -> Result<Value, AllocError>
     requires { IsReadBody body.now }
-    ensures { IfOk result (λ v. spec.IsListData (message_data body.now.message.now) asked.now (parts_at (parts_of body.now.leaves.now) numbers.now) (view v)) }
+    ensures { IfOk result (λ v. spec.IsPartListData (message_data body.now.message.now) asked.now (parts_at (parts_of body.now.leaves.now) numbers.now) (view v)) }
 {
     let objects = objects_at(alloc, body.message, body.leaves, numbers, asked)?;
     Ok(Value::Array(objects))

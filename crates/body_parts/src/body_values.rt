@@ -73,7 +73,7 @@ fn add_number(fetched: &mut BTreeSet<u64>, number: u64) -> Result<(), AllocError
 
 /// Adds the numbers to those whose values are fetched, where that is asked.
 fn add_numbers(fetched: &mut BTreeSet<u64>, asked: bool, numbers: &[u64]) -> Result<(), AllocError>
-    ensures { OnOk result ((n : ℕ) → contains nat_cmp fetched.new n ≡ (contains nat_cmp fetched.old n || (asked && spec.is_among numbers.now n))) }
+    ensures { OnOk result ((n : ℕ) → contains nat_cmp fetched.new n ≡ (contains nat_cmp fetched.old n || (asked && spec.is_listed numbers.now n))) }
 {
     if !asked {
         return Ok(());

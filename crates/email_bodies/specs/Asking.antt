@@ -20,7 +20,8 @@ pub data AreAsked {S : Type 0} (Answers : S → MessagePlace → Option (List �
 -- ---- out of memory
 
 -- These were asked up to the moment at which memory ran out. Where that was while one of them was asked, it is the last one, and unanswered.
-pub data AreTried {S : Type 0} (Answers : S → MessagePlace → Option (List ℕ) → S → Type 0) (Lacks : S → MessagePlace → S → Type 0) (before : S) (tried : List BodyAsk)
+pub data AreTried {S : Type 0} (Answers : S → MessagePlace → Option (List ℕ) → S → Type 0) (Lacks : S → MessagePlace → S → Type 0) (before : S)
+    (tried : List BodyAsk)
     (after : S) : Type 0 where
   AllAnswered : AreAsked Answers before tried after → AreTried Answers Lacks before tried after
   LastLacks : {asks : List BodyAsk} {mid : S} (message : MessagePlace) → AreAsked Answers before asks mid → Lacks mid message after

@@ -73,8 +73,8 @@ blob_due emails uploads wanted id asks r finds =
 pub due_shown_blob : (emails : Rows) (uploads : List (List ℕ)) (wanted : EmailAsked) (id : List ℕ) (asks : List BodyAsk) (r : Result ShownBlob MethodError)
     → ShowsBlob emails uploads wanted id asks r → AreDue (FailsAfter (ShowsBlob emails uploads wanted id)) asks
 due_shown_blob emails uploads wanted id asks r (NotFound finds) = blob_due emails uploads wanted id asks (Ok None) finds
-due_shown_blob emails uploads wanted id asks r (Parsed root leaves octets message is finds parsed) =
-    blob_due emails uploads wanted id asks (Ok (Some octets)) (OfBlobId root leaves is finds)
+due_shown_blob emails uploads wanted id asks r (Parsed message b) =
+    blob_due emails uploads wanted id asks (Ok (Some b.octets)) (OfBlobId b.root b.leaves b.is_id b.finds)
 due_shown_blob emails uploads wanted id asks r (parse.NoBody e finds) = blob_due emails uploads wanted id asks (Err e) finds
 
 -- ---- one after another

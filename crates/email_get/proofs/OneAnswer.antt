@@ -117,8 +117,8 @@ module _ (emails : Rows) (uploads : List (List ℕ)) (wanted : EmailAsked) (id :
 
   shows_by : (asks : List BodyAsk) (r : Result ShownBlob MethodError) → ShowsBlob emails uploads wanted id asks r → ShowsBy asks r
   shows_by asks _ (parse.NotFound finds) = (Ok None, finds, refl)
-  shows_by asks _ (parse.Parsed root leaves octets message is finds is_object) =
-      (Ok (Some octets), OfBlobId root leaves is finds, (root, leaves, message, is, is_object, refl))
+  shows_by asks _ (parse.Parsed message b) =
+      (Ok (Some b.octets), OfBlobId b.root b.leaves b.is_id b.finds, (b.root, b.leaves, message, b.is_id, b.is_object, refl))
   shows_by asks _ (parse.NoBody e finds) = (Err e, finds, refl)
 
   one_message : (octets : List ℕ) (r s : Result ShownBlob MethodError) → ShowsFound (Ok (Some octets)) r → ShowsFound (Ok (Some octets)) s → r ≡ s

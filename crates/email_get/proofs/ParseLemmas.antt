@@ -24,7 +24,7 @@ use Rattle.mail_state.specs.History.{MailHistory}
 use Rattle.mail_state.specs.State.{ServedState, IsStateOf}
 use Rattle.email_get.specs.EmailParse.{ParseAsked, parse_asked, parse_answer, AnswersEmailParse, Refused, Shown, Fails, RepliesEmailParse}
 use Rattle.email_get.specs.EmailParse.{ShownBlob, put_found, parsed_members, missing_id, missing_ids, object_or_null, list_or_null, parse_data}
-use Rattle.email_get.specs.reading.Gathered.{Gathered, Gathers, GathersThese}
+use Rattle.email_get.specs.reading.Gathered.{GatheredBlobs, GathersBlobs, GathersThese}
 use Rattle.email_get.specs.Showing.{ShowsAll}
 use Rattle.email_bodies.proofs.Due.{due_more}
 use Rattle.email_get.proofs.Due.{blob_due, due_shown_blob, due_showing}
@@ -41,15 +41,15 @@ missing-append done b =
     ∙ map-append string (missing_ids done) (missing_id b.id b.found)
 
 -- one blob more is gathered
-pub gathers_on : (done : List ShownBlob) (g next : Gathered) (b : ShownBlob) → Gathers done g → next.parsed ≡ put_found b.id b.found g.parsed
-    → next.missing ≡ g.missing ++ map string (missing_id b.id b.found) → Gathers (done ++ b ∷ []) next
+pub gathers_on : (done : List ShownBlob) (g next : GatheredBlobs) (b : ShownBlob) → GathersBlobs done g → next.parsed ≡ put_found b.id b.found g.parsed
+    → next.missing ≡ g.missing ++ map string (missing_id b.id b.found) → GathersBlobs (done ++ b ∷ []) next
 gathers_on done g next b so_far parsed missing = record {
   parsed = parsed ∙ ap (put_found b.id b.found) so_far.parsed ∙ sym (parsed-append done b no_members);
   missing = missing ∙ ap (λ (l : List Data). l ++ map string (missing_id b.id b.found)) so_far.missing ∙ sym (missing-append done b);
 }
 
 -- what is gathered is that of the blobs
-pub gathered_is : (shown : List ShownBlob) (g : Gathered) → Gathers shown g → parse_data g.parsed g.missing ≡ parse_data (parsed_members shown no_members)
+pub gathered_is : (shown : List ShownBlob) (g : GatheredBlobs) → GathersBlobs shown g → parse_data g.parsed g.missing ≡ parse_data (parsed_members shown no_members)
     (map string (missing_ids shown))
 gathered_is shown g gathers =
     ap (λ (ms : Members). parse_data ms g.missing) gathers.parsed ∙ ap (parse_data (parsed_members shown no_members)) gathers.missing
@@ -120,7 +120,7 @@ module _ (emails : Rows) (uploads : List (List ℕ)) (wanted : EmailAsked) (id t
         → ShowsBlob emails uploads wanted id asks (Ok (record { id = id; found = Some message }))
     blob_parsed asks octets o message some finds parsed =
         let P : Option (List ℕ) → Type 0 = λ p. FindsOctets emails uploads root leaves asks (Ok p) in
-        Parsed root leaves octets message is_id (subst P some finds) parsed
+        Parsed message (record { root = root; leaves = leaves; octets = octets; is_id = is_id; finds = subst P some finds; is_object = parsed })
 
 -- ---- an Email/parse
 
@@ -151,7 +151,7 @@ module _ (s : ServedState) (uploads : List (List ℕ)) (d : Data) where
       (due_showing (ShowsBlob s.rows.numbered.rows uploads a.wanted) (due_shown_blob s.rows.numbered.rows uploads a.wanted) ids asks r shows)
 
   -- the blobs are shown
-  pub parsing_shown : (a : ParseAsked) (ids : List (List ℕ)) (g : Gathered) (reply : Data) (asks : List BodyAsk) → parse_asked d ≡ Ok a → ids ≡ distinct_ids a.ids
+  pub parsing_shown : (a : ParseAsked) (ids : List (List ℕ)) (g : GatheredBlobs) (reply : Data) (asks : List BodyAsk) → parse_asked d ≡ Ok a → ids ≡ distinct_ids a.ids
       → reply ≡ parse_data g.parsed g.missing → GathersThese s.rows.numbered.rows uploads a.wanted ids asks (Ok g) → (h : MailHistory) → IsStateOf h s
       → RepliesEmailParse h uploads d asks (Ok reply)
   parsing_shown a ids g reply asks is same reply_is gathered h stands =
@@ -169,7 +169,7 @@ object_there (e ∷ es) some = refl
 
 -- no members yet
 pub none_gathered : (ms : List (String Global × Value)) (missing : List Value) → ms ≡ [] → missing ≡ []
-    → Gathers [] (record { parsed = members_view ms; missing = map view missing })
+    → GathersBlobs [] (record { parsed = members_view ms; missing = map view missing })
 none_gathered ms missing none none_too = record {
   parsed = ap (λ (es : List (String Global × Value)). members_view es) none;
   missing = ap (λ (l : List Value). map view l) none_too;

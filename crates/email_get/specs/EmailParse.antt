@@ -62,12 +62,20 @@ pub record ShownBlob : Type 0 where
 abbrev pub message_id : List ℕ → List ℕ → Option (List ℕ)
 message_id leaves id = if nat_lt (length leaves) MAX_LEAVES then Some id else None
 
--- as an object, where there are octets of the id; any octets are a message
+-- the octets that the id names, as an object; any octets are a message
+pub record ParsesBlob (emails : Rows) (uploads : List (List ℕ)) (wanted : EmailAsked) (id : List ℕ) (asks : List BodyAsk) (message : Data) : Type 0 where
+  pub root : BlobRoot
+  pub leaves : List ℕ
+  pub octets : List ℕ
+  pub is_id : IsBlobId root leaves id
+  pub finds : FindsOctets emails uploads root leaves asks (Ok (Some octets))
+  pub is_object : IsParsedObject (Some id) (record { octets = octets; id = message_id leaves id }) wanted message
+
+-- a blob that is asked: its message, where there are octets of the id
 pub data ShowsBlob (emails : Rows) (uploads : List (List ℕ)) (wanted : EmailAsked) (id : List ℕ) : List BodyAsk → Result ShownBlob MethodError → Type 0 where
   NotFound : {asks : List BodyAsk} → FindsBlob emails uploads id asks (Ok None) → ShowsBlob emails uploads wanted id asks
       (Ok (record { id = id; found = None }))
-  Parsed : {asks : List BodyAsk} (root : BlobRoot) (leaves octets : List ℕ) (message : Data) → IsBlobId root leaves id
-      → FindsOctets emails uploads root leaves asks (Ok (Some octets)) → IsParsedObject (Some id) (record { octets = octets; id = message_id leaves id }) wanted message
+  Parsed : {asks : List BodyAsk} (message : Data) → ParsesBlob emails uploads wanted id asks message
       → ShowsBlob emails uploads wanted id asks (Ok (record { id = id; found = Some message }))
   NoBody : {asks : List BodyAsk} (e : BodyError) → FindsBlob emails uploads id asks (Err e) → ShowsBlob emails uploads wanted id asks (Err (error_by e))
 

@@ -21,7 +21,7 @@ use Rattle.body_parts.proofs.OneBody.{one_bodies}
 use Rattle.body_parts.proofs.StepLemmas.{one_turn}
 use Rattle.email_objects.specs.EmailObjects.{AreFields, without_body, AddsBody, IsObject, IsEmailObject, IsParsedObject}
 use Rattle.email_objects.specs.Facts.{FactsData, row_facts, message_facts, row_message}
-use Rattle.email_objects.specs.Properties.{IsReceivedAt, IsConvenienceData, IsPropertyData, PutsProperty}
+use Rattle.email_objects.specs.Properties.{IsReceivedAt, IsConvenienceData, IsEmailPropertyData, PutsEmailProperty}
 
 -- ---- properties
 
@@ -36,7 +36,7 @@ one_convenience fields p x y g h = by (convenience p) g h
     by None g h = absurd g
     by (Some c) g h = one_last c.1 c.0 fields x y g h
 
-one_data : (e : FactsData) (p : EmailProperty) (x y : Data) → IsPropertyData e p x → IsPropertyData e p y → x ≡ y
+one_data : (e : FactsData) (p : EmailProperty) (x y : Data) → IsEmailPropertyData e p x → IsEmailPropertyData e p y → x ≡ y
 one_data e Id x y g h = g ∙ sym h
 one_data e BlobId x y g h = g ∙ sym h
 one_data e ThreadId x y g h = g ∙ sym h
@@ -48,7 +48,7 @@ one_data e Headers x y g h = g ∙ sym h
 one_data e (Header asked) x y g h = one_property asked e.fields x y g h
 one_data e p x y g h = one_convenience e.fields p x y g h
 
-one_put : (e : FactsData) (p : EmailProperty) (before x y : Members) → PutsProperty e p before x → PutsProperty e p before y → x ≡ y
+one_put : (e : FactsData) (p : EmailProperty) (before x y : Members) → PutsEmailProperty e p before x → PutsEmailProperty e p before y → x ≡ y
 one_put e p before x y g h = g.2 ∙ ap (λ (d : Data). put (email_key p) d before) (one_data e p g.0 h.0 g.1 h.1) ∙ sym h.2
 
 -- ---- objects
@@ -64,7 +64,7 @@ one_body m asked before x y g h = by (needs_body asked) m g h
 
 one_object : (e : FactsData) (ps : List EmailProperty) (m : Option MessageData) (asked : EmailAsked) (x y : Data) → IsObject e ps m asked x → IsObject e ps m asked y → x ≡ y
 one_object e ps m asked x y g h =
-    let told = one_turn (PutsProperty e) (one_put e) ps no_members g.told h.told g.are_told h.are_told in
+    let told = one_turn (PutsEmailProperty e) (one_put e) ps no_members g.told h.told g.are_told h.are_told in
     let all = one_body m asked h.told g.all h.all (subst (λ (ms : Members). AddsBody m asked ms g.all) told g.with_body) h.with_body in
     g.is ∙ ap (λ (ms : Members). object ms) all ∙ sym h.is
 

@@ -23,7 +23,7 @@ use Rattle.body_parts.proofs.WholeLemmas.{bodies_whole}
 use Rattle.body_parts.proofs.StepLemmas.{turn_whole}
 use Rattle.email_objects.specs.EmailObjects.{AddsBody}
 use Rattle.email_objects.specs.Facts.{FactsData}
-use Rattle.email_objects.specs.Properties.{email_id, thread_id, mailbox_ids, with_keywords, keywords, IsReceivedAt, IsConvenienceData, IsPropertyData, PutsProperty, PutsProperties}
+use Rattle.email_objects.specs.Properties.{email_id, thread_id, mailbox_ids, with_keywords, keywords_data, IsReceivedAt, IsConvenienceData, IsEmailPropertyData, PutsEmailProperty, PutsEmailProperties}
 
 -- ---- what is told of an Email alone
 
@@ -44,7 +44,7 @@ with_keywords_whole [] before h = h
 with_keywords_whole (k ∷ ks) before h =
     with_keywords_whole ks (put (utf8_lossy k) (boolean true) before) (put_whole (utf8_lossy k) (boolean true) before refl h)
 
-keywords_whole : (o : Option EmailRow) → has_float (keywords o) ≡ false
+keywords_whole : (o : Option EmailRow) → has_float (keywords_data o) ≡ false
 keywords_whole None = refl
 keywords_whole (Some row) = with_keywords_whole row.keywords no_members refl
 
@@ -61,7 +61,7 @@ convenience_whole fields p d h = by (convenience p) h
     by None h = absurd h
     by (Some c) h = last_whole c.1 c.0 fields d h
 
-data_whole : (e : FactsData) (p : EmailProperty) (d : Data) → IsPropertyData e p d → has_float d ≡ false
+data_whole : (e : FactsData) (p : EmailProperty) (d : Data) → IsEmailPropertyData e p d → has_float d ≡ false
 data_whole e Id d h = ap has_float h ∙ id_whole e.row
 data_whole e BlobId d h = ap has_float h ∙ text_whole e.blob_id
 data_whole e ThreadId d h = ap has_float h ∙ thread_whole e.row
@@ -73,7 +73,7 @@ data_whole e Headers d h = ap has_float h ∙ headers_whole e.fields
 data_whole e (Header asked) d h = property_whole asked e.fields d h
 data_whole e p d h = convenience_whole e.fields p d h
 
-put_one_whole : (e : FactsData) (p : EmailProperty) (before after : Members) → PutsProperty e p before after → members_have_float before ≡ false
+put_one_whole : (e : FactsData) (p : EmailProperty) (before after : Members) → PutsEmailProperty e p before after → members_have_float before ≡ false
     → members_have_float after ≡ false
 put_one_whole e p before after h g = ap members_have_float h.2 ∙ put_whole (email_key p) h.0 before (data_whole e p h.0 h.1) g
 
@@ -89,6 +89,6 @@ body_whole m asked before after h g = by (needs_body asked) m h
     by false m h = ap members_have_float h ∙ g
 
 -- no number of an object has a fraction
-pub object_whole : (e : FactsData) (ps : List EmailProperty) (m : Option MessageData) (asked : EmailAsked) (told all : Members) → PutsProperties e ps no_members told
+pub object_whole : (e : FactsData) (ps : List EmailProperty) (m : Option MessageData) (asked : EmailAsked) (told all : Members) → PutsEmailProperties e ps no_members told
     → AddsBody m asked told all → has_float (object all) ≡ false
-object_whole e ps m asked told all h g = body_whole m asked told all g (turn_whole (PutsProperty e) (put_one_whole e) ps no_members told h refl)
+object_whole e ps m asked told all h g = body_whole m asked told all g (turn_whole (PutsEmailProperty e) (put_one_whole e) ps no_members told h refl)

@@ -15,12 +15,12 @@ use Rattle.email_properties.specs.declared.email_property.EmailProperty.TheVaria
 use Rattle.body_parts.specs.BodyProperties.{AddsBodyProperties}
 use Rattle.body_parts.specs.Messages.{MessageData}
 use Rattle.email_objects.specs.Facts.{FactsData, row_facts, message_facts, row_message}
-use Rattle.email_objects.specs.Properties.{needs_header, PutsProperties}
+use Rattle.email_objects.specs.Properties.{needs_email_header, PutsEmailProperties}
 
 -- the fields of the header at the front of the octets; none where no property of the header is asked
 pub record AreFields (properties : List EmailProperty) (header : List ℕ) (fields : List NameAndRaw) : Type 0 where
   pub end : ℕ
-  pub is_header : IsHeader fields end (if needs_header properties then header else [])
+  pub is_header : IsHeader fields end (if needs_email_header properties then header else [])
 
 abbrev pub needs_no_body : EmailProperty → Bool
 needs_no_body p = not (is_of_body p)
@@ -36,7 +36,7 @@ AddsBody message asked before after = MatchBool (needs_body asked) (IsSomeAnd me
 -- an object with these properties, for which the body isn't needed, and those of the body that are asked
 pub record IsObject (e : FactsData) (properties : List EmailProperty) (message : Option MessageData) (asked : EmailAsked) (d : Data) : Type 0 where
   pub told : Members
-  pub are_told : PutsProperties e properties no_members told
+  pub are_told : PutsEmailProperties e properties no_members told
   pub all : Members
   pub with_body : AddsBody message asked told all
   pub is : d ≡ object all

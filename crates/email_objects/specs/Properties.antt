@@ -39,9 +39,9 @@ abbrev pub with_keywords : List (List ℕ) → Members → Members
 with_keywords [] before = before
 with_keywords (k ∷ ks) before = with_keywords ks (put (utf8_lossy k) (boolean true) before)
 
-abbrev pub keywords : Option EmailRow → Data
-keywords None = null
-keywords (Some row) = object (with_keywords row.keywords no_members)
+abbrev pub keywords_data : Option EmailRow → Data
+keywords_data None = null
+keywords_data (Some row) = object (with_keywords row.keywords no_members)
 
 abbrev pub IsReceivedAt : Option EmailRow → Data → Type 0
 IsReceivedAt None d = d ≡ null
@@ -49,14 +49,14 @@ IsReceivedAt (Some row) d = IsUtcData row.received d
 
 -- ---- what the header tells
 
-abbrev pub is_of_header : EmailProperty → Bool
-is_of_header property.Headers = true
-is_of_header (property.Header asked) = true
-is_of_header p = is_some (convenience p)
+abbrev pub is_of_email_header : EmailProperty → Bool
+is_of_email_header property.Headers = true
+is_of_email_header (property.Header asked) = true
+is_of_email_header p = is_some (convenience p)
 
 -- whether the header is needed for one of these
-abbrev pub needs_header : List EmailProperty → Bool
-needs_header properties = list_any is_of_header properties
+abbrev pub needs_email_header : List EmailProperty → Bool
+needs_email_header properties = list_any is_of_email_header properties
 
 -- the last field of a convenience property, in its form; another property has no data
 abbrev pub IsConvenienceData : List NameAndRaw → EmailProperty → Data → Type 0
@@ -64,22 +64,22 @@ IsConvenienceData fields p d = MatchOption (convenience p) ⊥ (λ c. IsLastData
 
 -- ---- the data of a property; one of the body has none
 
-abbrev pub IsPropertyData : FactsData → EmailProperty → Data → Type 0
-IsPropertyData e property.Id d = d ≡ email_id e.row
-IsPropertyData e property.BlobId d = d ≡ optional_text e.blob_id
-IsPropertyData e property.ThreadId d = d ≡ thread_id e.row
-IsPropertyData e property.MailboxIds d = d ≡ mailbox_ids e.row
-IsPropertyData e property.Keywords d = d ≡ keywords e.row
-IsPropertyData e property.Size d = d ≡ number (unsigned e.size)
-IsPropertyData e property.ReceivedAt d = IsReceivedAt e.row d
-IsPropertyData e property.Headers d = d ≡ headers_data e.fields
-IsPropertyData e (property.Header asked) d = IsHeaderPropertyData asked e.fields d
-IsPropertyData e p d = IsConvenienceData e.fields p d
+abbrev pub IsEmailPropertyData : FactsData → EmailProperty → Data → Type 0
+IsEmailPropertyData e property.Id d = d ≡ email_id e.row
+IsEmailPropertyData e property.BlobId d = d ≡ optional_text e.blob_id
+IsEmailPropertyData e property.ThreadId d = d ≡ thread_id e.row
+IsEmailPropertyData e property.MailboxIds d = d ≡ mailbox_ids e.row
+IsEmailPropertyData e property.Keywords d = d ≡ keywords_data e.row
+IsEmailPropertyData e property.Size d = d ≡ number (unsigned e.size)
+IsEmailPropertyData e property.ReceivedAt d = IsReceivedAt e.row d
+IsEmailPropertyData e property.Headers d = d ≡ headers_data e.fields
+IsEmailPropertyData e (property.Header asked) d = IsHeaderPropertyData asked e.fields d
+IsEmailPropertyData e p d = IsConvenienceData e.fields p d
 
 -- ---- properties that are put, each at its key
 
-abbrev pub PutsProperty : FactsData → EmailProperty → Members → Members → Type 0
-PutsProperty e p before after = (d : Data) × IsPropertyData e p d × (after ≡ put (email_key p) d before)
+abbrev pub PutsEmailProperty : FactsData → EmailProperty → Members → Members → Type 0
+PutsEmailProperty e p before after = (d : Data) × IsEmailPropertyData e p d × (after ≡ put (email_key p) d before)
 
-abbrev pub PutsProperties : FactsData → List EmailProperty → Members → Members → Type 0
-PutsProperties e properties before after = InTurn (PutsProperty e) properties before after
+abbrev pub PutsEmailProperties : FactsData → List EmailProperty → Members → Members → Type 0
+PutsEmailProperties e properties before after = InTurn (PutsEmailProperty e) properties before after

@@ -7,7 +7,7 @@ use field_values::convenience;
 
 /// Whether the header tells the property.
 fn is_of_header(property: &EmailProperty<'_>) -> bool
-    ensures { result ≡ spec.is_of_header property.now }
+    ensures { result ≡ spec.is_of_email_header property.now }
 {
     match property {
         EmailProperty::Headers => true,
@@ -18,7 +18,7 @@ fn is_of_header(property: &EmailProperty<'_>) -> bool
 
 /// Whether the header tells one of the properties.
 pub(crate) fn needs_header(properties: &[EmailProperty<'_>]) -> bool
-    ensures { result ≡ spec.needs_header properties.now }
+    ensures { result ≡ spec.needs_email_header properties.now }
 {
     for property in properties {
         if is_of_header(property) {

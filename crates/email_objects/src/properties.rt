@@ -6,7 +6,7 @@ ghost use Rattle.mail_header.specs.Fields.{names_and_raws};
 ghost use Rattle.field_values.specs.HeaderProperties as headers;
 ghost use Rattle.body_parts.specs.reading.StepsIf.{StepIf};
 ghost use Rattle.email_objects.specs.EmailObjects.{needs_no_body, without_body};
-ghost use Rattle.email_objects.specs.Properties.{IsConvenienceData, IsPropertyData, PutsProperty, PutsProperties};
+ghost use Rattle.email_objects.specs.Properties.{IsConvenienceData, IsEmailPropertyData, PutsEmailProperty, PutsEmailProperties};
 ghost use Rattle.email_objects.specs.reading.Views.{facts_data};
 
 use crate::facts::Facts;
@@ -39,7 +39,7 @@ fn property_value(
 ) -> Option<Result<Value, AllocError>>
     ensures { MatchOption result
         (is_of_body property.now ≡ true)
-        (λ r. IfOk r (λ value. (is_of_body property.now ≡ false) × IsPropertyData (facts_data facts.now) property.now (view value))) }
+        (λ r. IfOk r (λ value. (is_of_body property.now ≡ false) × IsEmailPropertyData (facts_data facts.now) property.now (view value))) }
 {
     match property {
         EmailProperty::Id => Some(email_id(alloc, facts.row)),
@@ -62,7 +62,7 @@ pub(crate) fn put_property(
     facts: &Facts<'_>,
     property: &EmailProperty<'_>,
 ) -> Result<(), AllocError>
-    ensures { OnOk result (StepIf needs_no_body (PutsProperty (facts_data facts.now)) property.now (members_view members.old.entries) (members_view members.new.entries)) }
+    ensures { OnOk result (StepIf needs_no_body (PutsEmailProperty (facts_data facts.now)) property.now (members_view members.old.entries) (members_view members.new.entries)) }
 {
     match property_value(alloc, facts, property) {
         None => Ok(()),
@@ -77,7 +77,7 @@ pub(crate) fn put_properties(
     facts: &Facts<'_>,
     properties: &[EmailProperty<'_>],
 ) -> Result<(), AllocError>
-    ensures { OnOk result (PutsProperties (facts_data facts.now) (without_body properties.now) (members_view members.old.entries) (members_view members.new.entries)) }
+    ensures { OnOk result (PutsEmailProperties (facts_data facts.now) (without_body properties.now) (members_view members.old.entries) (members_view members.new.entries)) }
 {
     for property in properties {
         put_property(members, alloc, facts, property)?;

@@ -13,7 +13,7 @@ use Rattle.told_mail.specs.Mail.{Mail, SameMail}
 use Rattle.gate_machine.specs.Fetching.{AsksBody, IsKept, IsTold, Ends, HasEnded, AsksBodies, NoBodies, MoreBodies, CallsAsk, AllAsked, RunsShort, after_asking, keeping}
 use Rattle.gate_machine.specs.History.{KnownMail}
 use Rattle.gate_machine.specs.Kept.{ServedMail, IsSameSince}
-use Rattle.gate_machine.specs.Lending.{AnswersBody, GoesOn, HoldsSource, LeavesSource, Moment, RunsOut, SourceState}
+use Rattle.gate_machine.specs.Lending.{AnswersBody, KeepsOutside, HoldsSource, LeavesSource, Moment, RunsOut, SourceState}
 use Rattle.gate_machine.specs.Progress.{Progress}
 
 pub alone_none : (f : Faults) → LinkAlone f f
@@ -28,10 +28,10 @@ alone_joins a b c one two =
       say = two.say ∙ one.say;
     }
 
-pub goes_on_none : (m : Moment) → GoesOn m m
+pub goes_on_none : (m : Moment) → KeepsOutside m m
 goes_on_none m = record { alone = alone_none m.faults; hidden = refl }
 
-goes_on_joins : {a b c : Moment} → GoesOn a b → GoesOn b c → GoesOn a c
+goes_on_joins : {a b c : Moment} → KeepsOutside a b → KeepsOutside b c → KeepsOutside a c
 goes_on_joins {a} {b} {c} one two = record { alone = alone_joins a.faults b.faults c.faults one.alone two.alone; hidden = two.hidden ∙ one.hidden }
 
 pub counts_none : (t : Told) → CountsOn t t
@@ -54,7 +54,7 @@ pub record AsksThese (asks : List BodyAsk) (before after : Moment) : Type 0 wher
   pub run : Adds before.tape after.tape (λ es. (p : Progress) (was : Faults) → HoldsSource p before.source was before.faults
       → (q : Progress) × AsksBodies p asks es q × HoldsSource q after.source was after.faults)
   pub counts : CountsOn before.source.told after.source.told
-  pub goes_on : GoesOn before after
+  pub goes_on : KeepsOutside before after
 
 asks_none : (m : Moment) → AsksThese [] m m
 asks_none m =
@@ -94,7 +94,7 @@ pub record AsksShort (asks : List BodyAsk) (before after : Moment) : Type 0 wher
   pub run : Adds before.tape after.tape (λ es. (p : Progress) (was : Faults) → HoldsSource p before.source was before.faults
       → (q : Progress) × CallsAsk p asks es q × LeavesSource q after.source was after.faults)
   pub counts : CountsOn before.source.told after.source.told
-  pub goes_on : GoesOn before after
+  pub goes_on : KeepsOutside before after
 
 left_by : {p : Progress} {source : SourceState} {was now : Faults} → HoldsSource p source was now → LeavesSource p source was now
 left_by holds = record { in_life = holds.in_life; bears = holds.bears }

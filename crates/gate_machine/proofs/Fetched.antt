@@ -18,7 +18,7 @@ use Rattle.imap_client.specs.Bodies.{FetchesBody, without_body}
 use Rattle.imap_client.specs.LinkLife.{LinkLife, ClientState, Stands}
 use Rattle.imap_client.specs.Rounds.{CountsOn, KeepsCount}
 use Rattle.gate_machine.specs.Fetching.{AsksStore, Ends, HasEnded, HasKept, IsKept, IsTold, Asked, NotKept, Unasked, after_asking, keeping, keeping_body}
-use Rattle.gate_machine.specs.Lending.{AnswersBody, GoesOn, HoldsSource, LeavesSource, Moment, RunsOut, SourceState}
+use Rattle.gate_machine.specs.Lending.{AnswersBody, KeepsOutside, HoldsSource, LeavesSource, Moment, RunsOut, SourceState}
 use Rattle.gate_machine.specs.Progress.{Bears, Progress, StandsInLife, is_up, out_of_memory}
 use Rattle.gate_machine.proofs.Asking.{alone_none, counts_none, goes_on_none}
 use Rattle.gate_machine.proofs.Stages.{bears_end, in_life, NextJoins}
@@ -86,7 +86,7 @@ module _ (joins : NextJoins) {message : MessagePlace} {before after : Moment} {t
             (cause_of result (Rose before.faults.link after.faults.link) came.cause);
       }
 
-  goes_on : {result : Result (List ℕ) LinkEnd} → Came message before after told client result → GoesOn before after
+  goes_on : {result : Result (List ℕ) LinkEnd} → Came message before after told client result → KeepsOutside before after
   goes_on came = record { alone = came.alone; hidden = came.hidden }
 
   -- the body came, and is kept
@@ -223,7 +223,8 @@ runs_out_first message m =
 -- ---- what calls answer
 
 -- the body, where there was room for it
-pub told_kept : {X : Type 0} (result : Result X BodyError) (octets : X) (P : X → Type 0) {A : Type 0} → IfOk result (λ o. o ≡ octets) → OnOk result A → (A → P octets) → IfOk result P
+pub told_kept : {X : Type 0} (result : Result X BodyError) (octets : X) (P : X → Type 0) {A : Type 0} → IfOk result (λ o. o ≡ octets) → OnOk result A → (A → P octets)
+    → IfOk result P
 told_kept (Ok x) octets P is a so = subst P (sym is) (so a)
 told_kept (Err e) octets P is a so = tt
 

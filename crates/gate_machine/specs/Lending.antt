@@ -49,7 +49,7 @@ pub record Moment : Type 0 where
   pub hidden : Hidden
 
 -- what asking for a body leaves as it is, and the counts that don't fall
-pub record GoesOn (before after : Moment) : Type 0 where
+pub record KeepsOutside (before after : Moment) : Type 0 where
   pub alone : LinkAlone before.faults after.faults
   pub hidden : after.hidden ≡ before.hidden
 
@@ -58,11 +58,11 @@ pub record AnswersBody (message : MessagePlace) (body : Option (List ℕ)) (befo
   pub run : Adds before.tape after.tape (λ es. (p : Progress) (was : Faults) → HoldsSource p before.source was before.faults
       → (q : Progress) × AsksBody message p body es q × HoldsSource q after.source was after.faults)
   pub counts : CountsOn before.source.told after.source.told
-  pub goes_on : GoesOn before after
+  pub goes_on : KeepsOutside before after
 
 -- memory runs out as it is asked
 pub record RunsOut (message : MessagePlace) (before after : Moment) : Type 0 where
   pub counts : CountsOn before.source.told after.source.told
   pub run : Adds before.tape after.tape (λ es. (p : Progress) (was : Faults) → HoldsSource p before.source was before.faults
       → (q : Progress) × LacksBody message p es q × LeavesSource q after.source was after.faults)
-  pub goes_on : GoesOn before after
+  pub goes_on : KeepsOutside before after

@@ -27,7 +27,7 @@ use Rattle.gate_machine.specs.Beginning.{BeginsTo}
 use Rattle.gate_machine.specs.Fetching.{AllAsked, NoBodies}
 use Rattle.gate_machine.specs.History.{KnownMail}
 use Rattle.gate_machine.specs.Kept.{ServedMail}
-use Rattle.gate_machine.specs.Lending.{GoesOn, HoldsSource, IsLentOf, Moment}
+use Rattle.gate_machine.specs.Lending.{KeepsOutside, HoldsSource, IsLentOf, Moment}
 use Rattle.gate_machine.specs.Holding.{HoldsMachine, unready}
 use Rattle.gate_machine.specs.Machine.{MachineState, forgotten}
 use Rattle.gate_machine.specs.declared.machine.Machine.{Machine}
@@ -327,7 +327,7 @@ module _ {S : Type 0} (moment : S → Moment) {X : Type 0} (Means : X → List B
   counts_of (Err e) makes = (asked_in_vain moment makes).counts
 
   pub goes_on_of : (result : Result X AllocError) → AsksAndMakes (Answers moment) (Lacks moment) before after result Means AreAll
-      → GoesOn (moment before) (moment after)
+      → KeepsOutside (moment before) (moment after)
   goes_on_of (Ok x) makes = (asked_these moment makes.asked).goes_on
   goes_on_of (Err e) makes = (asked_in_vain moment makes).goes_on
 
@@ -369,7 +369,8 @@ pub finished_untold : {door : Door} {account : Account} {uploads : List (List �
     → ((r : Response) → result ≡ Ok r → (asks : List BodyAsk) × ((o : MailAndUploads) → AreOf o over → IsResponse door account o asking asks (text_sent r)))
     → AreOf (record { mail = Err error; uploads = uploads }) over → HoldsMachine (machine_left result p.machine) kept
     → Finishes door account uploads asking p kept was now result ys
-finished_untold {uploads = uploads} {asking = asking} {client = client} {p = p} {was = was} {then = then} {now = now} {ys = ys} error (Err e) needs came is hangs same made of held =
+finished_untold {uploads = uploads} {asking = asking} {client = client} {p = p} {was = was} {then = then} {now = now} {ys = ys} error
+    (Err e) needs came is hangs same made of held =
     record {
       asks = [];
       answered = p;
@@ -382,7 +383,8 @@ finished_untold {uploads = uploads} {asking = asking} {client = client} {p = p} 
       bears = stays_borne p.blamed was then now came.bears same;
       made = none_due (AsksFirst (record { mail = mailing_by p.standing p.machine.known; uploads = uploads }) asking);
     }
-finished_untold {door} {account} {uploads} {asking} {client = client} {how = how} {p = p} {was = was} {then = then} {now = now} {ys = ys} error (Ok r) needs came is hangs same made of held =
+finished_untold {door} {account} {uploads} {asking} {client = client} {how = how} {p = p} {was = was} {then = then} {now = now} {ys = ys} error
+    (Ok r) needs came is hangs same made of held =
     let so = made r refl in
     let response : IsResponse door account (record { mail = Err error; uploads = uploads }) asking so.0 (text_sent r) = so.1 (record { mail = Err error; uploads = uploads }) of in
     let none : so.0 ≡ [] = no_asks account error uploads asking so.0 response.answer response.is_answer in

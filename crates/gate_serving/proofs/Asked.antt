@@ -18,7 +18,7 @@ use Rattle.gate_serving.specs.declared.door.Door.TheVariants.{Bare, Http}
 use Rattle.gate_serving.specs.Front.{GivesRequest}
 use Rattle.gate_serving.specs.Requests.{Asking, Calls, Problem, Upload, asked_by, upload_asked}
 use Rattle.jmap_methods.specs.Arguments.{account_id}
-use Rattle.gate_serving.specs.reading.Askings.{AsksInBody, AsksInVain, AsksOf, ReadsInto}
+use Rattle.gate_serving.specs.reading.Askings.{AsksInBody, IsNoRequest, AsksOf, ReadsInto}
 
 -- ---- a body
 
@@ -30,7 +30,7 @@ problem_in_body : (body : List ℕ) (e : RequestError) (result : Result Asked As
 problem_in_body body e result is why = subst (λ (r : Result Asked AskError). AsksInBody body r) (sym is) (sym (ap asked_by why))
 
 -- a body that is no request asks the problem that it has, or memory ran out
-pub vain_in_body : (body : List ℕ) (e : RequestError) (result : Result Asked AskError) → AsksInVain e result → (e ≡ Memory) ⊎ (requested body ≡ Err e) → AsksInBody body result
+pub vain_in_body : (body : List ℕ) (e : RequestError) (result : Result Asked AskError) → IsNoRequest e result → (e ≡ Memory) ⊎ (requested body ≡ Err e) → AsksInBody body result
 vain_in_body body Memory result is cause = subst (λ (r : Result Asked AskError). AsksInBody body r) (sym is) refl
 vain_in_body body NotJson result is (inl out) = absurd (cc out)
 vain_in_body body NotJson result is (inr why) = problem_in_body body NotJson result is why

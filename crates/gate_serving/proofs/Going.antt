@@ -87,7 +87,8 @@ held_on law calls (Then next run) s since held = elim held [
 ]
 
 -- from each moment of a run to each later one
-pub run_kept : Law → CallsLaw → {door : Door} {account : Account} {before after : GateState} {events : List Event} {went : List Served} (run : Run door account before events went after)
+pub run_kept : Law → CallsLaw → {door : Door} {account : Account} {before after : GateState} {events : List Event} {went : List Served}
+    (run : Run door account before events went after)
     → IsRunKept run
 run_kept law calls Begun = tt
 run_kept law calls (Then next run) = (

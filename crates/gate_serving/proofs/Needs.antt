@@ -139,7 +139,8 @@ AnsweredLaw = (account : Account) (before : MachineState) (asking : Asking) (eve
     → IsAnsweredFrom asking mail asks after ⊎ (after.standing ≡ OutOfMemory)
 
 -- where the store obeyed and nothing is blamed, calls are answered over the mail that is served then and bodies that come; or memory ran out
-pub answered_from : Law → UpLaw → BodiesLaw → (account : Account) (before : MachineState) (asking : Asking) (events : List Event) (mail : Mailing) (asks : List BodyAsk) (after : Progress)
+pub answered_from : Law → UpLaw → BodiesLaw → (account : Account) (before : MachineState) (asking : Asking) (events : List Event) (mail : Mailing) (asks : List BodyAsk)
+    (after : Progress)
     (work : Work account before asking events mail asks after) → IsWorkObeyed work → after.blamed ≡ no_faults
     → IsAnsweredFrom asking mail asks after ⊎ (after.standing ≡ OutOfMemory)
 answered_from law links come account before asking events mail asks after (NoMail apart a b c d) obeyed none = inl (inl (apart, a))

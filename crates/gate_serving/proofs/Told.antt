@@ -10,7 +10,7 @@ use Rattle.gate_machine.specs.declared.standing.Standing.TheVariants.{OutOfMemor
 use Rattle.gate_serving.specs.declared.door.Door.{Door}
 use Rattle.gate_serving.specs.declared.served.Served.{Served}
 use Rattle.gate_serving.specs.declared.served.Served.TheVariants as served
-use Rattle.gate_serving.specs.Complete.{IsAnsweredFrom, IsReplyObeyed, IsSegmentObeyed, IsTold, NobodyComes, EndsEarly, IsAnswered, LacksMemory, IsRunTold}
+use Rattle.gate_serving.specs.Complete.{IsAnsweredFrom, IsReplyObeyed, IsSegmentObeyed, IsClientTold, NobodyComes, EndsEarly, IsAnswered, LacksMemory, IsRunTold}
 use Rattle.gate_serving.specs.GateState.{GateState}
 use Rattle.gate_serving.specs.Requests.{Account}
 use Rattle.gate_serving.specs.Run.{Run, Begun, Then}
@@ -39,7 +39,7 @@ blamed_once f is = never f.front (ap (λ (g : Faults). g.front) is)
 
 takes : (door : Door) (account : Account) (events replied heard : List Event) (text : List ℕ) (how : Served) (before after : GateState)
     → events ≡ Accepted ∷ ((replied ++ heard) ++ ClientDone ∷ []) → (a : AnswersAsking door account before replied text after) → Hears text heard → how ≡ served.Whole
-    → IsAnsweredFrom a.asking a.mail a.asks a.done ⊎ (a.done.standing ≡ OutOfMemory) → IsTold door account events how after
+    → IsAnsweredFrom a.asking a.mail a.asks a.done ⊎ (a.done.standing ≡ OutOfMemory) → IsClientTold door account events how after
 takes door account events replied heard text how before after is a hears whole (inl from) =
     IsAnswered record {
       asked = a.asked;
@@ -61,7 +61,7 @@ takes door account events replied heard text how before after is a hears whole (
 
 told_by : AnsweredLaw → (door : Door) (account : Account) (before : GateState) (events replied heard : List Event) (text : List ℕ) (how : Served) (after : GateState)
     → events ≡ Accepted ∷ ((replied ++ heard) ++ ClientDone ∷ []) → (replies : Replies door account before replied text after) → Hears text heard → how ≡ served.Whole
-    → IsReplyObeyed replies → reply_blamed replies ≡ no_faults → IsTold door account events how after
+    → IsReplyObeyed replies → reply_blamed replies ≡ no_faults → IsClientTold door account events how after
 told_by law door account before events replied heard text how after is (Answered a) hears whole obeyed none =
     takes door account events replied heard text how before after is a hears whole
     (law account before.machine a.asking a.worked a.mail a.asks a.done a.work obeyed none)
@@ -71,16 +71,17 @@ told_by law door account before events replied heard text how after is (LacksAns
     LacksMemory replied heard is (subst (λ (t : List ℕ). Hears t heard) a.text_is hears) whole
 
 -- what was sent whole is told; what wasn't is blamed on the front
-told_sent : AnsweredLaw → (door : Door) (account : Account) (before : GateState) (events replied heard : List Event) (text : List ℕ) (sent : Result (Unit {0}) Failed) (how : Served)
+told_sent : AnsweredLaw → (door : Door) (account : Account) (before : GateState) (events replied heard : List Event) (text : List ℕ) (sent : Result (Unit {0}) Failed)
+    (how : Served)
     (after : GateState) → events ≡ Accepted ∷ ((replied ++ heard) ++ ClientDone ∷ []) → (replies : Replies door account before replied text after) → Sends text sent heard
-    → how ≡ went sent → IsReplyObeyed replies → blame_front (unsent sent) (reply_blamed replies) ≡ no_faults → IsTold door account events how after
+    → how ≡ went sent → IsReplyObeyed replies → blame_front (unsent sent) (reply_blamed replies) ≡ no_faults → IsClientTold door account events how after
 told_sent law door account before events replied heard text (Ok u) how after is replies sends how_is obeyed none =
     told_by law door account before events replied heard text how after is replies sends how_is obeyed (blameless (reply_blamed replies) none)
 told_sent law door account before events replied heard text (Err e) how after is replies sends how_is obeyed none = absurd (blamed_once (reply_blamed replies) none)
 
 -- what comes of one client or none, where the store obeyed and nothing is blamed
 pub told : AnsweredLaw → (door : Door) (account : Account) (before : GateState) (events : List Event) (how : Served) (after : GateState)
-    (segment : Segment door account before events how after) → IsSegmentObeyed segment → blamed segment ≡ no_faults → IsTold door account events how after
+    (segment : Segment door account before events how after) → IsSegmentObeyed segment → blamed segment ≡ no_faults → IsClientTold door account events how after
 told law door account before events how after (NoneComes is how_is same) obeyed none = NobodyComes is how_is
 told law door account before events how after (NotAccepted is how_is same) obeyed none = absurd (blamed_once no_faults none)
 told law door account before events how after (Left asked is reads how_is same) obeyed none = EndsEarly asked is reads how_is
@@ -93,7 +94,7 @@ told law door account before events how after (Replied a) obeyed none =
 -- what is proved of each client
 abbrev pub ToldLaw : Type 0
 ToldLaw = (door : Door) (account : Account) (before : GateState) (events : List Event) (how : Served) (after : GateState)
-    (segment : Segment door account before events how after) → IsSegmentObeyed segment → blamed segment ≡ no_faults → IsTold door account events how after
+    (segment : Segment door account before events how after) → IsSegmentObeyed segment → blamed segment ≡ no_faults → IsClientTold door account events how after
 
 -- what comes of each client of a run for whom the store obeyed and of whom nothing is blamed
 pub run_told : ToldLaw → {door : Door} {account : Account} {before after : GateState} {events : List Event} {went : List Served} (run : Run door account before events went after)

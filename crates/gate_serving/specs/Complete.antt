@@ -24,7 +24,8 @@ use Rattle.gate_serving.specs.Work.{Work, NoMail, WithMail}
 -- ---- a request
 
 -- The store obeyed all that a request asks of it, where it asks anything.
-abbrev pub IsWorkObeyed : {account : Account} {before : MachineState} {asking : Asking} {events : List Event} {mail : Mailing} {asks : List BodyAsk} {after : Progress}
+abbrev pub IsWorkObeyed : {account : Account} {before : MachineState} {asking : Asking} {events : List Event} {mail : Mailing} {asks : List BodyAsk}
+    {after : Progress}
     → Work account before asking events mail asks after → Type 0
 IsWorkObeyed (NoMail a b c d e) = Unit {0}
 IsWorkObeyed (WithMail a work) = IsObeyedBeginning work.prepares × AreCallsObeyed work.calls_ask
@@ -70,14 +71,14 @@ pub record TakesResponse (door : Door) (account : Account) (events : List Event)
 
 -- What comes of a client of whom nothing fails: it takes the whole response; or memory ran out, and it takes the text of that;
 -- or it ended its input inside its request; or no client comes.
-pub data IsTold (door : Door) (account : Account) (events : List Event) (how : Served) (after : GateState) : Type 0 where
-  NobodyComes : events ≡ NoMore ∷ [] → how ≡ served.NoMore → IsTold door account events how after
+pub data IsClientTold (door : Door) (account : Account) (events : List Event) (how : Served) (after : GateState) : Type 0 where
+  NobodyComes : events ≡ NoMore ∷ [] → how ≡ served.NoMore → IsClientTold door account events how after
   EndsEarly : (asked : List Event) → events ≡ Accepted ∷ (asked ++ ClientDone ∷ []) → ReadsAsking door account.token (Err unread.Ended) asked
       → how ≡ served.Part
-      → IsTold door account events how after
-  IsAnswered : TakesResponse door account events after → how ≡ served.Whole → IsTold door account events how after
+      → IsClientTold door account events how after
+  IsAnswered : TakesResponse door account events after → how ≡ served.Whole → IsClientTold door account events how after
   LacksMemory : (replied heard : List Event) → events ≡ Accepted ∷ ((replied ++ heard) ++ ClientDone ∷ []) → Hears (no_memory_text door) heard
-      → how ≡ served.Whole → IsTold door account events how after
+      → how ≡ served.Whole → IsClientTold door account events how after
 
 -- ---- a run
 
@@ -86,7 +87,7 @@ abbrev pub IsRunTold : {door : Door} {account : Account} {before after : GateSta
     → Run door account before events went after → Type 0
 IsRunTold Begun = Unit {0}
 IsRunTold {door} {account} (Then next run) =
-    IsRunTold run × (IsSegmentObeyed next.segment → blamed next.segment ≡ no_faults → IsTold door account next.events next.how next.after)
+    IsRunTold run × (IsSegmentObeyed next.segment → blamed next.segment ≡ no_faults → IsClientTold door account next.events next.how next.after)
 
 -- Each such client of a run of these events is told.
 abbrev pub CompletesRun : Door → Account → List Event → Type 0

@@ -13,7 +13,8 @@ use Rattle.gate_serving.specs.Requests.{Account, Asking, asks_for_mail}
 
 -- The link life of a request that needs the mail: the way to the mail, the bodies that are asked for the answer, and the end. It is over before
 -- anything is sent.
-pub record WorksOverMail (account : Account) (before : MachineState) (events : List Event) (mail : Mailing) (asks : List BodyAsk) (after : Progress) : Type 0 where
+pub record WorksOverMail (account : Account) (before : MachineState) (events : List Event) (mail : Mailing) (asks : List BodyAsk) (after : Progress)
+    : Type 0 where
   pub begun : Progress
   pub answered : Progress
   pub beginning : List Event
@@ -27,7 +28,8 @@ pub record WorksOverMail (account : Account) (before : MachineState) (events : L
   pub after_is : after ≡ record answered { left = None }
 
 -- A link life stands only after a request that needs the mail. No mail that is kept is served without one, and no body is asked.
-pub data Work (account : Account) (before : MachineState) (asking : Asking) (events : List Event) (mail : Mailing) (asks : List BodyAsk) (after : Progress) : Type 0 where
+pub data Work (account : Account) (before : MachineState) (asking : Asking) (events : List Event) (mail : Mailing) (asks : List BodyAsk) (after : Progress)
+    : Type 0 where
   NoMail : asks_for_mail asking ≡ false → asks ≡ [] → events ≡ [] → mail ≡ Err ServerUnavailable → after ≡ idle before
       → Work account before asking events mail asks after
   WithMail : asks_for_mail asking ≡ true → WorksOverMail account before events mail asks after → Work account before asking events mail asks after

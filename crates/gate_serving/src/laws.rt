@@ -10,7 +10,7 @@ ghost use Rattle.email_bodies.specs.Asking.{BodyAsk};
 ghost use Rattle.gate_calls.specs.Mailings.{Mailing, MailAndUploads};
 ghost use Rattle.gate_calls.specs.Places.{HasPlaces};
 ghost use Rattle.gate_serving.specs.Answers.{IsResponse};
-ghost use Rattle.gate_serving.specs.Complete.{CompletesRun, IsAnsweredFrom, IsSegmentObeyed, IsTold, IsWorkObeyed};
+ghost use Rattle.gate_serving.specs.Complete.{CompletesRun, IsAnsweredFrom, IsSegmentObeyed, IsClientTold, IsWorkObeyed};
 ghost use Rattle.gate_serving.specs.Histories.{KeepsHistories};
 ghost use Rattle.gate_serving.specs.declared.door.Door.{Door};
 ghost use Rattle.gate_serving.specs.GateState.{GateState};
@@ -54,7 +54,7 @@ pub fn obeyed_requests_answered()
 pub fn obeyed_clients_are_told()
     ensures { (door : Door) (account : Account) (before : GateState) (events : List Event) (how : Served) (after : GateState)
         (segment : Segment door account before events how after) → IsSegmentObeyed segment → blamed segment ≡ no_faults
-        → IsTold door account events how after }
+        → IsClientTold door account events how after }
 {
     obeyed_requests_answered();
 }

@@ -5,7 +5,7 @@ ghost use Rattle.gate_world.specs.Tape.{Adds};
 ghost use Rattle.jmap_core.specs.declared.request.RequestError.TheVariants.{Limit};
 ghost use Rattle.gate_serving.specs.Requests.{Problem, upload_asked};
 ghost use Rattle.gate_serving.specs.declared.door.Door.TheVariants.{Bare, Http};
-ghost use Rattle.gate_serving.specs.reading.Askings.{AsksInBody, AsksInVain, AsksOf, ReadsInto, asking_data};
+ghost use Rattle.gate_serving.specs.reading.Askings.{AsksInBody, IsNoRequest, AsksOf, ReadsInto, asking_data};
 
 use crate::asking::Asking;
 use crate::door::Door;
@@ -26,7 +26,7 @@ fn too_large(name: LimitName) -> Asking
 
 // What is asked by a body that is no request.
 fn problem_of(error: RequestError) -> Result<Asking, AskError>
-    ensures { AsksInVain error result }
+    ensures { IsNoRequest error result }
 {
     match error {
         RequestError::Memory => Err(AskError::Memory),

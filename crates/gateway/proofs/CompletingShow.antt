@@ -16,7 +16,7 @@ use Rattle.gate_serving.specs.declared.front.FrontError.TheVariants as error
 use Rattle.gate_serving.specs.declared.front.Input.{Input}
 use Rattle.gate_serving.specs.declared.front.Input.TheVariants.{Whole, Cut}
 use Rattle.gate_serving.specs.Front.{input_octets, GivesInput}
-use Rattle.gateway.specs.Show.{ShowsObject, Answers, Unread, Sent, SendsLine, over_front, Shows, NoneComes, NotAccepted, Came}
+use Rattle.gateway.specs.Show.{ShowsObject, AnswersShow, Unread, Sent, SendsLine, over_front, Shows, NoneComes, NotAccepted, Came}
 use Rattle.gate_words.specs.declared.task.Task.{Task}
 use Rattle.gate_words.specs.declared.place.Place.{Place}
 use Rattle.gate_world.specs.Causes.{Faults, Hidden}
@@ -87,7 +87,7 @@ sent_told outcome status answered said shown events a (Ok u) sends is well ends 
           (subst (λ (l : List ℕ). ShowsObject (input_octets input) l) (sym took) object),
     )
 
-answers_told : (outcome : Result (Unit {0}) FrontError) (status : ℕ) (answered said shown events : List Event) → Answers outcome answered → (status ≡ 6 → ⊥)
+answers_told : (outcome : Result (Unit {0}) FrontError) (status : ℕ) (answered said shown events : List Event) → AnswersShow outcome answered → (status ≡ 6 → ⊥)
     → EndsOne outcome status said → events ≡ shown ++ said → shown ≡ Accepted ∷ (answered ++ ClientDone ∷ []) → Told status events
 answers_told outcome status answered said shown events (Unread error.Failed reads is) well ends events_are shown_is = absurd (ends_badly outcome status said is well ends)
 answers_told outcome status answered said shown events (Unread error.Memory (input, gives, other) is) well ends events_are shown_is =

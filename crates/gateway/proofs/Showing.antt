@@ -13,7 +13,7 @@ use Rattle.gate_serving.specs.declared.front.FrontError.{FrontError}
 use Rattle.gate_serving.specs.declared.front.FrontError.TheVariants as error
 use Rattle.gate_world.specs.Sending.{Sends}
 use Rattle.gate_serving.specs.Answers.{line_end}
-use Rattle.gateway.specs.Show.{object_line, ShowsObject, ReadsInput, Answers, Sent, Shows, ShowsClient}
+use Rattle.gateway.specs.Show.{object_line, ShowsObject, ReadsInput, AnswersShow, Sent, Shows, ShowsClient}
 use Rattle.gateway.specs.Program.{IsSaid, front_failed, RunsShow}
 
 -- the text with its line end shows the object
@@ -24,12 +24,12 @@ shows_object octets o text (Ok line) is text_is with_end = (o, is, with_end ∙ 
 shows_object octets o text (Err e) is text_is with_end = tt
 
 -- the line was sent, or the front failed before
-pub sent_whole : {xs : List Event} (ys : List Event) (line : List ℕ) → ReadsInput (Ok line) xs → Sends line (Ok tt) ys → Answers (Ok tt) (xs ++ ys)
+pub sent_whole : {xs : List Event} (ys : List Event) (line : List ℕ) → ReadsInput (Ok line) xs → Sends line (Ok tt) ys → AnswersShow (Ok tt) (xs ++ ys)
 sent_whole {xs} ys line reads sends =
     Sent record { reading = xs; heard = ys; line = line; sent = Ok tt; whole = refl; reads = reads; sends = sends; outcome_is = refl }
 
 -- the front failed before the line was sent whole
-pub sent_part : {xs : List Event} (ys : List Event) (line : List ℕ) (e : Failed) → ReadsInput (Ok line) xs → Sends line (Err e) ys → Answers (Err error.Failed) (xs ++ ys)
+pub sent_part : {xs : List Event} (ys : List Event) (line : List ℕ) (e : Failed) → ReadsInput (Ok line) xs → Sends line (Err e) ys → AnswersShow (Err error.Failed) (xs ++ ys)
 sent_part {xs} ys line e reads sends =
     Sent record { reading = xs; heard = ys; line = line; sent = Err e; whole = refl; reads = reads; sends = sends; outcome_is = refl }
 

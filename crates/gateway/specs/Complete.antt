@@ -9,7 +9,7 @@ use Rattle.gate_words.specs.Task.{IsTask}
 use Rattle.gate_words.specs.declared.task.Task.{Task}
 use Rattle.gate_words.specs.declared.task.Task.TheVariants.{Show}
 use Rattle.gate_serving.specs.declared.door.Door.TheVariants.{Bare}
-use Rattle.gate_serving.specs.Complete.{IsSegmentObeyed, IsTold, IsRunTold}
+use Rattle.gate_serving.specs.Complete.{IsSegmentObeyed, IsClientTold, IsRunTold}
 use Rattle.gate_serving.specs.Run.{account_of}
 use Rattle.gate_serving.specs.Segment.{blamed}
 use Rattle.gateway.specs.Program.{Performed, Unopened, ServedMany, ServedOnce, ShownOne, Explained, Runs, Refused, OutOfMemory, Done}
@@ -40,7 +40,7 @@ abbrev pub IsTaskTold : {task : Task} {secrets : Hidden} {status : ℕ} {blames 
 IsTaskTold (Unopened place a b c d) = Unit {0}
 IsTaskTold (ServedMany place listen most a serves) = IsRunTold serves.run
 IsTaskTold {secrets = secrets} (ServedOnce place a serves) =
-    IsSegmentObeyed serves.segment → blamed serves.segment ≡ no_faults → IsTold Bare (account_of place secrets) serves.serving serves.how serves.after
+    IsSegmentObeyed serves.segment → blamed serves.segment ≡ no_faults → IsClientTold Bare (account_of place secrets) serves.serving serves.how serves.after
 IsTaskTold (ShownOne a b) = Unit {0}
 IsTaskTold (Explained page a b) = Unit {0}
 

@@ -50,15 +50,15 @@ pub record SendsLine (outcome : Result (Unit {0}) FrontError) (events : List Eve
   pub outcome_is : outcome ≡ over_front sent
 
 -- What comes of a message. Where memory runs out or the front fails before the message's end, nothing is sent.
-pub data Answers (outcome : Result (Unit {0}) FrontError) (events : List Event) : Type 0 where
-  Unread : (e : FrontError) → ReadsInput (Err e) events → outcome ≡ Err e → Answers outcome events
-  Sent : SendsLine outcome events → Answers outcome events
+pub data AnswersShow (outcome : Result (Unit {0}) FrontError) (events : List Event) : Type 0 where
+  Unread : (e : FrontError) → ReadsInput (Err e) events → outcome ≡ Err e → AnswersShow outcome events
+  Sent : SendsLine outcome events → AnswersShow outcome events
 
 -- One client that gives a message, or that there is none.
 pub data Shows (outcome : Result (Unit {0}) FrontError) (events : List Event) : Type 0 where
   NoneComes : events ≡ NoMore ∷ [] → outcome ≡ Ok tt → Shows outcome events
   NotAccepted : events ≡ FrontFailed ∷ [] → outcome ≡ Err front.Failed → Shows outcome events
-  Came : (answered : List Event) → events ≡ Accepted ∷ (answered ++ ClientDone ∷ []) → Answers outcome answered → Shows outcome events
+  Came : (answered : List Event) → events ≡ Accepted ∷ (answered ++ ClientDone ∷ []) → AnswersShow outcome answered → Shows outcome events
 
 -- what a client that was accepted adds
 abbrev pub ShowsClient : Result (Unit {0}) FrontError → List Event → Type 0

@@ -2,7 +2,7 @@
 ghost use Rattle.std.specs.Prelude.{◌≡◌, IfOk, IsErrOf};
 ghost use Rattle.gate_world.specs.Causes.{Rose, FrontAlone};
 ghost use Rattle.gate_world.specs.Tape.{Adds};
-ghost use Rattle.gateway.specs.Show.{ShowsObject, ReadsInput, Answers, ShowsClient, Shows};
+ghost use Rattle.gateway.specs.Show.{ShowsObject, ReadsInput, AnswersShow, ShowsClient, Shows};
 
 use email_objects::email_object;
 use gate_serving::{FrontError, receive, with_line_end};
@@ -34,7 +34,7 @@ fn read_message<F: Front>(alloc: Global, front: &mut F) -> Result<Bytes, FrontEr
 
 // Reads a message, and sends the line that shows it.
 fn answer<F: Front>(alloc: Global, front: &mut F) -> Result<(), FrontError>
-    ensures tape { Adds (F.tape front.old) (F.tape front.new) (Answers result) }
+    ensures tape { Adds (F.tape front.old) (F.tape front.new) (AnswersShow result) }
     ensures alone { FrontAlone (F.faults front.old) (F.faults front.new) }
     ensures cause { IsErrOf result FrontError.Failed → Rose (F.faults front.old).front (F.faults front.new).front }
     ensures hidden { F.hidden front.new ≡ F.hidden front.old }

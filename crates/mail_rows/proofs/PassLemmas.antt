@@ -9,7 +9,7 @@ use Rattle.mail_maps.specs.declared.row.EmailRow.{EmailRow}
 use Rattle.mail_maps.specs.Rows.{Rows}
 use Rattle.mail_maps.specs.Visible.{Placed, shown}
 use Rattle.mail_rows.specs.Remaining.{remaining_row, put_remaining, remaining}
-use Rattle.mail_rows.specs.reading.Stays.{PassSoFar, none_passed, gone_of, change_where, is_moved, is_other, update_where, gather_where, gather_one, gather_all}
+use Rattle.mail_rows.specs.reading.Stays.{PassSoFar, none_passed, gone_of, change_where, is_moved, is_another, update_where, gather_where, gather_one, gather_all}
 use Rattle.mail_rows.specs.reading.Stays.{is_hidden, gone_in, changes_where, changes_in, updates_where, updates_in}
 
 append_none : {A : Type 0} (xs : List A) → xs ++ [] ≡ xs
@@ -39,7 +39,7 @@ module _ (hs : List Held) where
   updates_are g (e ∷ es) =
       elim (shown hs e.1.mark) as (λ (o : Option Placed). (gather_all hs (gather_where o g e) es).updates ≡ g.updates ++ (updates_where o e ++ updates_in hs es)) [
         | None ↦ updates_are (gather_where None g e) es
-        | Some p ↦ updates_are (gather_where (Some p) g e) es ∙ append_assoc g.updates (update_where (is_other e.1 p) e.0 p) (updates_in hs es)
+        | Some p ↦ updates_are (gather_where (Some p) g e) es ∙ append_assoc g.updates (update_where (is_another e.1 p) e.0 p) (updates_in hs es)
       ]
 
   -- ---- the rows, in order

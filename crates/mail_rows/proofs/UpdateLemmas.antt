@@ -21,7 +21,7 @@ use Rattle.mail_maps.specs.Visible.{Placed, shown}
 use Rattle.mail_rows.specs.Remaining.{updated, remaining}
 use Rattle.mail_rows.specs.declared.remaining.Gone.{Gone}
 use Rattle.mail_rows.specs.declared.remaining.Update.{Update}
-use Rattle.mail_rows.specs.reading.Stays.{is_moved, is_other, update_of, update_where, updates_where, updates_in, gone_of, is_hidden, gone_in, row_left, with_update, row_if}
+use Rattle.mail_rows.specs.reading.Stays.{is_moved, is_another, update_of, update_where, updates_where, updates_in, gone_of, is_hidden, gone_in, row_left, with_update, row_if}
 use Rattle.mail_rows.specs.reading.Stays.{row_updated}
 use Rattle.mail_rows.proofs.RowLemmas.{is_here, less_is_below, below_is_less, found_is, none_above}
 use Rattle.mail_rows.proofs.LoopLemmas.{next_left}
@@ -88,7 +88,7 @@ it_is : (b : Bool) → not b ≡ false → b ≡ true
 it_is true e = refl
 it_is false e = absurd (let f : true ≡ false = e in cc)
 
-same_row : (row : EmailRow) (p : Placed) → is_other row p ≡ false → row ≡ updated row p
+same_row : (row : EmailRow) (p : Placed) → is_another row p ≡ false → row ≡ updated row p
 same_row row p e =
     let ks : List (List ℕ) = keywords_of p.message.flags in
     let m = neither (is_moved row p) (not (nat_eq row.uid p.message.uid)) e in
@@ -142,7 +142,7 @@ module _ (hs : List Held) (q : ℕ) where
       by false other f later =
           elim (shown hs e.1.mark) as (λ (w : Option Placed). row_updated (updates_where w e ++ updates_in hs es) q o ≡ o) [
             | None ↦ later f
-            | Some p ↦ one p (is_other e.1 p) (sym (turned_test e.0 q) ∙ other) (later f)
+            | Some p ↦ one p (is_another e.1 p) (sym (turned_test e.0 q) ∙ other) (later f)
           ]
 
   -- what becomes of the row of the number
@@ -154,7 +154,7 @@ module _ (hs : List Held) (q : ℕ) where
       none same = ap (row_at es) same ∙ none_above e.0 es (sorted_head nat_cmp e.0 (keys_of es) sorted)
 
       -- its own row, which stays
-      kept : (p : Placed) (t : Bool) → nat_eq e.0 q ≡ true → row_at es q ≡ None → is_other e.1 p ≡ t
+      kept : (p : Placed) (t : Bool) → nat_eq e.0 q ≡ true → row_at es q ≡ None → is_another e.1 p ≡ t
           → row_updated (update_where t e.0 p ++ updates_in hs es) q (Some e.1) ≡ Some (updated e.1 p)
       kept p true here lone is =
           ap (λ (b : Bool). row_updated (updates_in hs es) q (cond b (Some (updated e.1 p)) (Some e.1))) here ∙ updated_alone es (Some (updated e.1 p)) lone
@@ -176,13 +176,13 @@ module _ (hs : List Held) (q : ℕ) where
           ∙ ap (row_updated (updates_in hs es) q) (none_left (gone_in hs es) q) ∙ none_updated (updates_in hs es) q
           ∙ sym (ap (option_map (updated e.1)) is)
       by true here (Some p) is rest =
-          ap (row_updated (update_where (is_other e.1 p) e.0 p ++ updates_in hs es) q) (left_alone es (Some e.1) (none (found_is q e.0 here)))
-          ∙ kept p (is_other e.1 p) (sym (turned_test e.0 q) ∙ here) (none (found_is q e.0 here)) refl
+          ap (row_updated (update_where (is_another e.1 p) e.0 p ++ updates_in hs es) q) (left_alone es (Some e.1) (none (found_is q e.0 here)))
+          ∙ kept p (is_another e.1 p) (sym (turned_test e.0 q) ∙ here) (none (found_is q e.0 here)) refl
           ∙ sym (ap (option_map (updated e.1)) is)
       by false other None is rest =
           ap (λ (t : Bool). row_updated (updates_in hs es) q (row_left (gone_in hs es) q (cond t None (row_at es q)))) (sym (turned_test e.0 q) ∙ other) ∙ rest
       by false other (Some p) is rest =
-          passed p (is_other e.1 p) (row_left (gone_in hs es) q (row_at es q)) (sym (turned_test e.0 q) ∙ other) ∙ rest
+          passed p (is_another e.1 p) (row_left (gone_in hs es) q (row_at es q)) (sym (turned_test e.0 q) ∙ other) ∙ rest
 
 -- ---- rows in order are known by their numbers
 

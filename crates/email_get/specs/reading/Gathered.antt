@@ -8,16 +8,16 @@ use Rattle.mail_maps.specs.Rows.{Rows}
 use Rattle.email_get.specs.EmailParse.{ShownBlob, ShowsBlob, parsed_members, missing_ids}
 use Rattle.email_get.specs.Showing.{ShowsAll}
 
-pub record Gathered : Type 0 where
+pub record GatheredBlobs : Type 0 where
   pub parsed : Members
   pub missing : List Data
 
 -- it is that of blobs that are shown
-pub record Gathers (shown : List ShownBlob) (g : Gathered) : Type 0 where
+pub record GathersBlobs (shown : List ShownBlob) (g : GatheredBlobs) : Type 0 where
   pub parsed : g.parsed ≡ parsed_members shown no_members
   pub missing : g.missing ≡ map string (missing_ids shown)
 
 -- what is gathered of the blobs with these ids
-abbrev pub GathersThese : Rows → List (List ℕ) → EmailAsked → List (List ℕ) → List BodyAsk → Result Gathered MethodError → Type 0
-GathersThese emails uploads wanted ids asks (Ok g) = (shown : List ShownBlob) × ShowsAll (ShowsBlob emails uploads wanted) ids asks (Ok shown) × Gathers shown g
+abbrev pub GathersThese : Rows → List (List ℕ) → EmailAsked → List (List ℕ) → List BodyAsk → Result GatheredBlobs MethodError → Type 0
+GathersThese emails uploads wanted ids asks (Ok g) = (shown : List ShownBlob) × ShowsAll (ShowsBlob emails uploads wanted) ids asks (Ok shown) × GathersBlobs shown g
 GathersThese emails uploads wanted ids asks (Err e) = ShowsAll (ShowsBlob emails uploads wanted) ids asks (Err e)

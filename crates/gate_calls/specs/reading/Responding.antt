@@ -17,7 +17,8 @@ IsResponseTo (Ok value) call response = response ≡ answered_call call (Ok (vie
 IsResponseTo (Err e) call response = (e ≢ Memory) × (response ≡ answered_call call (Err e))
 
 -- the response to a call after these, by what it comes to, and the bodies that it asks
-pub record RespondsTo (uses : Using) (over : MailAndUploads) (earlier : List CallData) (call : CallData) (asks : List BodyAsk) (response : CallData) : Type 0 where
+pub record RespondsTo (uses : Using) (over : MailAndUploads) (earlier : List CallData) (call : CallData) (asks : List BodyAsk) (response : CallData)
+    : Type 0 where
   pub result : Result Data MethodError
   pub answers : AnswersCall uses over earlier call asks result
   pub response_is : response ≡ answered_call call result

@@ -37,9 +37,9 @@ AsksInBody body (Ok asking) = asking_data asking ≡ asked_by (requested body)
 AsksInBody body (Err e) = e ≡ Memory
 
 -- what is asked by a body that is no request
-abbrev pub AsksInVain : RequestError → Result Asked AskError → Type 0
-AsksInVain error.Memory result = result ≡ Err Memory
-AsksInVain e result = result ≡ Ok (asked.Problem e)
+abbrev pub IsNoRequest : RequestError → Result Asked AskError → Type 0
+IsNoRequest error.Memory result = result ≡ Err Memory
+IsNoRequest e result = result ≡ Ok (asked.Problem e)
 
 -- what is asked over HTTP, or memory ran out
 abbrev pub AsksOf : HttpAsking → Result Asked AskError → Type 0

@@ -40,8 +40,8 @@ abbrev pub is_moved : EmailRow → Placed → Bool
 is_moved row p = is_changed_to row p.folder (keywords_of p.message.flags)
 
 -- whether the row itself does, its UID with it
-abbrev pub is_other : EmailRow → Placed → Bool
-is_other row p = is_moved row p || not (row.uid == p.message.uid)
+abbrev pub is_another : EmailRow → Placed → Bool
+is_another row p = is_moved row p || not (row.uid == p.message.uid)
 
 -- what the row takes from the message
 abbrev pub update_of : ℕ → Placed → Update
@@ -81,7 +81,7 @@ abbrev pub gather_where : Option Placed → PassSoFar → ℕ × EmailRow → Pa
 gather_where None g e = record g { gone = g.gone ++ gone_of e ∷ [] }
 gather_where (Some p) g e = record g {
   changed = g.changed ++ change_where (is_moved e.1 p) e.0;
-  updates = g.updates ++ update_where (is_other e.1 p) e.0 p;
+  updates = g.updates ++ update_where (is_another e.1 p) e.0 p;
 }
 
 abbrev pub gather_one : List Held → PassSoFar → ℕ × EmailRow → PassSoFar
@@ -110,7 +110,7 @@ changes_in hs (e ∷ es) = changes_where (shown hs e.1.mark) e ++ changes_in hs 
 
 abbrev pub updates_where : Option Placed → ℕ × EmailRow → List Update
 updates_where None e = []
-updates_where (Some p) e = update_where (is_other e.1 p) e.0 p
+updates_where (Some p) e = update_where (is_another e.1 p) e.0 p
 
 abbrev pub updates_in : List Held → Rows → List Update
 updates_in hs [] = []

@@ -12,7 +12,8 @@ pub returns-in_err-upload_octets-in-Upload : goal.returns-in_err-upload_octets-i
 returns-in_err-upload_octets-in-Upload g c =
     lacks_memory g.B.BodySource.answers g.B.BodySource.lacks Memory (λ (o : Option (List ℕ)). o) (c.args.bodies.now, c.args.world.now) (c.args.bodies.now, c.args.world.now)
     c.from_residual.result (FindsRoot c.args.state.now.rows.numbered.rows c.args.blobs.now (root_view c.args.root)) c.from_residual.ensures.1
-    (vain_at_once g.B.BodySource.answers g.B.BodySource.lacks (FailsAfter (FindsRoot c.args.state.now.rows.numbered.rows c.args.blobs.now (root_view c.args.root))) (c.args.bodies.now, c.args.world.now))
+    (vain_at_once g.B.BodySource.answers g.B.BodySource.lacks (FailsAfter (FindsRoot c.args.state.now.rows.numbered.rows c.args.blobs.now (root_view c.args.root)))
+    (c.args.bodies.now, c.args.world.now))
 
 pub returns-in_ok-upload_octets-in-Upload : goal.returns-in_ok-upload_octets-in-Upload
 returns-in_ok-upload_octets-in-Upload g c =

@@ -19,7 +19,8 @@ pub returns-in_err-list-clause-shows : goal.returns-in_err-list-clause-shows
 returns-in_err-list-clause-shows g c =
     lacks_memory g.B.BodySource.answers g.B.BodySource.lacks Memory (λ v. map view v.items) (c.args.bodies.now, c.args.world.now) (c.args.bodies.now, c.args.world.now)
     c.from_residual.result (ShowsAll (ShowsEmail c.args.state.now.rows.numbered.rows (email_asked c.args.wanted.now)) c.args.numbers.now) c.from_residual.ensures.1
-    (vain_at_once g.B.BodySource.answers g.B.BodySource.lacks (FailsAfter (ShowsAll (ShowsEmail c.args.state.now.rows.numbered.rows (email_asked c.args.wanted.now)) c.args.numbers.now))
+    (vain_at_once g.B.BodySource.answers g.B.BodySource.lacks (FailsAfter (ShowsAll
+    (ShowsEmail c.args.state.now.rows.numbered.rows (email_asked c.args.wanted.now)) c.args.numbers.now))
     (c.args.bodies.now, c.args.world.now))
 
 pub loop-number-init : goal.loop-number-init

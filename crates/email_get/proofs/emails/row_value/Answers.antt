@@ -24,7 +24,8 @@ returns-in_err-email_value-clause-shows g c =
     let asked = email_asked c.args.wanted.now in
     lacks_memory g.B.BodySource.answers g.B.BodySource.lacks Memory view (c.args.bodies.now, c.args.world.now) (c.body_for.new.bodies, c.body_for.new.world)
     c.from_residual-in_err-email_value.result (ShowsRow asked c.args.row.now) c.from_residual-in_err-email_value.ensures.1
-    (vain_after g.B.BodySource.answers g.B.BodySource.lacks (FailsAfter (ShowsRow asked c.args.row.now)) (λ (asks : List BodyAsk). AsksBody asked c.args.row.now asks (Ok c.in_ok-body.body))
+    (vain_after g.B.BodySource.answers g.B.BodySource.lacks (FailsAfter (ShowsRow asked c.args.row.now))
+    (λ (asks : List BodyAsk). AsksBody asked c.args.row.now asks (Ok c.in_ok-body.body))
     (c.args.bodies.now, c.args.world.now) (c.body_for.new.bodies, c.body_for.new.world) (λ asks m. due_body asked c.args.row.now m) c.in_ok-body.ensures.asks)
 
 pub returns-clause-shows : goal.returns-clause-shows

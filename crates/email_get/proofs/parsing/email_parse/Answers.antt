@@ -10,7 +10,7 @@ use Rattle.mail_state.specs.State.{ServedState, IsStateOf}
 use Rattle.email_bodies.proofs.Joins.{vain_at_once}
 use Rattle.email_get.specs.Asked.{FailsAfter}
 use Rattle.email_get.specs.EmailParse.{ParseAsked, parse_asked, RepliesEmailParse}
-use Rattle.email_get.specs.reading.Gathered.{Gathered, GathersThese}
+use Rattle.email_get.specs.reading.Gathered.{GatheredBlobs, GathersThese}
 use Rattle.email_get.proofs.AskLemmas.{lacks_memory, same_error, vain_after, given_after, refused_after, refused_unasked}
 use Rattle.email_get.proofs.ParseLemmas.{parsing_refused, parsing_fails, parsing_due, parsing_shown}
 use Rattle.email_get.proofs.parsing.email_parse.Goals as goal
@@ -36,7 +36,8 @@ pub returns-in_err-once-clause-exact : goal.returns-in_err-once-clause-exact
 returns-in_err-once-clause-exact g c =
     lacks_memory g.B.BodySource.answers g.B.BodySource.lacks Memory view (c.args.bodies.now, c.args.world.now) (c.args.bodies.now, c.args.world.now)
     c.from_residual-in_err-once.result (Meant c.args.state.now c.args.blobs.now (view c.args.arguments.now)) c.from_residual-in_err-once.ensures.1
-    (vain_at_once g.B.BodySource.answers g.B.BodySource.lacks (FailsAfter (Meant c.args.state.now c.args.blobs.now (view c.args.arguments.now))) (c.args.bodies.now, c.args.world.now))
+    (vain_at_once g.B.BodySource.answers g.B.BodySource.lacks (FailsAfter (Meant c.args.state.now c.args.blobs.now (view c.args.arguments.now)))
+    (c.args.bodies.now, c.args.world.now))
 
 pub returns-in_err-shown-clause-exact : goal.returns-in_err-shown-clause-exact
 returns-in_err-shown-clause-exact g c =
@@ -60,10 +61,11 @@ returns-in_err-answer_of-clause-exact g c =
     let a : ParseAsked = record { ids = nows asked.ids.items; wanted = email_asked asked.wanted } in
     let once = nows c.in_ok-once.once.items in
     let shown = c.in_ok-shown.shown in
-    let gathered : Gathered = record { parsed = members_view shown.parsed.entries; missing = map view shown.missing.items } in
+    let gathered : GatheredBlobs = record { parsed = members_view shown.parsed.entries; missing = map view shown.missing.items } in
     lacks_memory g.B.BodySource.answers g.B.BodySource.lacks Memory view (c.args.bodies.now, c.args.world.now) (c.show_blobs.new.bodies, c.show_blobs.new.world)
     c.from_residual-in_err-answer_of.result (Meant s c.args.blobs.now (view c.args.arguments.now)) c.from_residual-in_err-answer_of.ensures.1
-    (vain_after g.B.BodySource.answers g.B.BodySource.lacks (FailsAfter (Meant s c.args.blobs.now d)) (λ (asks : List BodyAsk). GathersThese s.rows.numbered.rows c.args.blobs.now a.wanted once asks (Ok gathered))
+    (vain_after g.B.BodySource.answers g.B.BodySource.lacks (FailsAfter (Meant s c.args.blobs.now d))
+    (λ (asks : List BodyAsk). GathersThese s.rows.numbered.rows c.args.blobs.now a.wanted once asks (Ok gathered))
     (c.args.bodies.now, c.args.world.now) (c.show_blobs.new.bodies, c.show_blobs.new.world)
     (λ asks m. parsing_due s c.args.blobs.now d a once asks c.in_ok-ids.ensures c.in_ok-once.ensures (Ok m.0) m.1) c.in_ok-shown.ensures.shows)
 
@@ -75,7 +77,7 @@ returns-clause-exact g c =
     let a : ParseAsked = record { ids = nows asked.ids.items; wanted = email_asked asked.wanted } in
     let once = nows c.in_ok-once.once.items in
     let shown = c.in_ok-shown.shown in
-    let gathered : Gathered = record { parsed = members_view shown.parsed.entries; missing = map view shown.missing.items } in
+    let gathered : GatheredBlobs = record { parsed = members_view shown.parsed.entries; missing = map view shown.missing.items } in
     let value = c.in_ok-answer_of.field-0 in
     given_after g.B.BodySource.answers g.B.BodySource.lacks Memory view (c.args.bodies.now, c.args.world.now) (c.show_blobs.new.bodies, c.show_blobs.new.world) value
     (Meant s c.args.blobs.now d) (λ (asks : List BodyAsk). GathersThese s.rows.numbered.rows c.args.blobs.now a.wanted once asks (Ok gathered))

@@ -6,7 +6,7 @@ use Rattle.email_properties.specs.Wanted.{email_asked}
 use Rattle.jmap_methods.specs.declared.method_error.MethodError.TheVariants.{Memory}
 use Rattle.email_get.specs.EmailParse.{ShownBlob, ShowsBlob}
 use Rattle.email_get.specs.declared.parsing.Shown.{Shown}
-use Rattle.email_get.specs.reading.Gathered.{Gathered, GathersThese}
+use Rattle.email_get.specs.reading.Gathered.{GatheredBlobs, GathersThese}
 use Rattle.email_get.specs.Showing.{ShowsAll}
 use Rattle.email_get.proofs.AskLemmas.{lacks_memory, same_error, given_after}
 use Rattle.email_get.proofs.Due.{due_shown_blob}
@@ -14,7 +14,7 @@ use Rattle.email_get.proofs.LoopLemmas.{begins, continues, stops, lacks_after, f
 use Rattle.email_get.proofs.ParseLemmas.{none_gathered, members_whole, gathers_on, put_found_whole, missing_whole}
 use Rattle.email_get.proofs.parsing.show_blobs.Goals as goal
 
-abbrev gathered : Shown → Gathered
+abbrev gathered : Shown → GatheredBlobs
 gathered s = record { parsed = members_view s.parsed.entries; missing = map view s.missing.items }
 
 -- texts, as they are

@@ -15,5 +15,6 @@ returns-clause-whole c =
     let told = c.in_ok-members.ensures in
     let m = message_data c.args.message.now in
     ap has_float (view-Object c.put_body.new.members)
-    ∙ object_whole (message_facts (option_copied c.args.blob_id) m told.fields) (without_body c.as_slice.result.now) (Some m) (email_asked c.args.wanted.now) (members_view c.in_ok-members.members.entries)
+    ∙ object_whole (message_facts (option_copied c.args.blob_id) m told.fields) (without_body c.as_slice.result.now) (Some m) (email_asked c.args.wanted.now)
+    (members_view c.in_ok-members.members.entries)
     (members_view c.put_body.new.members.entries) told.are_told c.in_ok-put_body.ensures

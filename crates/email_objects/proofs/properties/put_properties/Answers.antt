@@ -6,13 +6,13 @@ use Rattle.body_parts.specs.Steps.{InTurn}
 use Rattle.body_parts.specs.reading.StepsIf.{StepIf}
 use Rattle.body_parts.proofs.StepLemmas.{turn_more, turn_filter}
 use Rattle.email_objects.specs.EmailObjects.{needs_no_body}
-use Rattle.email_objects.specs.Properties.{PutsProperty}
+use Rattle.email_objects.specs.Properties.{PutsEmailProperty}
 use Rattle.email_objects.specs.reading.Views.{facts_data}
 use Rattle.email_objects.proofs.properties.put_properties.Goals as goal
 
 pub loop-property-preserved : goal.loop-property-preserved
 loop-property-preserved c =
-    let Step : EmailProperty → Members → Members → Type 0 = StepIf needs_no_body (PutsProperty (facts_data c.args.facts.now)) in
+    let Step : EmailProperty → Members → Members → Type 0 = StepIf needs_no_body (PutsEmailProperty (facts_data c.args.facts.now)) in
     let before = members_view c.loop-property.members.entries in
     let after = members_view c.put_property.new.members.entries in
     turn_more Step c.args.properties.now c.loop-property.property-index c.property-item.result (members_view c.args.members.now.entries) before after
@@ -20,9 +20,10 @@ loop-property-preserved c =
 
 pub returns : goal.returns
 returns c =
-    let Puts : EmailProperty → Members → Members → Type 0 = PutsProperty (facts_data c.args.facts.now) in
+    let Puts : EmailProperty → Members → Members → Type 0 = PutsEmailProperty (facts_data c.args.facts.now) in
     let before = members_view c.args.members.now.entries in
     let after = members_view c.loop-property.members.entries in
     turn_filter Puts needs_no_body c.args.properties.now before after
-    (subst (λ (ps : List EmailProperty). InTurn (StepIf needs_no_body Puts) ps before after) (take_all c.loop-property.property-index c.args.properties.now c.loop-property-test.false)
+    (subst (λ (ps : List EmailProperty). InTurn (StepIf needs_no_body Puts) ps before after)
+    (take_all c.loop-property.property-index c.args.properties.now c.loop-property-test.false)
     c.loop-property.invariant)

@@ -13,7 +13,8 @@ pub returns-in-CoreEcho-clause-meant : goal.returns-in-CoreEcho-clause-meant
 returns-in-CoreEcho-clause-meant g c =
     let A = g.B.BodySource.answers in
     let L = g.B.BodySource.lacks in
-    replies_by A L (λ (h : MailHistory). IsStateOf h c.args.state.now) CoreEcho c.args.method (λ (h : MailHistory). record { mail = Ok h; uploads = c.args.uploads.now }) (view c.args.arguments)
+    replies_by A L (λ (h : MailHistory). IsStateOf h c.args.state.now) CoreEcho c.args.method (λ (h : MailHistory). record { mail = Ok h; uploads = c.args.uploads.now })
+    (view c.args.arguments)
     _ _ c.echo.result c.in-CoreEcho.is
     (at_once A L {J = λ h. IsStateOf h c.args.state.now} (λ (h : MailHistory) r. r ≡ echoed (view c.args.arguments)) (c.args.bodies.now, c.args.world.now) c.echo.result
     (λ h stands. just_meets (echoed (view c.args.arguments)) c.echo.result c.echo.ensures))
@@ -22,45 +23,55 @@ pub returns-in-MailboxGet-clause-meant : goal.returns-in-MailboxGet-clause-meant
 returns-in-MailboxGet-clause-meant g c =
     let A = g.B.BodySource.answers in
     let L = g.B.BodySource.lacks in
-    replies_by A L (λ (h : MailHistory). IsStateOf h c.args.state.now) MailboxGet c.args.method (λ (h : MailHistory). record { mail = Ok h; uploads = c.args.uploads.now }) (view c.args.arguments)
+    replies_by A L (λ (h : MailHistory). IsStateOf h c.args.state.now) MailboxGet c.args.method (λ (h : MailHistory). record { mail = Ok h; uploads = c.args.uploads.now })
+    (view c.args.arguments)
     _ _ c.mailbox_get.result c.in-MailboxGet.is
-    (at_once A L {J = λ h. IsStateOf h c.args.state.now} (λ (h : MailHistory) r. r ≡ mailbox_get_reply h (view c.args.arguments)) (c.args.bodies.now, c.args.world.now) c.mailbox_get.result
+    (at_once A L {J = λ h. IsStateOf h c.args.state.now} (λ (h : MailHistory) r. r ≡ mailbox_get_reply h (view c.args.arguments))
+    (c.args.bodies.now, c.args.world.now) c.mailbox_get.result
     (λ h stands. agrees_meets (mailbox_get_reply h (view c.args.arguments)) c.mailbox_get.result (c.mailbox_get.ensures.exact h stands)))
 
 pub returns-in-MailboxChanges-clause-meant : goal.returns-in-MailboxChanges-clause-meant
 returns-in-MailboxChanges-clause-meant g c =
     let A = g.B.BodySource.answers in
     let L = g.B.BodySource.lacks in
-    replies_by A L (λ (h : MailHistory). IsStateOf h c.args.state.now) MailboxChanges c.args.method (λ (h : MailHistory). record { mail = Ok h; uploads = c.args.uploads.now }) (view c.args.arguments)
+    replies_by A L (λ (h : MailHistory). IsStateOf h c.args.state.now) MailboxChanges c.args.method (λ (h : MailHistory). record { mail = Ok h; uploads = c.args.uploads.now })
+    (view c.args.arguments)
     _ _ c.mailbox_changes.result c.in-MailboxChanges.is
-    (at_once A L {J = λ h. IsStateOf h c.args.state.now} (λ (h : MailHistory) r. RepliesMailboxChanges h (view c.args.arguments) r) (c.args.bodies.now, c.args.world.now) c.mailbox_changes.result
+    (at_once A L {J = λ h. IsStateOf h c.args.state.now} (λ (h : MailHistory) r. RepliesMailboxChanges h (view c.args.arguments) r)
+    (c.args.bodies.now, c.args.world.now) c.mailbox_changes.result
     (λ h stands. c.mailbox_changes.ensures.exact h stands))
 
 pub returns-in-ThreadGet-clause-meant : goal.returns-in-ThreadGet-clause-meant
 returns-in-ThreadGet-clause-meant g c =
     let A = g.B.BodySource.answers in
     let L = g.B.BodySource.lacks in
-    replies_by A L (λ (h : MailHistory). IsStateOf h c.args.state.now) ThreadGet c.args.method (λ (h : MailHistory). record { mail = Ok h; uploads = c.args.uploads.now }) (view c.args.arguments)
+    replies_by A L (λ (h : MailHistory). IsStateOf h c.args.state.now) ThreadGet c.args.method (λ (h : MailHistory). record { mail = Ok h; uploads = c.args.uploads.now })
+    (view c.args.arguments)
     _ _ c.thread_get.result c.in-ThreadGet.is
-    (at_once A L {J = λ h. IsStateOf h c.args.state.now} (λ (h : MailHistory) r. r ≡ thread_get_reply h (view c.args.arguments)) (c.args.bodies.now, c.args.world.now) c.thread_get.result
+    (at_once A L {J = λ h. IsStateOf h c.args.state.now} (λ (h : MailHistory) r. r ≡ thread_get_reply h (view c.args.arguments))
+    (c.args.bodies.now, c.args.world.now) c.thread_get.result
     (λ h stands. agrees_meets (thread_get_reply h (view c.args.arguments)) c.thread_get.result (c.thread_get.ensures.exact h stands)))
 
 pub returns-in-ThreadChanges-clause-meant : goal.returns-in-ThreadChanges-clause-meant
 returns-in-ThreadChanges-clause-meant g c =
     let A = g.B.BodySource.answers in
     let L = g.B.BodySource.lacks in
-    replies_by A L (λ (h : MailHistory). IsStateOf h c.args.state.now) ThreadChanges c.args.method (λ (h : MailHistory). record { mail = Ok h; uploads = c.args.uploads.now }) (view c.args.arguments)
+    replies_by A L (λ (h : MailHistory). IsStateOf h c.args.state.now) ThreadChanges c.args.method (λ (h : MailHistory). record { mail = Ok h; uploads = c.args.uploads.now })
+    (view c.args.arguments)
     _ _ c.thread_changes.result c.in-ThreadChanges.is
-    (at_once A L {J = λ h. IsStateOf h c.args.state.now} (λ (h : MailHistory) r. RepliesThreadChanges h (view c.args.arguments) r) (c.args.bodies.now, c.args.world.now) c.thread_changes.result
+    (at_once A L {J = λ h. IsStateOf h c.args.state.now} (λ (h : MailHistory) r. RepliesThreadChanges h (view c.args.arguments) r)
+    (c.args.bodies.now, c.args.world.now) c.thread_changes.result
     (λ h stands. c.thread_changes.ensures.exact h stands))
 
 pub returns-in-EmailChanges-clause-meant : goal.returns-in-EmailChanges-clause-meant
 returns-in-EmailChanges-clause-meant g c =
     let A = g.B.BodySource.answers in
     let L = g.B.BodySource.lacks in
-    replies_by A L (λ (h : MailHistory). IsStateOf h c.args.state.now) EmailChanges c.args.method (λ (h : MailHistory). record { mail = Ok h; uploads = c.args.uploads.now }) (view c.args.arguments)
+    replies_by A L (λ (h : MailHistory). IsStateOf h c.args.state.now) EmailChanges c.args.method (λ (h : MailHistory). record { mail = Ok h; uploads = c.args.uploads.now })
+    (view c.args.arguments)
     _ _ c.email_changes.result c.in-EmailChanges.is
-    (at_once A L {J = λ h. IsStateOf h c.args.state.now} (λ (h : MailHistory) r. RepliesEmailChanges h (view c.args.arguments) r) (c.args.bodies.now, c.args.world.now) c.email_changes.result
+    (at_once A L {J = λ h. IsStateOf h c.args.state.now} (λ (h : MailHistory) r. RepliesEmailChanges h (view c.args.arguments) r)
+    (c.args.bodies.now, c.args.world.now) c.email_changes.result
     (λ h stands. c.email_changes.ensures.exact h stands))
 
 pub returns-in-EmailGet-clause-meant : goal.returns-in-EmailGet-clause-meant

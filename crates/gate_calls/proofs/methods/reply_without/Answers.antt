@@ -25,7 +25,8 @@ returns-in-MailboxGet-clause-meant c = λ uploads.
 
 pub returns-in-MailboxChanges-clause-meant : goal.returns-in-MailboxChanges-clause-meant
 returns-in-MailboxChanges-clause-meant c = λ uploads.
-    without MailboxChanges c.args.method (record { mail = Err c.args.error; uploads = uploads }) (view c.args.arguments) c.refusal_or-in-MailboxChanges.result c.in-MailboxChanges.is
+    without MailboxChanges c.args.method (record { mail = Err c.args.error; uploads = uploads })
+    (view c.args.arguments) c.refusal_or-in-MailboxChanges.result c.in-MailboxChanges.is
     (once (λ r. r ≡ unless_refused (changes_refused (view c.args.arguments)) c.args.error) c.refusal_or-in-MailboxChanges.result
     (c.refusal_or-in-MailboxChanges.ensures.meant (changes_refused (view c.args.arguments)) (is_refusal _ _ c.check_changes.ensures)))
 

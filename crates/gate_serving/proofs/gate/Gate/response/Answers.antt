@@ -40,6 +40,7 @@ pub returns-in-Calls-clause-made : goal.returns-in-Calls-clause-made
 returns-in-Calls-clause-made g c =
     asked_calls c.calls_without.result (λ r made h. let so = made h in (
       so.0,
-      subst (λ (a : Asking). IsResponse c.args.self.now.door (account_by c.args.self.now h) (record { mail = Err ServerUnavailable; uploads = c.args.self.now.uploads }) a so.0 (text_sent r))
+      subst (λ (a : Asking). IsResponse c.args.self.now.door (account_by c.args.self.now h) (record { mail = Err ServerUnavailable; uploads = c.args.self.now.uploads }) a so.0
+          (text_sent r))
           (sym (ap asking_data c.in-Calls.is)) so.1,
     )) c.calls_without.ensures.made
