@@ -12,7 +12,7 @@ abbrev pub begins_character : List ℕ → Bool
 begins_character [] = true
 begins_character (c ∷ t) = not (is_continuation c)
 
--- the place between these two texts is before or behind a whole text, or between two characters of it
+-- the place between these two texts is before or after a whole text, or between two characters of it
 abbrev pub is_between_characters : List ℕ → List ℕ → Bool
 is_between_characters [] rest = true
 is_between_characters (c ∷ front) rest = begins_character rest

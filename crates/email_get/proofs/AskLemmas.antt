@@ -88,7 +88,7 @@ module _ {S : Type 0} (Answers : S → MessagePlace → Option (List ℕ) → S 
 
     -- ---- errors that are passed on
 
-    -- for want of memory
+    -- out of memory
     pub lacks_memory : (before after : S) (r : Result X E) (IsMeant : List BodyAsk → Result Y E → Type 0) → IsErrAnd r (λ e. e ≡ memory)
         → AsksInVain Answers Lacks (FailsAfter IsMeant) before after → AsksAndMeets Answers Lacks before after memory see r IsMeant
     lacks_memory before after (Ok x) IsMeant is vain = absurd is

@@ -48,7 +48,7 @@ module _ {A D E : Type 0} (Shows : A → List BodyAsk → Result D E → Type 0)
 
   -- ---- one answer
 
-  -- what is asked for a thing, and what comes of it, are one, whatever is asked behind
+  -- what is asked for a thing, and what comes of it, are one, whatever is asked later
   abbrev pub IsOne : A → Type 0
   IsOne x = (asks more also later : List BodyAsk) (r s : Result D E) → Shows x asks r → Shows x also s → asks ++ more ≡ also ++ later → (asks ≡ also) × (r ≡ s)
 

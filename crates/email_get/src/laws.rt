@@ -1,4 +1,4 @@
-//! Laws of answers, as clauses of functions that do nothing: what was asked and how it was answered, whatever is asked behind, tells how much
+//! Laws of answers, as clauses of functions that do nothing: what was asked and how it was answered, whatever is asked later, tells how much
 //! of it was asked for a call, and what the call answers.
 ghost use Rattle.std.specs.Prelude.{◌≡◌, ◌++◌, ℕ, List, Result};
 ghost use Rattle.serde_json.specs.Data.{Data};

@@ -27,7 +27,7 @@ pub record IsHeaderProperty (h : HeaderAsked) (key : List ℕ) : Type 0 where
   pub asks_form : AsksForm h.form suffix
   pub takes_form : is_permitted h.name h.form ≡ true
 
--- ---- the same as a function: what stands behind the longest name decides
+-- ---- the same as a function: what stands after the longest name decides
 
 -- the form that is asked, and whether all fields of the name are
 abbrev pub Asked : Type 0
@@ -39,7 +39,7 @@ ending suffix form all = (suffix ++ all_suffix all, form, all)
 abbrev pub suffixed : HeaderForm → Bool → List ℕ × HeaderForm × Bool
 suffixed form all = ending (form_suffix form) form all
 
--- what may stand behind the name, and what it asks
+-- what may stand after the name, and what it asks
 abbrev pub endings : List (List ℕ × HeaderForm × Bool)
 endings =
     ending [] Raw false ∷ suffixed Raw false ∷ suffixed Text false ∷ suffixed Addresses false
@@ -58,7 +58,7 @@ header_asked key name (Some asked) =
     else if is_permitted name asked.0 then Some (record { key = key; name = name; form = asked.0; all = asked.1 })
     else None
 
--- where the field stands behind `header:`
+-- where the field stands after `header:`
 abbrev pub header_of : List ℕ → List ℕ → Option HeaderAsked
 header_of key field = header_asked key (front is_name_octet field) (asked_among endings (back is_name_octet field))
 

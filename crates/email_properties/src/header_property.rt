@@ -70,7 +70,7 @@ impl Class<u8> for NameOctet {
     }
 }
 
-/// What may stand behind the name, the form that it asks, and whether it asks all fields of the name.
+/// What may stand after the name, the form that it asks, and whether it asks all fields of the name.
 const ENDINGS: [(&[u8], HeaderForm, bool); 16] = [
     (b"", HeaderForm::Raw, false),
     (b":asRaw", HeaderForm::Raw, false),
@@ -130,7 +130,7 @@ fn header_asked<'a>(
     }
 }
 
-/// The property, where the field and what is asked of it stand behind `header:`.
+/// The property, where the field and what is asked of it stand after `header:`.
 fn header_of<'a>(key: &'a str, field: &'a [u8]) -> Option<HeaderProperty<'a>>
     ensures { result ≡ spec.header_of key.now field.now }
 {

@@ -42,7 +42,7 @@ module _ {S : Type 0} (Answers : S → MessagePlace → Option (List ℕ) → S 
   made_found emails uploads id before after door media found (Err e) gives text_is =
       vain_after Answers Lacks (FailsAfter (FindsBlob emails uploads id)) before after gives.asks gives.asked (due_blob emails uploads id gives.asks found gives.meant)
 
-  -- a body that didn't come isn't want of memory
+  -- a body that didn't come isn't out of memory
   pub ended : {V : Type 0} {P : List BodyAsk → Type 0} (before after : S) → ((body.Ended ≡ body.Memory) × V) ⊎ AsksAnd Answers Lacks before after P
       → AsksAnd Answers Lacks before after P
   ended before after (inl never) = absurd (let same : body.Ended ≡ body.Memory = never.0 in cc)

@@ -303,7 +303,7 @@ const ARGUMENTS: [(Defaults, &str, &str); 64] = [
     ),
 ];
 
-/// The keys of properties, each with a space behind it.
+/// The keys of properties, each with a space after it.
 fn push_keys(rt: &impl Abort, text: &mut String, wanted: &EmailWanted<'_>) {
     for property in &wanted.properties {
         write!(text, "{} ", email_key(property)).expect(rt, "out of memory");
