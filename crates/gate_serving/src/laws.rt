@@ -10,12 +10,12 @@ ghost use Rattle.email_bodies.specs.Asking.{BodyAsk};
 ghost use Rattle.gate_calls.specs.Mailings.{Mailing, MailAndUploads};
 ghost use Rattle.gate_calls.specs.Places.{HasPlaces};
 ghost use Rattle.gate_serving.specs.Answers.{IsResponse};
-ghost use Rattle.gate_serving.specs.Complete.{CompletesRun, IsAnsweredFrom, IsSegmentObeyed, IsClientTold, IsWorkObeyed};
+ghost use Rattle.gate_serving.specs.Complete.{AreObeyedTold, CompletesRun, IsAnsweredFrom, IsSegmentObeyed, IsClientTold, IsWorkObeyed};
 ghost use Rattle.gate_serving.specs.Histories.{KeepsHistories};
 ghost use Rattle.gate_serving.specs.declared.door.Door.{Door};
 ghost use Rattle.gate_serving.specs.GateState.{GateState};
 ghost use Rattle.gate_serving.specs.Requests.{Account, Asking, asks_for_mail};
-ghost use Rattle.gate_serving.specs.Run.{Run, Stood};
+ghost use Rattle.gate_serving.specs.Run.{Run, Stood, run_blamed};
 ghost use Rattle.gate_serving.specs.Segment.{Segment, blamed};
 ghost use Rattle.gate_serving.specs.Work.{Work};
 ghost use Rattle.gate_serving.specs.declared.served.Served.{Served};
@@ -62,6 +62,14 @@ pub fn obeyed_clients_are_told()
 /// Each client of a run of whom nothing fails and for whom the store obeyed is told, whatever comes of the others.
 pub fn obeyed_runs_are_told()
     ensures { (door : Door) (account : Account) (events : List Event) → CompletesRun door account events }
+{
+    obeyed_clients_are_told();
+}
+
+/// Each client of a run for whom the store obeyed is told, where nothing is blamed over the run.
+pub fn quiet_runs_are_told()
+    ensures { (door : Door) (account : Account) (before after : GateState) (events : List Event) (went : List Served)
+        (run : Run door account before events went after) → run_blamed run ≡ no_faults → AreObeyedTold run }
 {
     obeyed_clients_are_told();
 }
