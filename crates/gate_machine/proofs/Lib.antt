@@ -6,5 +6,6 @@ mod Keeping
 pub mod Going
 pub mod Sources
 pub mod Asking
+mod KeptBodies
 mod Fetched
 mod Lent

@@ -6,6 +6,7 @@ ghost use Rattle.gate_machine.specs.Beginning.{PreparesMail};
 ghost use Rattle.mail_state.specs.History.{MailHistory};
 ghost use Rattle.email_bodies.specs.Asking.{BodyAsk};
 ghost use Rattle.gate_machine.specs.Fetching.{AsksBodies, CallsAsk};
+ghost use Rattle.gate_machine.specs.KeptBodies.{CallsTell, KeepsBody};
 ghost use Rattle.gate_machine.specs.Going.{HasGoneOn, MachineGoesOn};
 ghost use Rattle.gate_machine.specs.Machine.{MachineState, opened};
 ghost use Rattle.gate_machine.specs.Obeying.{AllCame, AreAsksObeyed, IsObeyedBeginning, IsServed};
@@ -62,4 +63,13 @@ pub fn machines_know_what_was_told()
         → PreparesMail user password before events after → KnowsExchanges before → KnowsExchanges after.machine }
     ensures calls { (before : Progress) (asks : List BodyAsk) (events : List Event) (after : Progress)
         → CallsAsk before asks events after → KnowsExchanges before.machine → KnowsExchanges after.machine }
+{}
+
+/// A body that is kept is what a fetch of that Email's message told: once the mail is prepared none is kept that wasn't before, and after
+/// the calls of a request only such that were, or that were told for them.
+pub fn kept_bodies_were_told()
+    ensures prepared { (user password : List ℕ) (before : MachineState) (events : List Event) (after : Progress)
+        → PreparesMail user password before events after → (b : ℕ × List ℕ) → KeepsBody after.machine b → KeepsBody before b }
+    ensures calls { (before : Progress) (asks : List BodyAsk) (events : List Event) (after : Progress) (calls : CallsAsk before asks events after)
+        (b : ℕ × List ℕ) → KeepsBody after.machine b → KeepsBody before.machine b ⊎ CallsTell calls b }
 {}

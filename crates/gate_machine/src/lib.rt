@@ -21,8 +21,8 @@ pub use beginning::begin;
 pub use fetching::Fetching;
 pub use known::{Known, Served};
 pub use laws::{
-    calls_keep_history, machines_know_what_was_told, obeyed_bodies_come, obeyed_rounds_stand,
-    requests_keep_history, touches_stay,
+    calls_keep_history, kept_bodies_were_told, machines_know_what_was_told, obeyed_bodies_come,
+    obeyed_rounds_stand, requests_keep_history, touches_stay,
 };
 pub use machine::Machine;
 pub use standing::{CommitEnd, Fall, Standing};

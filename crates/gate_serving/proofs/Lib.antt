@@ -9,5 +9,6 @@ mod Needs
 mod Going
 mod OneResponse
 mod Knowing
+mod Kept
 pub mod Told
 mod Made

@@ -11,9 +11,10 @@ use Rattle.gate_serving.specs.declared.door.Door.{Door}
 use Rattle.gate_serving.specs.declared.served.Served.{Served}
 use Rattle.gate_serving.specs.declared.served.Served.TheVariants as served
 use Rattle.gate_serving.specs.Complete.{IsAnsweredFrom, IsReplyObeyed, IsSegmentObeyed, IsClientTold, NobodyComes, EndsEarly, IsAnswered, LacksMemory, IsRunTold}
+use Rattle.gate_serving.specs.Complete.{AreObeyedTold}
 use Rattle.gate_serving.specs.GateState.{GateState}
 use Rattle.gate_serving.specs.Requests.{Account}
-use Rattle.gate_serving.specs.Run.{Run, Begun, Then}
+use Rattle.gate_serving.specs.Run.{Run, Begun, Then, run_blamed, sum_of_faults}
 use Rattle.gate_serving.specs.Segment.{AnswersAsking, Replies, Answered, LacksReading, LacksAnswering, Segment, NoneComes, NotAccepted, Left, Unasked, Replied}
 use Rattle.gate_serving.specs.Segment.{blame_front, blamed, reply_blamed, unsent, went}
 use Rattle.gate_serving.proofs.Needs.{AnsweredLaw}
@@ -102,3 +103,34 @@ pub run_told : ToldLaw → {door : Door} {account : Account} {before after : Gat
 run_told law Begun = tt
 run_told law {door} {account} (Then next run) =
     (run_told law run, λ obeyed none. law door account next.before next.events next.how next.after next.segment obeyed none)
+
+-- a sum of none has parts of none
+left_none : (m n : ℕ) → m + n ≡ 0 → m ≡ 0
+left_none m n is = omega (arith, is)
+
+right_none : (m n : ℕ) → m + n ≡ 0 → n ≡ 0
+right_none m n is = omega (arith, is)
+
+parts_none : (f g : Faults) → sum_of_faults f g ≡ no_faults → (f ≡ no_faults) × (g ≡ no_faults)
+parts_none f g is = (
+  (λ i. record {
+    link = left_none f.link g.link (ap (λ (s : Faults). s.link) is) i;
+    keep = left_none f.keep g.keep (ap (λ (s : Faults). s.keep) is) i;
+    front = left_none f.front g.front (ap (λ (s : Faults). s.front) is) i;
+    say = left_none f.say g.say (ap (λ (s : Faults). s.say) is) i;
+  }),
+  (λ i. record {
+    link = right_none f.link g.link (ap (λ (s : Faults). s.link) is) i;
+    keep = right_none f.keep g.keep (ap (λ (s : Faults). s.keep) is) i;
+    front = right_none f.front g.front (ap (λ (s : Faults). s.front) is) i;
+    say = right_none f.say g.say (ap (λ (s : Faults). s.say) is) i;
+  }),
+)
+
+-- what comes of each client for whom the store obeyed, where nothing is blamed over the run
+pub run_quiet : ToldLaw → {door : Door} {account : Account} {before after : GateState} {events : List Event} {went : List Served} (run : Run door account before events went after)
+    → run_blamed run ≡ no_faults → AreObeyedTold run
+run_quiet law Begun none = tt
+run_quiet law {door} {account} (Then next run) none =
+    let both = parts_none (run_blamed run) (blamed next.segment) none in
+    (run_quiet law run both.0, (λ obeyed. law door account next.before next.events next.how next.after next.segment obeyed both.1))

@@ -89,6 +89,13 @@ IsRunTold Begun = Unit {0}
 IsRunTold {door} {account} (Then next run) =
     IsRunTold run × (IsSegmentObeyed next.segment → blamed next.segment ≡ no_faults → IsClientTold door account next.events next.how next.after)
 
--- Each such client of a run of these events is told.
+-- Each client of a run for whom the store obeyed is told.
+abbrev pub AreObeyedTold : {door : Door} {account : Account} {before after : GateState} {events : List Event} {went : List Served}
+    → Run door account before events went after → Type 0
+AreObeyedTold Begun = Unit {0}
+AreObeyedTold {door} {account} (Then next run) =
+    AreObeyedTold run × (IsSegmentObeyed next.segment → IsClientTold door account next.events next.how next.after)
+
+-- Each such client of a run of these events is told, of whom nothing fails.
 abbrev pub CompletesRun : Door → Account → List Event → Type 0
 CompletesRun door account events = (before after : GateState) (went : List Served) (run : Run door account before events went after) → IsRunTold run

@@ -1,5 +1,5 @@
 -- Each module after those that it uses: Segment has one client, Run clients one after another, Complete what they are owed, Histories what
--- stays from one to another.
+-- stays from one to another, KeptBodies which bodies fetches told.
 pub mod Front
 pub mod Requests
 pub mod Answers
@@ -10,4 +10,5 @@ pub mod Run
 pub mod Gates
 pub mod Complete
 pub mod Histories
+pub mod KeptBodies
 pub mod reading

@@ -4,18 +4,20 @@ ghost use Rattle.gate_world.specs.Causes.{Faults, no_faults};
 ghost use Rattle.gate_world.specs.declared.event.Event.{Event};
 ghost use Rattle.gate_machine.specs.Progress.{Bears, Progress};
 ghost use Rattle.gate_machine.specs.Machine.{MachineState};
+ghost use Rattle.gate_machine.specs.KeptBodies.{KeepsBody};
 ghost use Rattle.gate_machine.specs.Sources.{KnowsExchanges};
 ghost use Rattle.gate_machine.specs.declared.standing.Standing.TheVariants.{OutOfMemory};
 ghost use Rattle.email_bodies.specs.Asking.{BodyAsk};
 ghost use Rattle.gate_calls.specs.Mailings.{Mailing, MailAndUploads};
 ghost use Rattle.gate_calls.specs.Places.{HasPlaces};
 ghost use Rattle.gate_serving.specs.Answers.{IsResponse};
-ghost use Rattle.gate_serving.specs.Complete.{CompletesRun, IsAnsweredFrom, IsSegmentObeyed, IsClientTold, IsWorkObeyed};
+ghost use Rattle.gate_serving.specs.Complete.{AreObeyedTold, CompletesRun, IsAnsweredFrom, IsSegmentObeyed, IsClientTold, IsWorkObeyed};
 ghost use Rattle.gate_serving.specs.Histories.{KeepsHistories};
+ghost use Rattle.gate_serving.specs.KeptBodies.{RunTells};
 ghost use Rattle.gate_serving.specs.declared.door.Door.{Door};
 ghost use Rattle.gate_serving.specs.GateState.{GateState};
 ghost use Rattle.gate_serving.specs.Requests.{Account, Asking, asks_for_mail};
-ghost use Rattle.gate_serving.specs.Run.{Run, Stood};
+ghost use Rattle.gate_serving.specs.Run.{Run, Stood, run_blamed};
 ghost use Rattle.gate_serving.specs.Segment.{Segment, blamed};
 ghost use Rattle.gate_serving.specs.Work.{Work};
 ghost use Rattle.gate_serving.specs.declared.served.Served.{Served};
@@ -23,8 +25,8 @@ ghost use Rattle.gate_serving.specs.declared.served.Served.{Served};
 use email_get::laws::one_blob_found;
 use gate_calls::one_list_of_responses;
 use gate_machine::{
-    calls_keep_history, machines_know_what_was_told, obeyed_bodies_come, obeyed_rounds_stand,
-    requests_keep_history,
+    calls_keep_history, kept_bodies_were_told, machines_know_what_was_told, obeyed_bodies_come,
+    obeyed_rounds_stand, requests_keep_history,
 };
 
 /// Where no count rose, nothing is blamed.
@@ -66,6 +68,14 @@ pub fn obeyed_runs_are_told()
     obeyed_clients_are_told();
 }
 
+/// Each client of a run for whom the store obeyed is told, where nothing is blamed over the run.
+pub fn quiet_runs_are_told()
+    ensures { (door : Door) (account : Account) (before after : GateState) (events : List Event) (went : List Served)
+        (run : Run door account before events went after) → run_blamed run ≡ no_faults → AreObeyedTold run }
+{
+    obeyed_clients_are_told();
+}
+
 /// From each client of a run to each later one the history that is served goes on, or the epoch that there is then was drawn meanwhile:
 /// no client is answered over other mail at a place that an earlier one was told of.
 pub fn histories_go_on()
@@ -94,4 +104,12 @@ pub fn runs_know_what_was_told()
         → Work account before asking events mail asks after → KnowsExchanges before → HasPlaces mail }
 {
     machines_know_what_was_told();
+}
+
+/// A body that is kept after a run was kept before it, or is what a fetch of that Email's message told in it.
+pub fn runs_keep_told_bodies()
+    ensures { (door : Door) (account : Account) (before after : GateState) (events : List Event) (went : List Served)
+        (run : Run door account before events went after) (b : ℕ × List ℕ) → KeepsBody after.machine b → KeepsBody before.machine b ⊎ RunTells run b }
+{
+    kept_bodies_were_told();
 }

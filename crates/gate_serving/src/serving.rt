@@ -5,7 +5,7 @@ ghost use Rattle.gate_world.specs.Tape.{Adds};
 ghost use Rattle.gate_serving.specs.Complete.{CompletesRun};
 ghost use Rattle.gate_serving.specs.Histories.{KeepsHistories};
 ghost use Rattle.gate_serving.specs.Run.{IsServingRun};
-ghost use Rattle.gate_serving.specs.Gates.{Comes, account_by};
+ghost use Rattle.gate_serving.specs.Gates.{Comes, RestStays, account_by};
 
 use crate::gate::Gate;
 use crate::laws::{histories_go_on, obeyed_runs_are_told};
@@ -22,6 +22,7 @@ pub fn serve<W: World>(alloc: Global, gate: &mut Gate, world: &mut W, most: u64)
     ensures complete { Adds (W.tape world.old) (W.tape world.new) (CompletesRun gate.old.door (account_by gate.old (W.hidden world.old))) }
     // Another: no client is answered over other mail at a place that an earlier one was told of, unless another epoch was drawn.
     ensures histories { Adds (W.tape world.old) (W.tape world.new) (KeepsHistories gate.old.door (account_by gate.old (W.hidden world.old))) }
+    ensures rest { RestStays gate.old gate.new }
     ensures statuses { (result ≡ 0) ⊎ (result ≡ 6) }
     ensures later { Later (W.faults world.old) (W.faults world.new) }
     ensures front { result ≡ 6 → Rose (W.faults world.old).front (W.faults world.new).front }

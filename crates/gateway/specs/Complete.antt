@@ -9,7 +9,7 @@ use Rattle.gate_words.specs.Task.{IsTask}
 use Rattle.gate_words.specs.declared.task.Task.{Task}
 use Rattle.gate_words.specs.declared.task.Task.TheVariants.{Show}
 use Rattle.gate_serving.specs.declared.door.Door.TheVariants.{Bare}
-use Rattle.gate_serving.specs.Complete.{IsSegmentObeyed, IsClientTold, IsRunTold}
+use Rattle.gate_serving.specs.Complete.{AreObeyedTold, IsSegmentObeyed, IsClientTold, IsRunTold}
 use Rattle.gate_serving.specs.Run.{account_of}
 use Rattle.gate_serving.specs.Segment.{blamed}
 use Rattle.gateway.specs.Program.{Performed, Unopened, ServedMany, ServedOnce, ShownOne, Explained, Runs, Refused, OutOfMemory, Done}
@@ -50,6 +50,26 @@ AreTold (Refused a b c d) = Unit {0}
 AreTold (OutOfMemory a b c) = Unit {0}
 AreTold (Done task a ran) = IsTaskTold ran
 
--- Each such client of a run of the program over these events is told.
+-- What comes of each client of a task for whom the store obeyed, where nothing is blamed.
+abbrev pub IsTaskAnswered : {task : Task} {secrets : Hidden} {status : ℕ} {blames : Faults} {events : List Event}
+    → Performed task secrets status blames events → Type 0
+IsTaskAnswered (Unopened place a b c d) = Unit {0}
+IsTaskAnswered (ServedMany place listen most a serves) = AreObeyedTold serves.run
+IsTaskAnswered {secrets = secrets} (ServedOnce place a serves) =
+    IsSegmentObeyed serves.segment → IsClientTold Bare (account_of place secrets) serves.serving serves.how serves.after
+IsTaskAnswered (ShownOne a b) = Unit {0}
+IsTaskAnswered (Explained page a b) = Unit {0}
+
+abbrev pub AreAnswered : {words : List (List ℕ)} {secrets : Hidden} {status : ℕ} {blames : Faults} {events : List Event}
+    → Runs words secrets status blames events → Type 0
+AreAnswered (Refused a b c d) = Unit {0}
+AreAnswered (OutOfMemory a b c) = Unit {0}
+AreAnswered (Done task a ran) = IsTaskAnswered ran
+
+-- The events are a run of the program in which each client is told for whom the store obeyed.
+abbrev pub AnswersAll : List (List ℕ) → Hidden → ℕ → List Event → Type 0
+AnswersAll words secrets status events = (blames : Faults) × (runs : Runs words secrets status blames events) × AreAnswered runs
+
+-- Each such client of a run of the program over these events is told, of whom nothing fails.
 abbrev pub CompletesServing : List (List ℕ) → Hidden → ℕ → List Event → Type 0
 CompletesServing words secrets status events = (blames : Faults) (runs : Runs words secrets status blames events) → AreTold runs

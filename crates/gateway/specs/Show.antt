@@ -6,7 +6,6 @@ use Rattle.gate_world.specs.declared.event.Event.{Event}
 use Rattle.gate_world.specs.declared.event.Event.TheVariants.{Accepted, NoMore, ClientDone, FrontFailed}
 use Rattle.gate_world.specs.declared.outside.Failed.{Failed}
 use Rattle.email_objects.specs.EmailObjects.{IsShownObject}
-use Rattle.gateway.specs.declared.show.TheConstants.{MAX_MESSAGE_OCTETS}
 use Rattle.gate_serving.specs.declared.front.FrontError.{FrontError}
 use Rattle.gate_serving.specs.declared.front.FrontError.TheVariants as front
 use Rattle.gate_serving.specs.declared.front.Input.{Input}
@@ -16,7 +15,7 @@ use Rattle.gate_serving.specs.Answers.{line_end}
 
 -- the most octets of a message
 abbrev pub message_limit : ℕ
-message_limit = MAX_MESSAGE_OCTETS
+message_limit = 50000000
 
 -- the object as compact JSON, and a line end
 unfoldable pub object_line : Data → List ℕ

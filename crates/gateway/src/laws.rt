@@ -1,10 +1,14 @@
 // What the definitions promise.
 ghost use Rattle.std.specs.Prelude.{List, ℕ};
-ghost use Rattle.gate_world.specs.Causes.{Hidden};
+ghost use Rattle.gate_world.specs.Causes.{Faults, Hidden};
 ghost use Rattle.gate_world.specs.declared.event.Event.{Event};
-ghost use Rattle.gateway.specs.Complete.{CompletesServing};
+ghost use Rattle.gate_serving.specs.Run.{Stood};
+ghost use Rattle.gateway.specs.Complete.{AnswersAll, CompletesServing};
+ghost use Rattle.gateway.specs.Program.{IsWholeRun};
 
-use gate_serving::{obeyed_clients_are_told, obeyed_runs_are_told};
+use gate_serving::{
+    no_fault_no_blame, obeyed_clients_are_told, obeyed_runs_are_told, quiet_runs_are_told,
+};
 
 /// Each client of a run of the program of whom nothing fails and for whom the store obeyed is told, whatever comes of the others.
 pub fn obeyed_programs_tell()
@@ -12,4 +16,14 @@ pub fn obeyed_programs_tell()
 {
     obeyed_clients_are_told();
     obeyed_runs_are_told();
+}
+
+/// Each client of a run of the program for whom the store obeyed is told, where no count of faults rose.
+pub fn quiet_programs_tell()
+    ensures { (words : List (List ℕ)) (secrets : Hidden) (was now : Faults) (status : ℕ) (events : List Event)
+        → IsWholeRun words secrets was now status events → Stood was now → AnswersAll words secrets status events }
+{
+    no_fault_no_blame();
+    obeyed_clients_are_told();
+    quiet_runs_are_told();
 }

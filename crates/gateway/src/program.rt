@@ -5,11 +5,12 @@ ghost use Rattle.gate_world.specs.Tape.{Adds};
 ghost use Rattle.gate_words.specs.Pages.{page_text};
 ghost use Rattle.gate_words.specs.Task.{IsTask};
 ghost use Rattle.gate_words.specs.declared.task.Task.{Task};
-ghost use Rattle.gateway.specs.Complete.{CompletesServing, CompletesShow};
+ghost use Rattle.gate_serving.specs.Run.{Stood};
+ghost use Rattle.gateway.specs.Complete.{AnswersAll, CompletesServing, CompletesShow};
 ghost use Rattle.gateway.specs.Program.{EndsDone, EndsFailed, EndsOnce, IsApart, IsSaid, IsWholeRun, Performs, RunsExplain, RunsShow, front_failed, words_refused};
 
 use crate::explain::explain_one;
-use crate::laws::obeyed_programs_tell;
+use crate::laws::{obeyed_programs_tell, quiet_programs_tell};
 use crate::show::show_one;
 use gate_serving::{Door, FrontError, Gate, OpenError, Served, serve};
 use gate_words::{Page, Place, Task, WordsError, read_words};
@@ -178,6 +179,10 @@ pub fn run<W: World>(words: &[String], world: &mut W, watchers: &mut Vec<Box<dyn
     // served then, whatever comes of the others; or memory ran out, and they take the text of that.
     ensures complete { Adds (W.tape world.old) (W.tape world.new) (CompletesServing (map string_bytes words.now) (W.hidden world.old) result) }
 
+    // Where no count of faults rises, whoever comes and for whom the store obeyed takes that response; or memory ran out.
+    ensures quiet { Stood (W.faults world.old) (W.faults world.new)
+        → Adds (W.tape world.old) (W.tape world.new) (AnswersAll (map string_bytes words.now) (W.hidden world.old) result) }
+
     // Whoever gives a message to be shown, while the front does not fail, is sent its Email object and a line end; or memory
     // ran out, and nothing was sent.
     ensures shown { (result ≡ 6 → ⊥) → Adds (W.tape world.old) (W.tape world.new) (CompletesShow (map string_bytes words.now) result) }
@@ -195,6 +200,7 @@ pub fn run<W: World>(words: &[String], world: &mut W, watchers: &mut Vec<Box<dyn
     ensures watchers { watchers.new ≡ watchers.old }
 {
     obeyed_programs_tell();
+    quiet_programs_tell();
     let alloc: Global = *watchers.allocator();
     match read_words(alloc, words) {
         Ok(task) => perform(alloc, world, &task),

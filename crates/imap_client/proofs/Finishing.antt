@@ -53,16 +53,19 @@ ran_asks : (s : RoundState) {life : LinkLife} {xs : List Exchange} {after : Link
 ran_asks s Begun = tt
 ran_asks s (Then {heard = xs} next ran) = asks_more s xs next.exchange (ran_asks s ran) (next.asked ∙ ap due.Send (sym next.completes.command_is))
 
-send_same : (c d : Command) → due.Send c ≡ due.Send d → d ≡ c
+-- one command is due
+pub send_same : (c d : Command) → due.Send c ≡ due.Send d → d ≡ c
 send_same c d is = cc
 
-fails_not_send : (why : Refusal) (c : Command) → due.Fails why ≡ due.Send c → ⊥
+-- what fails isn't sent
+pub fails_not_send : (why : Refusal) (c : Command) → due.Fails why ≡ due.Send c → ⊥
 fails_not_send why c is = cc
 
 fails_not_done : (why : Refusal) → due.Fails why ≡ due.Done → ⊥
 fails_not_done why is = cc
 
-done_not_send : (c : Command) → due.Done ≡ due.Send c → ⊥
+-- nor is what is done
+pub done_not_send : (c : Command) → due.Done ≡ due.Send c → ⊥
 done_not_send c is = cc
 
 send_not_done : (c : Command) → due.Send c ≡ due.Done → ⊥
@@ -73,7 +76,8 @@ failing_never : (why : Refusal) (m : Mail) (xs : List Exchange) → Asks (state 
 failing_never why m [] asks done = fails_not_done why done
 failing_never why m (x ∷ xs) asks done = fails_not_send why x.command asks.0
 
-ok_or_not : (s : Status) → (s ≡ status.Ok) ⊎ (is_ok s ≡ false)
+-- an answer is OK, or another
+pub ok_or_not : (s : Status) → (s ≡ status.Ok) ⊎ (is_ok s ≡ false)
 ok_or_not status.Ok = inl refl
 ok_or_not status.No = inr refl
 ok_or_not status.Bad = inr refl
@@ -265,7 +269,8 @@ ran_exchanges {life = life} (Then {heard = xs} next ran) =
     ap (λ (l : LinkLife). l.exchanges) next.completes.after_is ∙ ap (λ (l : List Exchange). l ++ next.exchange ∷ []) (ran_exchanges ran)
     ∙ append_assoc life.exchanges xs (next.exchange ∷ [])
 
-ran_sends : {plan : Planned} {life : LinkLife} {xs : List Exchange} {after : LinkLife} {es : List Event} → Ran plan life xs after es → AllOk xs
+-- exchanges that were answered OK took the texts of their commands
+pub ran_sends : {plan : Planned} {life : LinkLife} {xs : List Exchange} {after : LinkLife} {es : List Event} → Ran plan life xs after es → AllOk xs
     → flat_map store_took_in es ≡ texts_from (next_number life) xs
 ran_sends Begun ok = refl
 ran_sends {life = life} (Then {heard = xs} {events = es} next ran) ok =
@@ -289,7 +294,8 @@ ran_sends {life = life} (Then {heard = xs} {events = es} next ran) ok =
 
 -- ---- its end
 
-end_done : {now : Due} {life left : LinkLife} {events : List Event} → IsEnd now life left (Ok tt) events → (now ≡ due.Done) × (events ≡ []) × (left ≡ life)
+-- a plan ends in Ok where it is done
+pub end_done : {now : Due} {life left : LinkLife} {events : List Event} → IsEnd now life left (Ok tt) events → (now ≡ due.Done) × (events ≡ []) × (left ≡ life)
 end_done (Finished is ok none same) = (is, none, same)
 end_done (Failed why is bad hangs same) = absurd (cc bad)
 end_done (Broken asked e is bad b) = absurd (cc bad)

@@ -6,6 +6,7 @@ mod Greetings
 mod RoundSteps
 mod Refutations
 mod Finishing
+mod Fetching
 mod GoingOn
 mod Obedience
 mod OneRun

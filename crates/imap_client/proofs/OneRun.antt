@@ -30,6 +30,8 @@ use Rattle.imap_client.specs.Refusals.{refusal_end}
 use Rattle.imap_client.specs.LinkLife.{LinkLife, ClientState, next_number, selected, selected_after, unread}
 use Rattle.imap_client.specs.Plans.{Planned, Ran, Begun, Then, IsEnd, Finished, Failed, Broken, Gone, Wanting, Follows}
 use Rattle.imap_client.specs.Decided.{IsDecided}
+use Rattle.imap_client.specs.Bodies.{BodyState, FetchesBody, body_from, body_start, body_step, without_body}
+use Rattle.imap_client.specs.declared.body.BodyStage.TheVariants as stage
 use Rattle.imap_client.specs.Rounds.{Rounds, round_plan}
 use Rattle.imap_client.proofs.Lives.{verdict_more}
 use Rattle.imap_client.proofs.Finishing.{ran_exchanges}
@@ -358,3 +360,31 @@ pub one_round : (before after mail : Mail) (life left other : LinkLife) (client 
 one_round before after mail life left other client also r s es fs more later f g stream first second =
     let same = one_run (round_plan before) life left other f.exchanges g.exchanges client also r s es fs more later f.follows g.follows stream first second in
     (f.told (λ is. subst IsDecided is first) ∙ ap (λ (xs : List Exchange). fold tell before xs) same.0 ∙ sym (g.told (λ is. subst IsDecided is second)), same.1)
+
+-- what is fetched where the exchanges and the ends are the same
+one_body : (folder uid : ℕ) (start : BodyState) (xs ys : List Exchange) (r s : Result (List ℕ) LinkEnd) → xs ≡ ys → without_body r ≡ without_body s
+    → ((octets : List ℕ) → r ≡ Ok octets → (fold (body_step folder uid) start xs).stage ≡ stage.Fetched octets)
+    → ((octets : List ℕ) → s ≡ Ok octets → (fold (body_step folder uid) start ys).stage ≡ stage.Fetched octets) → r ≡ s
+one_body folder uid start xs ys (Ok a) (Ok b) same ends first second =
+    let both : stage.Fetched a ≡ stage.Fetched b =
+    sym (first a refl) ∙ ap (λ (l : List Exchange). (fold (body_step folder uid) start l).stage) same ∙ second b refl in
+    let is : a ≡ b = cc in
+    ap (λ (o : List ℕ). let q : Result (List ℕ) LinkEnd = Ok o in q) is
+one_body folder uid start xs ys (Err e) (Err f) same ends first second =
+    let is : e ≡ f = cc in
+    ap (λ (g : LinkEnd). let q : Result (List ℕ) LinkEnd = Err g in q) is
+one_body folder uid start xs ys (Ok a) (Err f) same ends first second = absurd (cc ends)
+one_body folder uid start xs ys (Err e) (Ok b) same ends first second = absurd (cc ends)
+
+-- two fetches of a body over one stream of octets, whose ends these decide, come to the same mail, end alike, and give the same body
+pub one_fetch : (folder uid : ℕ) (before after mail : Mail) (life left other : LinkLife) (client also : ClientState) (r s : Result (List ℕ) LinkEnd) (es fs : List Event)
+    (more later : List ℕ) → FetchesBody folder uid before after life left client r es → FetchesBody folder uid before mail life other also s fs
+    → flat_map store_gave_in es ++ more ≡ flat_map store_gave_in fs ++ later → IsDecided (without_body r) → IsDecided (without_body s) → (after ≡ mail) × (r ≡ s)
+one_fetch folder uid before after mail life left other client also r s es fs more later f g stream first second =
+    let start = body_start (selected life) before folder in
+    let same = one_run (body_from folder uid start) life left other f.exchanges g.exchanges client also (without_body r) (without_body s) es fs more later f.follows g.follows
+    stream first second in (
+      f.told (λ is. subst (λ (x : Result (List ℕ) LinkEnd). IsDecided (without_body x)) is first) ∙ ap (λ (xs : List Exchange). fold tell before xs) same.0
+          ∙ sym (g.told (λ is. subst (λ (x : Result (List ℕ) LinkEnd). IsDecided (without_body x)) is second)),
+      one_body folder uid start f.exchanges g.exchanges r s same.0 same.1 f.body g.body,
+    )

@@ -1,4 +1,5 @@
--- Plans says how what is asked in order is followed; Connecting, Rounds and Bodies are such plans. Sent, Decided and WholeRounds are for laws.
+-- Plans says how what is asked in order is followed; Connecting, Rounds and Bodies are such plans. Sent, Decided, WholeRounds and WholeFetches
+-- are for laws.
 pub mod LinkLife
 pub mod Calls
 pub mod Refusals
@@ -10,4 +11,5 @@ pub mod Connecting
 pub mod Rounds
 pub mod WholeRounds
 pub mod Bodies
+pub mod WholeFetches
 pub mod reading

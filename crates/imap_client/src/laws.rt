@@ -9,7 +9,7 @@ ghost use Rattle.imap_exchange.specs.declared.link_end.LinkEnd.{LinkEnd};
 ghost use Rattle.imap_exchange.specs.declared.link_end.LinkEnd.TheVariants as ends;
 ghost use Rattle.imap_exchange.specs.Received.{Octets};
 ghost use Rattle.imap_exchange.specs.Begins.{Begins};
-ghost use Rattle.imap_client.specs.Bodies.{FetchesBody};
+ghost use Rattle.imap_client.specs.Bodies.{FetchesBody, without_body};
 ghost use Rattle.imap_client.specs.Connecting.{GreetsBy, greeting_says};
 ghost use Rattle.imap_client.specs.LinkLife.{LinkLife, ClientState, next_number, selected};
 ghost use Rattle.imap_client.specs.Plans.{Planned, Follows};
@@ -17,6 +17,7 @@ ghost use Rattle.imap_client.specs.Obeying.{Obeys};
 ghost use Rattle.imap_client.specs.Decided.{IsDecided};
 ghost use Rattle.imap_client.specs.Rounds.{Rounds};
 ghost use Rattle.imap_client.specs.Sent.{due_texts, next_text};
+ghost use Rattle.imap_client.specs.WholeFetches.{IsFinishedFetch};
 ghost use Rattle.imap_client.specs.WholeRounds.{IsFinishedRound};
 ghost use Rattle.told_mail.specs.Mail.{Mail};
 
@@ -30,6 +31,13 @@ pub fn no_bye_is_welcome()
 pub fn finished_rounds_are_whole()
     ensures { (before after : Mail) (life left : LinkLife) (client : ClientState) (events : List Event) → Rounds before after life left client (Ok tt) events
         → IsFinishedRound before after life left events }
+{}
+
+/// The fetch of a body that ended in Ok sent exactly the commands of a whole fetch, in order, the mail is what these told, and the body
+/// is the last one that the FETCH told.
+pub fn finished_fetches_are_whole()
+    ensures { (folder uid : ℕ) (before after : Mail) (life left : LinkLife) (client : ClientState) (octets : List ℕ) (events : List Event)
+        → FetchesBody folder uid before after life left client (Ok octets) events → IsFinishedFetch folder uid before after life left octets events }
 {}
 
 /// After a round, or the fetch of a body, that ended in Ok the life goes on.
@@ -68,4 +76,14 @@ pub fn one_round()
     ensures { (before after mail : Mail) (life left other : LinkLife) (client also : ClientState) (r s : Result (Unit {0}) LinkEnd) (es fs : List Event) (more later : List ℕ)
         → Rounds before after life left client r es → Rounds before mail life other also s fs
         → flat_map store_gave_in es ++ more ≡ flat_map store_gave_in fs ++ later → IsDecided r → IsDecided s → (after ≡ mail) × (r ≡ s) }
+{}
+
+/// The fetch of a body over one stream of octets comes to one mail, one end and one body, in whatever pieces they came, where the
+/// octets decide it.
+pub fn one_fetch()
+    ensures { (folder uid : ℕ) (before after mail : Mail) (life left other : LinkLife) (client also : ClientState) (r s : Result (List ℕ) LinkEnd)
+        (es fs : List Event) (more later : List ℕ)
+        → FetchesBody folder uid before after life left client r es → FetchesBody folder uid before mail life other also s fs
+        → flat_map store_gave_in es ++ more ≡ flat_map store_gave_in fs ++ later → IsDecided (without_body r) → IsDecided (without_body s)
+        → (after ≡ mail) × (r ≡ s) }
 {}

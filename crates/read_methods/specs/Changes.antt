@@ -49,11 +49,15 @@ NamesNone epoch last text = (place : ℕ) → IsPlaceOf epoch last text place �
 
 -- ---- the answer, over the touches of a type
 
+-- the place to which the touches lead
+abbrev pub newest_place : List Entry → ℕ
+newest_place h = length h
+
 -- the place that is named, and what changed after it
 pub record AnsweredChanges (epoch : ℕ) (h : List Entry) (asked : ChangesAsked) : Type 0 where
   pub place : ℕ
   pub changes : Changes
-  pub named : IsPlaceOf epoch (length h) asked.since place
+  pub named : IsPlaceOf epoch (newest_place h) asked.since place
   pub are_changes : IsChanges h place asked.most changes
 
 -- the new state is the place to which the ids listed lead, and there are more where that isn't the last
@@ -91,7 +95,7 @@ changes_data letter epoch last since further c = object (changes_members letter 
 -- A refusal by the arguments; or the text names no state whose changes are kept, which alone can't be calculated; or what changed.
 pub data AnswersChanges (letter epoch : ℕ) (h : List Entry) (further : Further) (d : Data) : Result Data MethodError → Type 0 where
   Refused : (e : MethodError) → changes_asked d ≡ Err e → AnswersChanges letter epoch h further d (Err e)
-  NoSuchState : (asked : ChangesAsked) → changes_asked d ≡ Ok asked → NamesNone epoch (length h) asked.since
+  NoSuchState : (asked : ChangesAsked) → changes_asked d ≡ Ok asked → NamesNone epoch (newest_place h) asked.since
       → AnswersChanges letter epoch h further d (Err CannotCalculateChanges)
   Answered : (asked : ChangesAsked) (a : AnsweredChanges epoch h asked) → changes_asked d ≡ Ok asked
-      → AnswersChanges letter epoch h further d (Ok (changes_data letter epoch (length h) asked.since further a.changes))
+      → AnswersChanges letter epoch h further d (Ok (changes_data letter epoch (newest_place h) asked.since further a.changes))

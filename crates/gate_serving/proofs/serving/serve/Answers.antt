@@ -65,3 +65,9 @@ returns-in-AcceptFault-clause-histories g c = join _ c.serving.invariant.run c.i
 
 pub returns-in-NoMore-clause-histories : goal.returns-in-NoMore-clause-histories
 returns-in-NoMore-clause-histories g c = join _ c.serving.invariant.run c.in-NoMore.ensures.run (λ x y so steps. c.histories_go_on.ensures _ _ (x ++ y))
+
+pub returns-in-AcceptFault-clause-rest : goal.returns-in-AcceptFault-clause-rest
+returns-in-AcceptFault-clause-rest g c = rest_both c.serving.invariant.rest c.in-AcceptFault.ensures.rest
+
+pub returns-in-NoMore-clause-rest : goal.returns-in-NoMore-clause-rest
+returns-in-NoMore-clause-rest g c = rest_both c.serving.invariant.rest c.in-NoMore.ensures.rest

@@ -33,3 +33,15 @@ returns-in-Err-Memory-clause-complete g c = none _ _ (c.obeyed_programs_tell.ens
 pub returns-in-Ok-clause-apart : goal.returns-in-Ok-clause-apart
 returns-in-Ok-clause-apart g c =
     λ other is apart. c.perform.ensures.apart (subst (λ (t : Task). IsApart t) (same-task _ other c.in-Ok.task is c.in-Ok.ensures.ok) apart)
+
+pub returns-in-Ok-clause-quiet : goal.returns-in-Ok-clause-quiet
+returns-in-Ok-clause-quiet g c = λ stood. widen _ c.perform.ensures.run (λ x so. c.quiet_programs_tell.ensures _ _ _ _ _ x (runs_task c.in-Ok.ensures.ok so) stood)
+
+pub returns-in-Err-Refused-clause-quiet : goal.returns-in-Err-Refused-clause-quiet
+returns-in-Err-Refused-clause-quiet g c = λ stood.
+    rw (c.end_refused.ensures.status) (widen _ c.end_refused.ensures.said (λ x said.
+    c.quiet_programs_tell.ensures _ _ _ _ _ x
+    (runs_refused (c.in-Err-Refused.ensures.refused c.in-Err-Refused.field-0-is) c.end_refused.ensures.alone said) stood))
+
+pub returns-in-Err-Memory-clause-quiet : goal.returns-in-Err-Memory-clause-quiet
+returns-in-Err-Memory-clause-quiet g c = λ stood. none _ _ (c.quiet_programs_tell.ensures _ _ _ _ _ _ (runs_lacking _) stood)
