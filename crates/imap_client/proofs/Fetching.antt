@@ -165,9 +165,9 @@ module _ (folder uid : ℕ) where
   whole_from now m xs octets None there asked done = absurd (failed_never refusal.Lacks m xs octets asked done)
   whole_from now m xs octets (Some f) there asked done = whole_by now f m xs octets there (is_selected now f.name) refl asked done
 
-  all_ok : (now : Option (List ℕ)) (m after : Mail) (xs : List Exchange) (octets : List ℕ) → IsWholeFetch folder uid now octets m xs after → AllOk xs
-  all_ok now m _ _ octets (FetchAlone of fetch is) = (fetch.obeyed.ok, tt)
-  all_ok now m _ _ octets (SelectFirst select fetch is) = (select.obeyed.ok, (fetch.obeyed.ok, tt))
+  all_ok : (now : Option (List ℕ)) (octets : List ℕ) (m : Mail) (xs : List Exchange) (after : Mail) → IsWholeFetch folder uid now octets m xs after → AllOk xs
+  all_ok now octets m _ _ (FetchAlone of fetch is) = (fetch.obeyed.ok, tt)
+  all_ok now octets m _ _ (SelectFirst select fetch is) = (select.obeyed.ok, (fetch.obeyed.ok, tt))
 
 -- a fetch that ends in Ok is a whole fetch, of which the store took exactly the commands
 pub finished_fetches_are_whole : (folder uid : ℕ) (before after : Mail) (life left : LinkLife) (client : ClientState) (octets : List ℕ) (events : List Event)
@@ -183,5 +183,5 @@ finished_fetches_are_whole folder uid before after life left client octets event
       whole = subst (λ (m : Mail). IsWholeFetch folder uid (selected life) octets before r.exchanges m) (sym told) whole;
       completed = ap (λ (l : LinkLife). l.exchanges) ends.2 ∙ ran_exchanges r.follows.ran;
       sent = ap (λ (l : List Event). flat_map store_took_in l) events_are
-          ∙ ran_sends r.follows.ran (all_ok folder uid (selected life) before (fold tell before r.exchanges) r.exchanges octets whole);
+          ∙ ran_sends r.follows.ran (all_ok folder uid (selected life) octets before r.exchanges (fold tell before r.exchanges) whole);
     }
