@@ -1,5 +1,5 @@
 -- Bodies that are asked after others.
-use Rattle.std.proofs.Common.{◌≡◌, ◌∙◌, ℕ, List, ◌∷◌, [], ◌++◌, append-nil, append_assoc, Option, refl, sym, ap, subst}
+use Rattle.std.proofs.Common.{◌∙◌, ℕ, List, ◌∷◌, [], ◌++◌, append-nil, append_assoc, Option, refl, sym, ap, subst}
 use Rattle.email_bodies.specs.Asking.{BodyAsk, unanswered, AreAsked, NoneAsked, OneMore, AreTried, AllAnswered, LastLacks, AreDue, AsksInVain}
 use Rattle.email_bodies.specs.declared.source.MessagePlace.{MessagePlace}
 use Rattle.email_bodies.proofs.Due.{none_due, one_due, due_more, due_after}

@@ -101,7 +101,7 @@ module _ {S : Type 0} (Answers : S → MessagePlace → Option (List ℕ) → S 
     same_error before after (Ok x) e IsMeant is a = absurd is
     same_error before after (Err f) e IsMeant is a =
         let P : E → Type 0 = λ g. ((g ≡ memory) × AsksInVain Answers Lacks (FailsAfter IsMeant) before after)
-            ⊎ AsksAnd Answers Lacks before after (λ (asks : List BodyAsk). IsMeant asks (Err g)) in
+        ⊎ AsksAnd Answers Lacks before after (λ (asks : List BodyAsk). IsMeant asks (Err g)) in
         subst P (sym is) a
 
   -- an error that is turned into another one

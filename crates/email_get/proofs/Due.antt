@@ -1,8 +1,7 @@
 -- The bodies that are asked for what is shown or found are due.
-use Rattle.std.proofs.Common.{ℕ, List, [], ◌∷◌, ◌++◌, Option, Some, None, Result, Ok, Err}
+use Rattle.std.proofs.Common.{ℕ, List, [], ◌∷◌, Option, Some, None, Result, Ok, Err}
 use Rattle.serde_json.specs.Data.{Data}
 use Rattle.email_bodies.specs.Asking.{BodyAsk, AreDue}
-use Rattle.email_bodies.specs.declared.error.BodyError.{BodyError}
 use Rattle.email_bodies.specs.declared.error.BodyError.TheVariants.{Ended}
 use Rattle.email_bodies.proofs.Due.{none_due, one_due, due_more, due_after}
 use Rattle.email_properties.specs.Wanted.{EmailAsked}

@@ -167,14 +167,14 @@ module _ {S : Type 0} (Answers : S → MessagePlace → Option (List ℕ) → S 
   pub answered_due : (done later all : List Call) (responses : List CallData) (asks : List BodyAsk) → all ≡ done ++ later
       → ((o : MailAndUploads) → AreOf o over → AnswersCalls uses o (map call_data done) asks responses) → AreDue (CallsBegin all) asks
   answered_due done later all responses asks all_are answered = λ firsts last asks_are o of.
-      first_of_more (ap (λ (cs : List Call). map call_data cs) all_are ∙ map-append call_data done later) (due_calls (answered o of) firsts last asks_are)
+      first_of_more (map call_data later) (ap (λ (cs : List Call). map call_data cs) all_are ∙ map-append call_data done later) (due_calls (answered o of) firsts last asks_are)
 
   -- where one more fails, these and that one ask so
   one_more_fails : (done later all shown : List Call) (call : Call) (asks more : List BodyAsk) → all ≡ (done ++ call ∷ []) ++ later
       → ((o : MailAndUploads) → AreOf o over → AnswersCalls uses o (map call_data done) asks (map call_data shown))
       → CallFails (map call_data shown) (call_data call) more → CallsBegin all (asks ++ more)
   one_more_fails done later all shown call asks more all_are answered fails = λ o of.
-      first_of_more (ap (λ (cs : List Call). map call_data cs) all_are ∙ map-append call_data (done ++ call ∷ []) later)
+      first_of_more (map call_data later) (ap (λ (cs : List Call). map call_data cs) all_are ∙ map-append call_data (done ++ call ∷ []) later)
       (subst (λ (cs : List CallData). FirstCallsAsk uses o cs (asks ++ more)) (sym (map-append call_data done (call ∷ [])))
       (fails_after_calls (answered o of) (fails o of)))
 

@@ -58,9 +58,9 @@ due_call {uses} {over} {earlier} {call} {asks} {r} (Resolved m d is js replies) 
 -- ---- calls
 
 -- the first of these are the first of these and further ones
-pub first_of_more : {uses : Using} {over : MailAndUploads} {calls later all : List CallData} {asks : List BodyAsk} → all ≡ calls ++ later
+pub first_of_more : {uses : Using} {over : MailAndUploads} {calls all : List CallData} {asks : List BodyAsk} (later : List CallData) → all ≡ calls ++ later
     → FirstCallsAsk uses over calls asks → FirstCallsAsk uses over all asks
-first_of_more {later = later} all_are first =
+first_of_more later all_are first =
     record {
       firsts = first.firsts;
       later = first.later ++ later;
@@ -86,5 +86,5 @@ pub due_calls : {uses : Using} {over : MailAndUploads} {calls : List CallData} {
 due_calls {uses} {over} NoCalls = none_due (FirstCallsAsk uses over [])
 due_calls {uses} {over} (MoreCalls {calls = calls} {responses = responses} {asks = asks} next rest) =
     due_after (FailsAfter (AnswersCall uses over responses next.call)) (FirstCallsAsk uses over (calls ++ next.call ∷ [])) asks next.asks
-    (due_more (FirstCallsAsk uses over calls) (FirstCallsAsk uses over (calls ++ next.call ∷ [])) asks (λ l first. first_of_more refl first) (due_calls rest))
+    (due_more (FirstCallsAsk uses over calls) (FirstCallsAsk uses over (calls ++ next.call ∷ [])) asks (λ l first. first_of_more (next.call ∷ []) refl first) (due_calls rest))
     (λ more fails. fails_after_calls rest fails) (due_call next.answers)

@@ -1,5 +1,5 @@
 -- What a call gave, and what is meant by the bodies that were asked.
-use Rattle.std.proofs.Common.{◌≡◌, ◌≢◌, ◌⊎◌, ◌++◌, ℕ, List, [], refl, sym, ap, inl, inr, Option, Result, Ok, Err, subst}
+use Rattle.std.proofs.Common.{Bor, ◌≡◌, ◌≢◌, ◌⊎◌, ◌++◌, ℕ, List, [], refl, sym, ap, inl, inr, Option, Result, Ok, Err, subst}
 use Rattle.serde_json.specs.declared.value.Value.{Value}
 use Rattle.serde_json.specs.Data.{Data}
 use Rattle.serde_json.specs.View.{view}
@@ -11,6 +11,9 @@ use Rattle.jmap_methods.specs.Outcome.{Agrees, IsJust, Meets}
 use Rattle.jmap_methods.specs.declared.method_error.MethodError.{MethodError}
 use Rattle.jmap_methods.specs.declared.method_error.MethodError.TheVariants.{Memory}
 use Rattle.jmap_methods.specs.declared.method_error.MethodError.TheVariants as error
+use Rattle.mail_state.specs.History.{MailHistory}
+use Rattle.mail_state.specs.State.{IsStateOf}
+use Rattle.mail_state.specs.declared.state.MailState.{MailState}
 use Rattle.gate_calls.specs.declared.mail.Mail.{Mail}
 use Rattle.gate_calls.specs.declared.mail.Mail.TheVariants as code
 use Rattle.gate_calls.specs.declared.mail.Over.{Over}
@@ -94,6 +97,19 @@ pub over_untold : (m : Method) (d : Data) (asks : List BodyAsk) (r : Result Data
 over_untold m d asks r o over e untold of so =
     subst (λ (mail : Mailing). RepliesTo m (record { mail = mail; uploads = o.uploads }) d asks r) (sym (untold o.mail of.mail)) so
 
+-- where it is told
+pub over_told : (m : Method) (d : Data) (asks : List BodyAsk) (r : Result Data MethodError) (over : Over) (state : Bor MailState) → over.mail ≡ code.Told state
+    → ((h : MailHistory) → IsStateOf h state.now → RepliesTo m (record { mail = Ok h; uploads = over.uploads.now }) d asks r) → (o : MailAndUploads) → AreOf o over
+    → RepliesTo m o d asks r
+over_told m d asks r over state is replies o of =
+    subst (λ (u : List (List ℕ)). RepliesTo m (record { mail = o.mail; uploads = u }) d asks r) of.uploads
+    (by o.mail (subst (λ (x : Mail). IsMailOf o.mail x) is of.mail))
+  where
+    by : (mail : Mailing) → IsMailOf mail (code.Told state) → RepliesTo m (record { mail = mail; uploads = over.uploads.now }) d asks r
+    by (Ok h) stands = replies h stands
+    by (Err e) never = absurd never
+
+-- the mail that the code can't tell
 pub mail_untold : (m : Mail) (e : MethodError) → m ≡ code.Untold e → (mail : Mailing) → IsMailOf mail m → mail ≡ Err e
 mail_untold m e is mail of = by mail (subst (λ (x : Mail). IsMailOf mail x) is of)
   where

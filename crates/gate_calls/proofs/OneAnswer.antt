@@ -151,7 +151,7 @@ module _ (law : ChangesLaw) (gets : IsOneGet) (parses : IsOneParse) where
   lists uses o room more later NoCalls (MoreCalls {calls = others} other those) is same = absurd (nothing_added others other.call is)
   lists uses o room more later (MoreCalls {calls = calls} next rest) NoCalls is same = absurd (nothing_added calls next.call (sym is))
   lists uses o room more later (MoreCalls {calls = calls} {responses = xs} {asks = asks} next rest)
-  (MoreCalls {calls = others} {responses = ys} {asks = also} other those) is same =
+      (MoreCalls {calls = others} {responses = ys} {asks = also} other those) is same =
       let both = same_from_push calls others next.call other.call is in
       let apart : asks ++ (next.asks ++ more) ≡ also ++ (other.asks ++ later) =
       sym (append_assoc asks next.asks more) ∙ same ∙ append_assoc also other.asks later in

@@ -34,25 +34,31 @@ same_number m n is = grind (arith, nat_tests)
 one_found : (x e : Body) → Some x ≡ Some e → e ≡ x
 one_found x e is = cc
 
+-- the one that is found is of the Email
+key_of : (email : ℕ) (es : Bodies) (e : Body) → lookup_entry (nat_eq email) es ≡ Some e → e.0 ≡ email
+key_of email [] e is = absurd (not_found e is)
+key_of email (x ∷ xs) e is =
+    elim (nat_eq email x.0) as (λ t. nat_eq email x.0 ≡ t → cond t (Some x) (lookup_entry (nat_eq email) xs) ≡ Some e → e.0 ≡ email) [
+      | true ↦ λ same here. ap (λ (f : Body). f.0) (one_found x e here) ∙ sym (same_number email x.0 same)
+      | false ↦ λ other more. key_of email xs e more
+    ] refl is
+
 module _ (b : Body) where
   -- what is left is of what was there
   among_rest : (test : ℕ → Bool) (bodies : Bodies) → IsAmong b (remove_entry test bodies) → IsAmong b bodies
   among_rest test [] among = among
-  among_rest test (x ∷ xs) among = by (test x.0) among
-    where
-      by : (t : Bool) → IsAmong b (cond t xs (x ∷ remove_entry test xs)) → IsAmong b (x ∷ xs)
-      by true more = inr more
-      by false (inl same) = inl same
-      by false (inr more) = inr (among_rest test xs more)
+  among_rest test (x ∷ xs) among = elim (test x.0) as (λ t. IsAmong b (cond t xs (x ∷ remove_entry test xs)) → IsAmong b (x ∷ xs)) [
+    | true ↦ λ more. inr more
+    | false ↦ λ either. elim either [ inl same ↦ inl same | inr more ↦ inr (among_rest test xs more) ]
+  ] among
 
   -- so is what is found
   among_found : (test : ℕ → Bool) (bodies : Bodies) (e : Body) → lookup_entry test bodies ≡ Some e → b ≡ e → IsAmong b bodies
   among_found test [] e is same = absurd (not_found e is)
-  among_found test (x ∷ xs) e is same = by (test x.0) is
-    where
-      by : (t : Bool) → cond t (Some x) (lookup_entry test xs) ≡ Some e → IsAmong b (x ∷ xs)
-      by true here = inl (same ∙ one_found x e here)
-      by false more = inr (among_found test xs e more same)
+  among_found test (x ∷ xs) e is same = elim (test x.0) as (λ t. cond t (Some x) (lookup_entry test xs) ≡ Some e → IsAmong b (x ∷ xs)) [
+    | true ↦ λ here. inl (same ∙ one_found x e here)
+    | false ↦ λ more. inr (among_found test xs e more same)
+  ] is
 
   among_first : (n : ℕ) (bodies : Bodies) → IsAmong b (take n bodies) → IsAmong b bodies
   among_first zero bodies among = absurd among
@@ -74,20 +80,12 @@ module _ (b : Body) where
   among_put : (email : ℕ) (octets : List ℕ) (bodies : Bodies) → IsAmong b (with_body email octets bodies) → (b ≡ (email, octets)) ⊎ IsAmong b bodies
   among_put email octets bodies among = by (lookup_entry (nat_eq email) bodies) refl among
     where
-      key_of : (es : Bodies) (e : Body) → lookup_entry (nat_eq email) es ≡ Some e → e.0 ≡ email
-      key_of [] e is = absurd (not_found e is)
-      key_of (x ∷ xs) e is = by_test (nat_eq email x.0) refl is
-        where
-          by_test : (t : Bool) → nat_eq email x.0 ≡ t → cond t (Some x) (lookup_entry (nat_eq email) xs) ≡ Some e → e.0 ≡ email
-          by_test true same here = ap (λ (f : Body). f.0) (one_found x e here) ∙ sym (same_number email x.0 same)
-          by_test false other more = key_of xs e more
-
       by : (found : Option Body) → lookup_entry (nat_eq email) bodies ≡ found
           → IsAmong b (option_map_or (λ e. (e.0, octets) ∷ remove_entry (nat_eq email) bodies) found ((email, octets) ∷ take (MAX_BODIES - 1) bodies))
           → (b ≡ (email, octets)) ⊎ IsAmong b bodies
       by None is (inl same) = inl same
       by None is (inr more) = inr (among_first (MAX_BODIES - 1) bodies more)
-      by (Some e) is (inl same) = inl (same ∙ ap (λ (n : ℕ). let f : Body = (n, octets) in f) (key_of bodies e is))
+      by (Some e) is (inl same) = inl (same ∙ ap (λ (n : ℕ). let f : Body = (n, octets) in f) (key_of email bodies e is))
       by (Some e) is (inr more) = inr (among_rest (nat_eq email) bodies more)
 
   -- ---- machines

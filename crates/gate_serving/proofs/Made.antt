@@ -1,11 +1,11 @@
 -- Responses that are made over mail, and the bodies that are asked for them.
-use Rattle.std.proofs.Common.{◌≡◌, ◌⊎◌, ◌++◌, ◌∷◌, ℕ, List, [], Option, Result, Ok, Err, refl, sym, ◌∙◌, ap, subst, inl, inr}
+use Rattle.std.proofs.Common.{Bor, ◌≡◌, ◌⊎◌, ◌++◌, ◌∷◌, ℕ, List, [], Option, Result, Ok, Err, refl, sym, ◌∙◌, ap, subst, inl, inr}
 use Rattle.std.specs.Prelude.{IfOk}
 use Rattle.std.specs.declared.alloc.AllocError.{AllocError}
 use Rattle.serde_json.specs.Written.{compact_text}
 use Rattle.gate_world.specs.Causes.{Hidden}
 use Rattle.email_bodies.specs.Asking.{BodyAsk, NoneAsked, AsksInVain, unanswered}
-use Rattle.email_bodies.proofs.Joins.{vain_at_once, vain_after}
+use Rattle.email_bodies.proofs.Joins.{vain_at_once, vain_after, vain_more}
 use Rattle.email_bodies.specs.declared.error.BodyError.TheVariants as body
 use Rattle.email_bodies.specs.declared.source.MessagePlace.{MessagePlace}
 use Rattle.email_get.specs.Asked.{AsksAnd, FailsAfter}
@@ -18,15 +18,36 @@ use Rattle.gate_calls.specs.declared.mail.Over.{Over}
 use Rattle.gate_calls.specs.Asking.{AsksAndMakes}
 use Rattle.gate_calls.specs.Calls.{AnswersCalls, FirstCallsAsk}
 use Rattle.mail_maps.specs.Rows.{Rows}
-use Rattle.gate_calls.specs.Mailings.{Mailing, MailAndUploads, AreOf}
+use Rattle.gate_calls.specs.Mailings.{Mailing, MailAndUploads, AreOf, IsMailOf}
+use Rattle.gate_calls.specs.declared.mail.Mail.{Mail}
+use Rattle.mail_state.specs.History.{MailHistory}
+use Rattle.mail_state.specs.State.{ServedRows}
+use Rattle.mail_state.specs.declared.state.MailState.{MailState}
 use Rattle.gate_calls.proofs.Due.{due_calls}
 use Rattle.gate_calls.proofs.Meaning.{mail_untold}
 use Rattle.gate_serving.specs.declared.door.Door.{Door}
 use Rattle.gate_serving.specs.declared.response.Response.{Response}
-use Rattle.gate_serving.specs.Answers.{Answer, DownloadAsks, IsDownload, IsResponse, calls_text, found_answer, json_answer, problem_answer, spelled, untold_problem}
-use Rattle.gate_serving.specs.Requests.{Account, Calls}
+use Rattle.gate_serving.specs.Answers.{Answer, AsksFirst, DownloadAsks, IsDownload, IsResponse, calls_text, found_answer, json_answer, problem_answer, spelled, untold_problem}
+use Rattle.gate_serving.specs.Requests.{Account, Asking, Calls, Download}
 use Rattle.gate_serving.specs.reading.Texts.{text_sent}
 use Rattle.gate_serving.proofs.Answering.{NoAnswer, NoLack}
+
+-- the rows of the code's mail are those of the mail
+told_rows : (over : Over) (state : Bor MailState) → over.mail ≡ code.Told state → (o : MailAndUploads) → AreOf o over
+    → (h : MailHistory) × (o.mail ≡ Ok h) × (state.now.rows.numbered.rows ≡ h.numbered.rows)
+told_rows over state is o of = by o.mail (subst (λ (x : Mail). IsMailOf o.mail x) is of.mail)
+  where
+    by : (mail : Mailing) → IsMailOf mail (code.Told state) → (h : MailHistory) × (mail ≡ Ok h) × (state.now.rows.numbered.rows ≡ h.numbered.rows)
+    by (Ok h) stands = (h, refl, ap (λ (rows : ServedRows). rows.numbered.rows) stands.rows)
+    by (Err e) never = absurd never
+
+-- what is found in them is found in the mail
+finds_over : (over : Over) (state : Bor MailState) (o : MailAndUploads) → AreOf o over → (h : MailHistory) → state.now.rows.numbered.rows ≡ h.numbered.rows
+    → {blob : List ℕ} {asks : List BodyAsk} {found : OctetsFound} → FindsBlob state.now.rows.numbered.rows over.uploads.now blob asks found
+    → FindsBlob h.numbered.rows o.uploads blob asks found
+finds_over over state o of h rows {blob} {asks} {found} finds =
+    subst (λ (u : List (List ℕ)). FindsBlob h.numbered.rows u blob asks found) of.uploads
+    (subst (λ (emails : Rows). FindsBlob emails over.uploads.now blob asks found) rows finds)
 
 module _ {S : Type 0} (Answers : S → MessagePlace → Option (List ℕ) → S → Type 0) (Lacks : S → MessagePlace → S → Type 0) where
   -- ---- downloads
@@ -76,6 +97,62 @@ module _ {S : Type 0} (Answers : S → MessagePlace → Option (List ℕ) → S 
   untold_made s door over e blob media (Err x) is text_is =
       vain_at_once Answers Lacks (λ asks. (o : MailAndUploads) → AreOf o over → DownloadAsks o.mail o.uploads blob asks) s
 
+  -- where it is told, by the state
+  pub told_made : (before after : S) (door : Door) (over : Over) (state : Bor MailState) (blob : List ℕ) (media : Option (List ℕ)) (made : Result Response AllocError)
+      → over.mail ≡ code.Told state
+      → AsksAndMakes Answers Lacks before after made (λ r asks. (found : OctetsFound) × FindsBlob state.now.rows.numbered.rows over.uploads.now blob asks found
+      × (text_sent r ≡ spelled door (found_answer found media))) (FailsAfter (FindsBlob state.now.rows.numbered.rows over.uploads.now blob))
+      → AsksAndMakes Answers Lacks before after made
+      (λ r asks. (o : MailAndUploads) → AreOf o over → (answer : Answer) × IsDownload o.mail o.uploads blob media asks answer × (text_sent r ≡ spelled door answer))
+      (λ asks. (o : MailAndUploads) → AreOf o over → DownloadAsks o.mail o.uploads blob asks)
+  told_made before after door over state blob media (Ok r) is makes =
+      record {
+        asks = makes.asks;
+        asked = makes.asked;
+        meant = λ o of.
+            let t = told_rows over state is o of in (
+              found_answer makes.meant.0 media,
+              subst (λ (mail : Mailing). IsDownload mail o.uploads blob media makes.asks (found_answer makes.meant.0 media)) (sym t.1)
+                  (makes.meant.0, finds_over over state o of t.0 t.2 makes.meant.1, refl),
+              makes.meant.2,
+            );
+      }
+  told_made before after door over state blob media (Err e) is makes =
+      vain_more Answers Lacks (FailsAfter (FindsBlob state.now.rows.numbered.rows over.uploads.now blob))
+      (λ asks. (o : MailAndUploads) → AreOf o over → DownloadAsks o.mail o.uploads blob asks) before after
+      (λ asks fails o of.
+      let t = told_rows over state is o of in
+      subst (λ (mail : Mailing). DownloadAsks mail o.uploads blob asks) (sym t.1) (fails.0, finds_over over state o of t.0 t.2 fails.1)) makes
+
+  -- the same as the response to what was asked
+  pub download_over : (before after : S) (door : Door) (account : Hidden → Account) (over : Over) (asking : Asking) (blob also : List ℕ) (media same : Option (List ℕ))
+      (made : Result Response AllocError) → asking ≡ Download blob media → also ≡ blob → same ≡ media
+      → AsksAndMakes Answers Lacks before after made
+      (λ r asks. (o : MailAndUploads) → AreOf o over → (answer : Answer) × IsDownload o.mail o.uploads also same asks answer × (text_sent r ≡ spelled door answer))
+      (λ asks. (o : MailAndUploads) → AreOf o over → DownloadAsks o.mail o.uploads also asks)
+      → AsksAndMakes Answers Lacks before after made
+      (λ r asks. (h : Hidden) (o : MailAndUploads) → AreOf o over → IsResponse door (account h) o asking asks (text_sent r))
+      (λ asks. (o : MailAndUploads) → AreOf o over → AsksFirst o asking asks)
+  download_over before after door account over asking blob also media same (Ok r) is blob_is media_is makes =
+      record {
+        asks = makes.asks;
+        asked = makes.asked;
+        meant = λ h o of.
+            let m = makes.meant o of in
+            subst (λ (a : Asking). IsResponse door (account h) o a makes.asks (text_sent r)) (sym is)
+            (record {
+              answer = m.0;
+              is_answer = subst (λ (b : List ℕ). IsDownload o.mail o.uploads b media makes.asks m.0) blob_is
+                  (subst (λ (k : Option (List ℕ)). IsDownload o.mail o.uploads also k makes.asks m.0) media_is m.1);
+              text_is = m.2;
+            });
+      }
+  download_over before after door account over asking blob also media same (Err e) is blob_is media_is makes =
+      vain_more Answers Lacks (λ asks. (o : MailAndUploads) → AreOf o over → DownloadAsks o.mail o.uploads also asks)
+      (λ asks. (o : MailAndUploads) → AreOf o over → AsksFirst o asking asks) before after
+      (λ asks begins o of.
+      subst (λ (a : Asking). AsksFirst o a asks) (sym is) (subst (λ (b : List ℕ). DownloadAsks o.mail o.uploads b asks) blob_is (begins o of))) makes
+
   -- ---- calls
 
   -- the text of an answer that has the responses to calls
@@ -110,6 +187,35 @@ module _ {S : Type 0} (Answers : S → MessagePlace → Option (List ℕ) → S 
       subst (λ (r : Result X AllocError). AsksAndMakes Answers Lacks before after r Means (λ asks. (o : MailAndUploads) → AreOf o over
       → FirstCallsAsk request.uses o request.calls asks)) (sym is)
       (subst (λ (cs : List CallData). AsksInVain Answers Lacks (λ asks. (o : MailAndUploads) → AreOf o over → FirstCallsAsk request.uses o cs asks) before after) calls_are vain)
+
+-- the response to method calls that were asked
+pub calls_over : {S : Type 0} (Answers : S → MessagePlace → Option (List ℕ) → S → Type 0) (Lacks : S → MessagePlace → S → Type 0) (before after : S) (door : Door)
+    (account : Hidden → Account) (user base : List ℕ) (over : Over) (asking : Asking) (request : RequestData) (made : Result Response AllocError)
+    → ((h : Hidden) → (user ≡ (account h).user) × (base ≡ (account h).base)) → asking ≡ Calls request
+    → AsksAndMakes Answers Lacks before after made (λ r asks. (o : MailAndUploads) → AreOf o over → (responses : List CallData)
+    × AnswersCalls request.uses o request.calls asks responses × (text_sent r ≡ spelled door (json_answer 200 (calls_text user base responses request))))
+    (λ asks. (o : MailAndUploads) → AreOf o over → FirstCallsAsk request.uses o request.calls asks)
+    → AsksAndMakes Answers Lacks before after made
+    (λ r asks. (h : Hidden) (o : MailAndUploads) → AreOf o over → IsResponse door (account h) o asking asks (text_sent r))
+    (λ asks. (o : MailAndUploads) → AreOf o over → AsksFirst o asking asks)
+calls_over Answers Lacks before after door account user base over asking request (Ok r) named is makes =
+    record {
+      asks = makes.asks;
+      asked = makes.asked;
+      meant = λ h o of.
+          let so = makes.meant o of in
+          let texts = named h in
+          subst (λ (a : Asking). IsResponse door (account h) o a makes.asks (text_sent r)) (sym is)
+          (record {
+            answer = json_answer 200 (calls_text (account h).user (account h).base so.0 request);
+            is_answer = (so.0, so.1, refl);
+            text_is = so.2 ∙ (λ i. spelled door (json_answer 200 (calls_text (texts.0 i) (texts.1 i) so.0 request)));
+          });
+    }
+calls_over Answers Lacks before after door account user base over asking request (Err e) named is makes =
+    vain_more Answers Lacks (λ asks. (o : MailAndUploads) → AreOf o over → FirstCallsAsk request.uses o request.calls asks)
+    (λ asks. (o : MailAndUploads) → AreOf o over → AsksFirst o asking asks) before after
+    (λ asks first o of. subst (λ (a : Asking). AsksFirst o a asks) (sym is) (first o of)) makes
 
 -- the response to calls that need no mail
 pub calls_without : {S : Type 0} (before after : S) (door : Door) (account : Hidden → Account) (user base : List ℕ) (over : Over) (o : MailAndUploads) (request : RequestData)

@@ -21,6 +21,7 @@ pub use following::follow;
 pub use imap_exchange::{LinkEnd, MAX_EXCHANGE_OCTETS, MAX_LIFE_OCTETS};
 pub use laws::{
     commands_are_sent_in_order, finished_fetches_are_whole, finished_lives_go_on,
-    finished_rounds_are_whole, no_bye_is_welcome, obeyed_plans_end_ok, one_fetch, one_round, one_run,
+    finished_rounds_are_whole, no_bye_is_welcome, obeyed_plans_end_ok, one_fetch, one_round,
+    one_run,
 };
 pub use plan::{Due, Plan, Refusal};

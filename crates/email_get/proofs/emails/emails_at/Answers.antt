@@ -1,4 +1,4 @@
-use Rattle.std.proofs.Common.{◌+◌, List, map, drop, get_or, Ok, Err, refl, sym}
+use Rattle.std.proofs.Common.{◌+◌, List, map, drop, get_or, Ok, refl, sym}
 use Rattle.std.proofs.lemmas.List.{drop_all, drop_more}
 use Rattle.serde_json.specs.View.{view}
 use Rattle.email_bodies.specs.Asking.{BodyAsk}

@@ -1,4 +1,4 @@
-use Rattle.std.proofs.Common.{Option, List, ℕ, Ok, Err, subst}
+use Rattle.std.proofs.Common.{Option, List, ℕ, Ok, subst}
 use Rattle.serde_json.specs.View.{view}
 use Rattle.email_bodies.specs.Asking.{BodyAsk}
 use Rattle.email_objects.specs.EmailObjects.{IsEmailObject}

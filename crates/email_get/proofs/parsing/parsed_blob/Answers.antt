@@ -1,4 +1,4 @@
-use Rattle.std.proofs.Common.{Option, List, ℕ, None, Some, Ok, Err, option_map, refl}
+use Rattle.std.proofs.Common.{Option, List, ℕ, None, Some, Ok, option_map, refl}
 use Rattle.serde_json.specs.View.{view}
 use Rattle.serde_json.specs.declared.value.Value.{Value}
 use Rattle.email_bodies.specs.Asking.{BodyAsk}
