@@ -157,13 +157,13 @@ make key name a some takes = cond-false (length name == 0) _ _ some ∙ cond-tru
 is_made : (key name : List ℕ) (a : Asked) (h : HeaderAsked) → header_asked key name (Some a) ≡ Some h → IsMade key name a h
 is_made key name a h is = elim (length name == 0) as (λ b. (length name == 0) ≡ b → cond {A = Option HeaderAsked} b None
     (cond (is_permitted name a.0) (Some (made key name a)) None) ≡ Some h → IsMade key name a h) [
-  | true ↦ λ none i. absurd cc
-  | false ↦ λ some i.
-      elim (is_permitted name a.0) as (λ b. is_permitted name a.0 ≡ b → cond b (Some (made key name a)) None ≡ Some h → IsMade key name a h) [
-        | true ↦ λ takes j. record { some = some; takes = takes; is = cc }
-        | false ↦ λ refused j. absurd cc
-      ] refl i
-] refl is
+      | true ↦ λ none i. absurd cc
+      | false ↦ λ some i.
+          elim (is_permitted name a.0) as (λ b. is_permitted name a.0 ≡ b → cond b (Some (made key name a)) None ≡ Some h → IsMade key name a h) [
+            | true ↦ λ takes j. record { some = some; takes = takes; is = cc }
+            | false ↦ λ refused j. absurd cc
+          ] refl i
+    ] refl is
 
 not_nil : (name : List ℕ) → name ≢ [] → (length name == 0) ≡ false
 not_nil name some = elim (length name == 0) as (λ b. (length name == 0) ≡ b → (length name == 0) ≡ false) [
