@@ -1,0 +1,24 @@
+-- What UID FETCH tells (RFC 9051 sections 6.4.5 and 6.4.9).
+use Rattle.std.specs.Prelude.{◌≡◌, ◌⊎◌, ℕ, ◌≤◌, Bool, true, List, Option, Some, None, All, IsSome}
+use Rattle.std.specs.List.{Any}
+use Rattle.imap_syntax.specs.declared.response.Response.{Response}
+use Rattle.imap_syntax.specs.declared.response.FetchItems.{FetchItems}
+use Rattle.honest_store.specs.StoreMail.{StoreMessage}
+use Rattle.honest_store.specs.Responses.{IsFetchOf}
+
+-- `from:*` has the last message too, whatever its UID (RFC 9051 section 9, seq-range)
+abbrev pub IsFromOn : ℕ → List StoreMessage → StoreMessage → Type 0
+IsFromOn from ms m = (from ≤ m.uid) ⊎ All (λ other. other.uid ≤ m.uid) ms
+
+-- all that a header fetch asks for
+pub record TellsHeader (with_modseq : Bool) (items : FetchItems) : Type 0 where
+  pub flags : IsSome items.flags
+  pub modseq : with_modseq ≡ true → IsSome items.modseq
+  pub date : IsSome items.date
+  pub size : IsSome items.size
+  pub header : IsSome items.header
+
+-- A folder is selected, and each of its messages that is asked for is told of in one response, with all the items that are asked for.
+abbrev pub TellsMessages : Option (List StoreMessage) → (List StoreMessage → StoreMessage → Type 0) → (FetchItems → Type 0) → List Response → Type 0
+TellsMessages None IsAsked Tells rs = ⊥
+TellsMessages (Some ms) IsAsked Tells rs = All (λ m. IsAsked ms m → Any (IsFetchOf m.uid Tells) rs) ms
