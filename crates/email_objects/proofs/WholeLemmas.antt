@@ -23,7 +23,8 @@ use Rattle.body_parts.proofs.WholeLemmas.{bodies_whole}
 use Rattle.body_parts.proofs.StepLemmas.{turn_whole}
 use Rattle.email_objects.specs.EmailObjects.{AddsBody}
 use Rattle.email_objects.specs.Facts.{FactsData}
-use Rattle.email_objects.specs.Properties.{email_id, thread_id, mailbox_ids, with_keywords, keywords_data, IsReceivedAt, IsConvenienceData, IsEmailPropertyData, PutsEmailProperty, PutsEmailProperties}
+use Rattle.email_objects.specs.Properties.{email_id, thread_id, mailbox_ids, with_keywords, keywords_data}
+use Rattle.email_objects.specs.Properties.{IsReceivedAt, IsConvenienceData, IsEmailPropertyData, PutsEmailProperty, PutsEmailProperties}
 
 -- ---- what is told of an Email alone
 

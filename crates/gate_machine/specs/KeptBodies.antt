@@ -26,11 +26,13 @@ TellsBody (Ends e asks a c d) b = ⊥
 TellsBody (HasEnded a c d e f) b = ⊥
 
 -- one of these did
-abbrev pub TellBody : {before : Progress} {asks : List BodyAsk} {events : List Event} {after : Progress} → AsksBodies before asks events after → ℕ × List ℕ → Type 0
+abbrev pub TellBody : {before : Progress} {asks : List BodyAsk} {events : List Event} {after : Progress}
+    → AsksBodies before asks events after → ℕ × List ℕ → Type 0
 TellBody NoBodies b = ⊥
 TellBody (MoreBodies next bodies) b = TellBody bodies b ⊎ TellsBody next.asks b
 
 -- one for the calls of a request did
-abbrev pub CallsTell : {before : Progress} {asks : List BodyAsk} {events : List Event} {after : Progress} → CallsAsk before asks events after → ℕ × List ℕ → Type 0
+abbrev pub CallsTell : {before : Progress} {asks : List BodyAsk} {events : List Event} {after : Progress}
+    → CallsAsk before asks events after → ℕ × List ℕ → Type 0
 CallsTell (AllAsked bodies) b = TellBody bodies b
 CallsTell (RunsShort short) b = TellBody short.asked b

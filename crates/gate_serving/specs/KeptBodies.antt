@@ -15,8 +15,8 @@ use Rattle.gate_serving.specs.Segment.{Replies, Answered, LacksReading, LacksAns
 use Rattle.gate_serving.specs.Work.{Work, NoMail, WithMail}
 
 -- a fetch for the request told these octets as the body of this Email
-abbrev pub WorkTells : {account : Account} {before : MachineState} {asking : Asking} {events : List Event} {mail : Mailing} {asks : List BodyAsk} {after : Progress}
-    → Work account before asking events mail asks after → ℕ × List ℕ → Type 0
+abbrev pub WorkTells : {account : Account} {before : MachineState} {asking : Asking} {events : List Event} {mail : Mailing} {asks : List BodyAsk}
+    {after : Progress} → Work account before asking events mail asks after → ℕ × List ℕ → Type 0
 WorkTells (NoMail a b c d e) body = ⊥
 WorkTells (WithMail a work) body = CallsTell work.calls_ask body
 

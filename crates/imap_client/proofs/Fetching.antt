@@ -85,7 +85,8 @@ module _ (folder uid : ℕ) where
   fetch_ok : (m : Mail) (x : Exchange) → x.status ≡ status.Ok → body_step folder uid (state_at stage.Fetching m) x ≡ state_at (fetched (last_body uid x.responses)) (tell m x)
   fetch_ok m x ok = rw ok refl
 
-  fetch_from : (m : Mail) (xs : List Exchange) (octets : List ℕ) → Asked (state_at stage.Fetching m) xs → ends_at (state_at stage.Fetching m) xs ≡ stage.Fetched octets → FetchIs m xs octets
+  fetch_from : (m : Mail) (xs : List Exchange) (octets : List ℕ) → Asked (state_at stage.Fetching m) xs
+      → ends_at (state_at stage.Fetching m) xs ≡ stage.Fetched octets → FetchIs m xs octets
   fetch_from m [] octets asked done = absurd (let never : stage.Fetching ≡ stage.Fetched octets = done in cc)
   fetch_from m (x ∷ xs) octets (here, asked) done = elim (ok_or_not x.status) as (λ c. FetchIs m (x ∷ xs) octets) [
     | inl ok ↦

@@ -19,5 +19,6 @@ pub record GathersBlobs (shown : List ShownBlob) (g : GatheredBlobs) : Type 0 wh
 
 -- what is gathered of the blobs with these ids
 abbrev pub GathersThese : Rows → List (List ℕ) → EmailAsked → List (List ℕ) → List BodyAsk → Result GatheredBlobs MethodError → Type 0
-GathersThese emails uploads wanted ids asks (Ok g) = (shown : List ShownBlob) × ShowsAll (ShowsBlob emails uploads wanted) ids asks (Ok shown) × GathersBlobs shown g
+GathersThese emails uploads wanted ids asks (Ok g) =
+    (shown : List ShownBlob) × ShowsAll (ShowsBlob emails uploads wanted) ids asks (Ok shown) × GathersBlobs shown g
 GathersThese emails uploads wanted ids asks (Err e) = ShowsAll (ShowsBlob emails uploads wanted) ids asks (Err e)
