@@ -1,0 +1,11 @@
+-- Words in texts, where A to Z count as a to z (RFC 8621 section 4.4.1).
+use Rattle.std.specs.Prelude.{◌≡◌, ℕ, List, ◌++◌}
+use Rattle.text_words.specs.Octets.{SameText}
+
+-- a part of the text is the word
+pub record HasWord (word text : List ℕ) : Type 0 where
+  pub before : List ℕ
+  pub found : List ℕ
+  pub after : List ℕ
+  pub whole : text ≡ before ++ (found ++ after)
+  pub same : SameText found word
