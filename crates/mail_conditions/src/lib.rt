@@ -9,8 +9,6 @@ mod mailbox_condition;
 mod entry;
 mod mailboxes;
 mod records;
-#[cfg(test)]
-mod tests;
 mod threads;
 mod words;
 

@@ -8,8 +8,6 @@ mod window;
 
 // Laws.
 pub mod laws;
-#[cfg(test)]
-mod tests;
 
 pub use filter::FilterOperator;
 pub use groups::{GroupedRow, first_of_each};

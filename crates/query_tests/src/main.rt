@@ -1,0 +1,99 @@
+//! What queries are made of: reads rows from standard input, Emails, Mailboxes, conditions and lists, and prints which of them
+//! each condition takes, and which part of a list is asked. The legend stands at the top of the file `stdin`, and what has to
+//! come of its rows in the file `stdout`.
+#![tactic(auto)]
+
+// Emails and Mailboxes of lines.
+mod mail;
+
+// What is asked of them, of texts and of lists.
+mod emails;
+mod mailboxes;
+mod windows;
+
+use mail_conditions::has_word;
+use mail_maps::{EmailRow, MailboxRow};
+use std::alloc::{AllocError, Global};
+use std::io;
+use told_dialogues::first_word;
+
+/// Adds whether the word stands in the text, which are parted by `|`.
+fn put_found(line: &str, out: &mut String) -> Result<(), AllocError> {
+    let (word, text) = line.split_once('|').unwrap_or((line, ""));
+    match has_word(word.as_bytes(), text.as_bytes()) {
+        true => out.push_str(" yes"),
+        false => out.push_str(" no"),
+    }
+}
+
+/// The Emails and Mailboxes of the rows so far.
+#[derive(Drop)]
+struct Rows {
+    emails: Vec<EmailRow>,
+    mailboxes: Vec<MailboxRow>,
+    alloc: Global,
+}
+
+impl Rows {
+    /// Adds which Emails or Mailboxes a condition takes.
+    fn put_taken(&self, name: &str, argument: &str, out: &mut String) -> Result<(), AllocError> {
+        match name {
+            "mailboxes" => mailboxes::put_taken(self.alloc, &self.mailboxes, argument, out),
+            _ => emails::put_taken(self.alloc, &self.emails, name, argument, out),
+        }
+    }
+
+    /// Adds what is asked, and the answer.
+    fn answer(&self, line: &str, out: &mut String) -> Result<(), AllocError> {
+        let (name, argument) = first_word(line);
+        write!(out, "{line} ->")?;
+        match name {
+            "word" => put_found(argument, out)?,
+            "position" => windows::put_by_position(self.alloc, argument, out)?,
+            "anchor" => windows::put_by_anchor(self.alloc, argument, out)?,
+            "windows" => windows::put_sweep(self.alloc, argument, out)?,
+            "groups" => windows::put_groups(self.alloc, argument, out)?,
+            _ => self.put_taken(name, argument, out)?,
+        }
+        out.push('\n')
+    }
+
+    /// Does what a line says, and adds what comes of it.
+    fn take(&mut self, line: &str, out: &mut String) -> Result<(), AllocError> {
+        let (word, rest) = first_word(line);
+        match word {
+            "" | "#" => Ok(()),
+            "=" => writeln!(out, "{line}"),
+            "email" => {
+                self.emails.push(mail::email_of(self.alloc, rest)?)?;
+                Ok(())
+            }
+            "mailbox" => {
+                self.mailboxes.push(mail::mailbox_of(self.alloc, rest)?)?;
+                Ok(())
+            }
+            _ => self.answer(line, out),
+        }
+    }
+}
+
+/// What comes of all lines.
+fn answers(alloc: Global, lines: &str) -> Result<String, AllocError> {
+    let mut rows = Rows {
+        emails: Vec::new(alloc),
+        mailboxes: Vec::new(alloc),
+        alloc,
+    };
+    let mut out = String::new(alloc);
+    for line in lines.lines() {
+        rows.take(line, &mut out)?;
+    }
+    Ok(out)
+}
+
+fn main(rt: HostRuntime) -> Result<(), anyhow::Error> {
+    let lines = io::read_to_string(rt.alloc(), rt.reader())?;
+    let out = answers(rt.alloc(), &lines)?;
+    print!(rt; "{out}")?;
+    Ok(())
+}
