@@ -105,7 +105,7 @@ pub trait Front: Taped {
         ensures cause { OnErr result (Rose (Self.faults self.old).front (Self.faults self.new).front) }
         ensures hidden { Self.hidden self.new ≡ Self.hidden self.old };
 
-    /// The answer to this client is whole, and nothing more is sent to it. It can't fail.
+    /// This client is done with: nothing more is sent to it, whatever part of an answer it got. It can't fail.
     fn finish(&mut self)
         ensures tape { AddsOne (Self.tape self.old) (Self.tape self.new) ClientDone }
         ensures cause { NoFault (Self.faults self.old) (Self.faults self.new) }

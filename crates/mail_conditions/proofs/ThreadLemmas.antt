@@ -7,7 +7,8 @@ use Rattle.mail_conditions.specs.Entries.{email_at, emails_at}
 use Rattle.mail_conditions.specs.ThreadKeywords.{has_in_thread, lacks_in_thread, some_in_thread_has, all_in_thread_have}
 use Rattle.mail_conditions.specs.declared.entry.EmailEntry.{EmailEntry}
 
-pub some_is : (keyword : List ℕ) (t : ℕ) (es : List EmailEntry) → list_any (λ (e : EmailEntry). has_in_thread keyword t (email_at e)) es ≡ some_in_thread_has (emails_at es) keyword t
+pub some_is : (keyword : List ℕ) (t : ℕ) (es : List EmailEntry)
+    → list_any (λ (e : EmailEntry). has_in_thread keyword t (email_at e)) es ≡ some_in_thread_has (emails_at es) keyword t
 some_is keyword t [] = refl
 some_is keyword t (e ∷ es) = ap (λ (b : Bool). has_in_thread keyword t (email_at e) || b) (some_is keyword t es)
 
@@ -16,7 +17,8 @@ neither true true c = refl
 neither true false c = refl
 neither false b c = refl
 
-pub all_is : (keyword : List ℕ) (t : ℕ) (es : List EmailEntry) → not (list_any (λ (e : EmailEntry). lacks_in_thread keyword t (email_at e)) es) ≡ all_in_thread_have (emails_at es) keyword t
+pub all_is : (keyword : List ℕ) (t : ℕ) (es : List EmailEntry)
+    → not (list_any (λ (e : EmailEntry). lacks_in_thread keyword t (email_at e)) es) ≡ all_in_thread_have (emails_at es) keyword t
 all_is keyword t [] = refl
 all_is keyword t (e ∷ es) =
     neither (nat_eq (email_at e).immutable.thread t) (has_name keyword (email_at e).keywords) (list_any (λ (r : EmailEntry). lacks_in_thread keyword t (email_at r)) es)

@@ -31,7 +31,8 @@ place_of word text h =
     let behind : drop (length h.before) text ≡ h.found ++ h.after = ap (drop (length h.before)) h.whole ∙ drop_at h.before (h.found ++ h.after) (length h.before) refl in
     let count : (length h.before + length word) - length h.before ≡ length h.found = omega (arith, long) in
     let part : slice_range text (length h.before) (length h.before + length word) ≡ h.found =
-    ap (λ (l : List ℕ). take ((length h.before + length word) - length h.before) l) behind ∙ take_at h.found h.after ((length h.before + length word) - length h.before) (sym count) in
+    ap (λ (l : List ℕ). take ((length h.before + length word) - length h.before) l) behind
+    ∙ take_at h.found h.after ((length h.before + length word) - length h.before) (sym count) in
     record {
       at = length h.before;
       within = omega (arith, long, ap length h.whole, length-append h.before (h.found ++ h.after), length-append h.found h.after);

@@ -30,7 +30,8 @@ passed_by : (first : List GroupedRow) (group : ℕ) (rows : List GroupedRow) →
 passed_by first group [] there = refl
 passed_by first group (x ∷ xs) there =
     elim (nat_eq group x.group) as (λ b. nat_eq group x.group ≡ b
-    → rows_left first (cond (not b) (x ∷ filter (is_of_other group) xs) (filter (is_of_other group) xs)) ≡ cond (not (has_group first x.group)) (x ∷ rows_left first xs) (rows_left first xs)) [
+    → rows_left first (cond (not b) (x ∷ filter (is_of_other group) xs) (filter (is_of_other group) xs))
+    ≡ cond (not (has_group first x.group)) (x ∷ rows_left first xs) (rows_left first xs)) [
       | true ↦ λ is.
           let there_too : has_group first x.group ≡ true = ap (has_group first) (sym (eqb-true group x.group is)) ∙ there in
           passed_by first group xs there ∙ sym (ap (λ (b : Bool). cond (not b) (x ∷ rows_left first xs) (rows_left first xs)) there_too)
@@ -45,7 +46,8 @@ taken_by first row (x ∷ xs) =
     let among : has_group (first ++ row ∷ []) x.group ≡ (has_group first x.group || (nat_eq row.group x.group || false)) =
     list_any-append (λ (r : GroupedRow). nat_eq r.group x.group) first (row ∷ []) in
     elim (nat_eq row.group x.group) as (λ b. has_group (first ++ row ∷ []) x.group ≡ (has_group first x.group || (b || false))
-    → rows_left first (cond (not b) (x ∷ filter (is_of_other row.group) xs) (filter (is_of_other row.group) xs)) ≡ cond (not (has_group (first ++ row ∷ []) x.group)) (x ∷ more) more) [
+    → rows_left first (cond (not b) (x ∷ filter (is_of_other row.group) xs) (filter (is_of_other row.group) xs))
+    ≡ cond (not (has_group (first ++ row ∷ []) x.group)) (x ∷ more) more) [
       | true ↦ λ is. taken_by first row xs ∙ sym (ap (λ (b : Bool). cond (not b) (x ∷ more) more) (is ∙ or_right (has_group first x.group) true refl))
       | false ↦ λ is.
           ap (λ (rest : List GroupedRow). cond (not (has_group first x.group)) (x ∷ rest) rest) (taken_by first row xs)
@@ -57,14 +59,16 @@ module _ (all rest first : List GroupedRow) (row : GroupedRow) (so_far : first_o
   pub seen_before : has_group first row.group ≡ true → first_of_each all ≡ first ++ rows_left first (first_of_each rest)
   seen_before there =
       so_far
-      ∙ ap (λ (b : Bool). first ++ cond (not b) (row ∷ rows_left first (filter (is_of_other row.group) (first_of_each rest))) (rows_left first (filter (is_of_other row.group) (first_of_each rest)))) there
+      ∙ ap (λ (b : Bool). first ++ cond (not b) (row ∷ rows_left first (filter (is_of_other row.group) (first_of_each rest)))
+      (rows_left first (filter (is_of_other row.group) (first_of_each rest)))) there
       ∙ ap (λ (l : List GroupedRow). first ++ l) (passed_by first row.group (first_of_each rest) there)
 
   -- one of a new group
   pub seen_first : has_group first row.group ≡ false → first_of_each all ≡ (first ++ row ∷ []) ++ rows_left (first ++ row ∷ []) (first_of_each rest)
   seen_first new =
       so_far
-      ∙ ap (λ (b : Bool). first ++ cond (not b) (row ∷ rows_left first (filter (is_of_other row.group) (first_of_each rest))) (rows_left first (filter (is_of_other row.group) (first_of_each rest)))) new
+      ∙ ap (λ (b : Bool). first ++ cond (not b) (row ∷ rows_left first (filter (is_of_other row.group) (first_of_each rest)))
+      (rows_left first (filter (is_of_other row.group) (first_of_each rest)))) new
       ∙ ap (λ (l : List GroupedRow). first ++ row ∷ l) (taken_by first row (first_of_each rest))
       ∙ sym (append_assoc first (row ∷ []) (rows_left (first ++ row ∷ []) (first_of_each rest)))
 

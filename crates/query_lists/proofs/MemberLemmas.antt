@@ -36,7 +36,8 @@ module _ {K : Type 0} where
   at_member P (x ∷ xs) all e (inr h) = at_member P xs all.1 e h
 
   module _ (p : K → Bool) where
-    kept_first : (x e : K) (xs : List K) → p x ≡ true → ((IsMember e (filter p xs) → IsMember e xs × (p e ≡ true))) → (x ≡ e) ⊎ IsMember e (filter p xs) → ((x ≡ e) ⊎ IsMember e xs) × (p e ≡ true)
+    kept_first : (x e : K) (xs : List K) → p x ≡ true → ((IsMember e (filter p xs) → IsMember e xs × (p e ≡ true))) → (x ≡ e) ⊎ IsMember e (filter p xs)
+        → ((x ≡ e) ⊎ IsMember e xs) × (p e ≡ true)
     kept_first x e xs passes rest (inl is) = (inl is, subst (λ k. p k ≡ true) is passes)
     kept_first x e xs passes rest (inr h) = (inr (rest h).0, (rest h).1)
 

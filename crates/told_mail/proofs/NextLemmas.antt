@@ -28,7 +28,7 @@ use Rattle.told_mail.specs.declared.mirror.listing.TheConstants.{MAX_FOLDER_NUMB
 use Rattle.told_mail.specs.reading.Names.{AllFree, AreApart}
 use Rattle.told_mail.proofs.LineLemmas.{line_name}
 use Rattle.told_mail.proofs.NameLemmas.{named_held, named_there, free_added, free_new, apart_new}
-use Rattle.told_mail.proofs.KeptLemmas.{sorted_names, sorted_apart}
+use Rattle.told_mail.proofs.SortedLemmas.{sorted_names, sorted_apart}
 use Rattle.told_mail.proofs.NumberLemmas.{same_least, one_more_least, numbers_stay, numbers_filter, numbers_told, next_by, next_mail_joins}
 use Rattle.told_mail.proofs.OnceLemmas.{IsOnce, once_less, once_more, mark_at, mark_put, mark_cut, mark_held, messages_from, marks_from}
 use Rattle.told_mail.proofs.OnceLemmas.{StoodAs, NamesDiffer, marks_stood, stood_listed, stood_cut, stood_put, names_less, had_with}

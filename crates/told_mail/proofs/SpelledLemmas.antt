@@ -8,7 +8,7 @@ use Rattle.imap_syntax.specs.Items.Item.{Uid, Flags, ModSeq, Date, Size, Header,
 use Rattle.imap_syntax.specs.Octets.{is_text}
 use Rattle.imap_syntax.specs.Spells.{IsItemsLine, IsSpelling}
 use Rattle.told_folder.proofs.KeyedLemmas.{some_same, some_is_not_none}
-use Rattle.told_mail.proofs.KeptLemmas.{kept_again}
+use Rattle.imap_syntax.proofs.KeptLemmas.{kept_again}
 
 -- the flags that are told are in kept form, and the UID fits
 pub record AreFine (items : FetchItems) : Type 0 where

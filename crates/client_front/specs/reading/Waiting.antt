@@ -92,7 +92,8 @@ MakesRoom {S} shows idle asking closed left asks = (rest : List (Idle S)) × Ask
 -- whether there is room for one more client: it is made where there is none
 abbrev pub FindsRoom : {S : Type 0} → (S → First → Type 0) → List (Idle S) → List S → Bool → List (Idle S) → List S → Type 0
 FindsRoom shows idle asking found left asks =
-    ((is_full idle asking ≡ false) × (found ≡ true) × (left ≡ idle) × (asks ≡ asking)) ⊎ ((is_full idle asking ≡ true) × MakesRoom shows idle asking found left asks)
+    ((is_full idle asking ≡ false) × (found ≡ true) × (left ≡ idle) × (asks ≡ asking))
+    ⊎ ((is_full idle asking ≡ true) × MakesRoom shows idle asking found left asks)
 
 abbrev pub held_if : {I : Type 0} → Bool → I → List I → List I
 held_if true client idle = idle ++ client ∷ []

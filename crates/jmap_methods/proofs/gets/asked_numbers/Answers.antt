@@ -12,5 +12,6 @@ returns-in_ok-numbers_with-in-Some-clause-asked g c =
 pub returns-in_ok-numbers-in-None-clause-asked : goal.returns-in_ok-numbers-in-None-clause-asked
 returns-in_ok-numbers-in-None-clause-asked g c =
     let there = g.T.Numbers.numbers c.args.there.now in
-    rw c.in-None.is (asked_by_null c.args.letter there c.in_ok-numbers-in-None.numbers.items (map (λ t. t.now) c.new-missing.result.items) c.count-count.result c.in_ok-check_count-in-None.field-0
+    rw c.in-None.is (asked_by_null c.args.letter there c.in_ok-numbers-in-None.numbers.items (map (λ t. t.now) c.new-missing.result.items)
+    c.count-count.result c.in_ok-check_count-in-None.field-0
     c.in_ok-check_count-in-None.ensures c.count-count.ensures.count c.in_ok-numbers-in-None.ensures (none_seen c.new-missing.result.items (λ t. t.now) c.new-missing.ensures.items))
