@@ -3,7 +3,7 @@ use Rattle.std.specs.Prelude.{◌≡◌, ◌⊎◌, ◌<◌, ◌++◌, ℕ, List
 use Rattle.std.specs.Str.Lossy.{utf8_lossy}
 use Rattle.gate_world.specs.declared.event.Event.{Event}
 use Rattle.blob_store.specs.declared.store.TheConstants.{MAX_UPLOAD_OCTETS}
-use Rattle.http_routes.specs.Routing.{route_of}
+use Rattle.http_routes.specs.Routing.{IsRoute}
 use Rattle.http_routes.specs.declared.route.Route.{Route}
 use Rattle.http_routes.specs.declared.route.Route.TheVariants as route
 use Rattle.http_service.specs.ReadBody.{ReadsBody}
@@ -24,8 +24,8 @@ IsLetIn token None = ⊥
 IsLetIn token (Some sent) = (sent ≡ token) × (0 < length token)
 
 -- A head's target is UTF-8, which the lossy reading keeps.
-abbrev pub route_of_head : List ℕ → Head → Route
-route_of_head account head = route_of account head.method (utf8_lossy head.path) (utf8_lossy head.query)
+abbrev pub IsRouteOfHead : List ℕ → Head → Route → Type 0
+IsRouteOfHead account head route = IsRoute account head.method (utf8_lossy head.path) (utf8_lossy head.query) route
 
 -- the type of what has none (RFC 9110 section 8.3)
 abbrev pub octet_stream : List ℕ
@@ -75,11 +75,17 @@ RouteAsks (route.Download blob name media) head rest result events = AsksAlone (
 RouteAsks route.NotFound head rest result events = AsksAlone (Refused refusal.NotFound) result events
 RouteAsks route.MethodNotAllowed head rest result events = AsksAlone (Refused refusal.MethodNotAllowed) result events
 
+-- what a request asks that is let in: what one of its route does
+pub record AsksByRoute (account : List ℕ) (head : Head) (rest : List ℕ) (result : Result HttpAsking AskError) (events : List Event) : Type 0 where
+  pub found : Route
+  pub is_route : IsRouteOfHead account head found
+  pub asks : RouteAsks found head rest result events
+
 -- what a request with this head asks: the token comes before the route
 abbrev pub HeadAsks : List ℕ → List ℕ → Head → List ℕ → Result HttpAsking AskError → List Event → Type 0
 HeadAsks token account head rest result events =
     ((IsLetIn token head.token → ⊥) × AsksAlone (Refused refusal.Unauthorized) result events)
-    ⊎ (IsLetIn token head.token × (RouteAsks (route_of_head account head) head rest result events ⊎ LacksMemory result events))
+    ⊎ (IsLetIn token head.token × (AsksByRoute account head rest result events ⊎ LacksMemory result events))
 
 -- after what was read as a head, which left these octets
 abbrev pub AsksAfter : List ℕ → List ℕ → Result Head HttpError → List ℕ → Result HttpAsking AskError → List Event → Type 0

@@ -50,7 +50,7 @@ fn route_of_head(
     account: &[u8],
     head: &Head,
 ) -> Result<Route, AllocError>
-    ensures { IfOk result (λ route. route ≡ spec.route_of_head account.now head.now) }
+    ensures { IfOk result (λ route. spec.IsRouteOfHead account.now head.now route) }
 {
     let path = String::from_utf8_lossy(alloc, head.path.as_slice())?;
     let query = String::from_utf8_lossy(alloc, head.query.as_slice())?;

@@ -1,5 +1,5 @@
--- Which route a request has stands in Routing; the others are its parts.
+-- Routing says which route a request has, by Paths and Accept; reading is for private clauses and proofs.
 pub mod Accept
-pub mod Parts
 pub mod Paths
 pub mod Routing
+pub mod reading

@@ -1,27 +1,22 @@
--- The paths that there are, with what each is of.
-use Rattle.std.specs.Prelude.{ℕ, List, [], ◌∷◌, ◌++◌, Option, option_map, codes}
-use Rattle.matchit.specs.Rows.{RowsOf, param_token}
-use Rattle.matchit.specs.Router.{RouteOf}
-use Rattle.matchit.specs.Seek.{first}
-use Rattle.http_routes.specs.declared.router.Kind.{Kind}
-use Rattle.http_routes.specs.declared.router.Kind.TheVariants.{Session, Api, Upload, Download}
+-- The paths that there are, by what each is of (RFC 8620 sections 2, 3.1, 6.1 and 6.2).
+use Rattle.std.specs.Prelude.{◌≡◌, ◌≢◌, ◌++◌, ℕ, List, [], ◌∷◌, codes}
+use Rattle.std.specs.List.{AllByRecursion}
 
--- a path as matchit keeps it: octets, and a token for each part that isn't empty and has no slash; as it is written, and where the parts' names stand in that
-abbrev pub path_row : List ℕ → List ℕ → List (ℕ × ℕ) → Kind → List ℕ × RouteOf Kind
-path_row pattern text names kind = (pattern, record { pattern = pattern; text = text; names = names; value = kind })
+-- a part of a path as it was sent: an octet at least, none of them a slash
+abbrev pub IsPathPart : List ℕ → Type 0
+IsPathPart part = (part ≢ []) × AllByRecursion (λ octet. octet ≢ 47) part
 
-abbrev pub upload_pattern : List ℕ
-upload_pattern = codes "/jmap/upload/" ++ param_token ∷ []
+-- What a path is of: an upload by its account; a download by its account, blob and name.
+pub data Resource : Type 0 where
+  SessionResource : Resource
+  ApiResource : Resource
+  UploadResource : List ℕ → Resource
+  DownloadResource : List ℕ → List ℕ → List ℕ → Resource
 
-abbrev pub download_pattern : List ℕ
-download_pattern = codes "/jmap/download/" ++ (param_token ∷ 47 ∷ param_token ∷ 47 ∷ param_token ∷ [])
-
-abbrev pub paths : RowsOf (RouteOf Kind)
-paths = path_row (codes "/.well-known/jmap") (codes "/.well-known/jmap") [] Session
-    ∷ path_row (codes "/jmap/api") (codes "/jmap/api") [] Api
-    ∷ path_row download_pattern (codes "/jmap/download/{account}/{blob}/{name}") ((16, 23) ∷ (26, 30) ∷ (33, 37) ∷ []) Download
-    ∷ path_row upload_pattern (codes "/jmap/upload/{account}") ((14, 21) ∷ []) Upload ∷ []
-
--- what a path is of
-abbrev pub kind_at : List ℕ → Option Kind
-kind_at path = option_map (λ found. found.value) (first paths path)
+-- the path is of this; its parts are as they were sent, with their escapes
+abbrev pub IsPath : Resource → List ℕ → Type 0
+IsPath SessionResource path = path ≡ codes "/.well-known/jmap"
+IsPath ApiResource path = path ≡ codes "/jmap/api"
+IsPath (UploadResource account) path = IsPathPart account × (path ≡ codes "/jmap/upload/" ++ account)
+IsPath (DownloadResource account blob name) path =
+    IsPathPart account × IsPathPart blob × IsPathPart name × (path ≡ codes "/jmap/download/" ++ (account ++ 47 ∷ (blob ++ 47 ∷ name)))

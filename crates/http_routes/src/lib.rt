@@ -12,6 +12,9 @@ mod request;
 mod route;
 mod token;
 
+// Laws.
+pub mod laws;
+
 pub use request::Request;
 pub use route::Route;
 pub use router::{Kind, Routes};

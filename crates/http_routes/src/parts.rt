@@ -1,6 +1,6 @@
 // Parts of a path, which slashes divide, and their escapes.
 ghost use Rattle.std.specs.Prelude.{◌≡◌, IfOk};
-ghost use Rattle.http_routes.specs.Parts as spec;
+ghost use Rattle.http_routes.specs.reading.Parts as spec;
 ghost use Rattle.percent_encoding.specs.Percent as percent;
 
 use crate::cutting::{after, before};

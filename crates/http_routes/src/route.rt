@@ -1,6 +1,10 @@
 // Which route a request has.
-ghost use Rattle.std.specs.Prelude.{◌≡◌, IfOk, bytes_eq};
+ghost use Rattle.std.specs.Prelude.{◌≡◌, IfOk, Some, bytes_eq};
+ghost use Rattle.http_routes.specs.Paths.{UploadResource, DownloadResource};
 ghost use Rattle.http_routes.specs.Routing as spec;
+ghost use Rattle.http_routes.specs.Routing.{IsRoute};
+ghost use Rattle.http_routes.specs.reading.Finding.{resource_of};
+ghost use Rattle.http_routes.specs.reading.Parts as reading;
 
 use crate::accept::media_in;
 use crate::parts::{account_part, blob_part, decoded, name_part};
@@ -51,7 +55,7 @@ fn of_method(method: &[u8], wanted: &[u8], route: Route) -> Route
 
 /// Whether the path is of the account.
 fn is_of_account(alloc: Global, account: &[u8], path: &str) -> Result<bool, AllocError>
-    ensures { IfOk result (λ same. same ≡ spec.is_of_account account.now path.now) }
+    ensures { IfOk result (λ same. same ≡ spec.names_account account.now (reading.account_part path.now)) }
 {
     let named = decoded(alloc, account_part(path))?;
     Ok(named.as_slice() == account)
@@ -59,7 +63,8 @@ fn is_of_account(alloc: Global, account: &[u8], path: &str) -> Result<bool, Allo
 
 /// The download that the path and the query name.
 fn download(alloc: Global, request: Request<'_>) -> Result<Route, AllocError>
-    ensures { IfOk result (λ route. route ≡ spec.download request.entry.path.now request.entry.query.now) }
+    ensures { IfOk result (λ route. route
+        ≡ spec.download (reading.blob_part request.entry.path.now) (reading.name_part request.entry.path.now) request.entry.query.now) }
 {
     Ok(Route::Download {
         blob: decoded(alloc, blob_part(request.path))?,
@@ -68,8 +73,10 @@ fn download(alloc: Global, request: Request<'_>) -> Result<Route, AllocError>
     })
 }
 
+/// The route to an upload, where the path is of one.
 fn upload(alloc: Global, account: &[u8], request: Request<'_>) -> Result<Route, AllocError>
-    ensures { IfOk result (λ route. route ≡ spec.upload_in account.now request.entry.method.now request.entry.path.now) }
+    ensures { IfOk result (λ route. route ≡ spec.route_to (Some (UploadResource (reading.account_part request.entry.path.now)))
+        account.now request.entry.method.now request.entry.query.now) }
 {
     if !is_of_account(alloc, account, request.path)? {
         return Ok(Route::NotFound);
@@ -77,8 +84,12 @@ fn upload(alloc: Global, account: &[u8], request: Request<'_>) -> Result<Route, 
     Ok(of_method(request.method, b"POST", Route::Upload))
 }
 
+/// The route to a download, where the path is of one.
 fn download_of(alloc: Global, account: &[u8], request: Request<'_>) -> Result<Route, AllocError>
-    ensures { IfOk result (λ route. route ≡ spec.download_in account.now request.entry.method.now request.entry.path.now request.entry.query.now) }
+    ensures { IfOk result (λ route. route ≡ spec.route_to
+        (Some (DownloadResource (reading.account_part request.entry.path.now) (reading.blob_part request.entry.path.now)
+        (reading.name_part request.entry.path.now)))
+        account.now request.entry.method.now request.entry.query.now) }
 {
     if !is_of_account(alloc, account, request.path)? {
         return Ok(Route::NotFound);
@@ -87,6 +98,25 @@ fn download_of(alloc: Global, account: &[u8], request: Request<'_>) -> Result<Ro
         return Ok(Route::MethodNotAllowed);
     }
     download(alloc, request)
+}
+
+/// The route of a request whose path is of this kind.
+fn route_of_kind(
+    alloc: Global,
+    account: &[u8],
+    kind: Option<Kind>,
+    request: Request<'_>,
+) -> Result<Route, AllocError>
+    ensures { IfOk result (λ route. route ≡ spec.route_to (resource_of kind request.entry.path.now)
+        account.now request.entry.method.now request.entry.query.now) }
+{
+    match kind {
+        None => Ok(Route::NotFound),
+        Some(Kind::Session) => Ok(of_method(request.method, b"GET", Route::Session)),
+        Some(Kind::Api) => Ok(of_method(request.method, b"POST", Route::Api)),
+        Some(Kind::Upload) => upload(alloc, account, request),
+        Some(Kind::Download) => download_of(alloc, account, request),
+    }
 }
 
 impl Routes {
@@ -98,14 +128,8 @@ impl Routes {
         account: &[u8],
         request: Request<'_>,
     ) -> Result<Route, AllocError>
-        ensures { IfOk result (λ route. route ≡ spec.route_of account.now request.entry.method.now request.entry.path.now request.entry.query.now) }
+        ensures { IfOk result (λ route. IsRoute account.now request.entry.method.now request.entry.path.now request.entry.query.now route) }
     {
-        match self.kind(request.path) {
-            None => Ok(Route::NotFound),
-            Some(Kind::Session) => Ok(of_method(request.method, b"GET", Route::Session)),
-            Some(Kind::Api) => Ok(of_method(request.method, b"POST", Route::Api)),
-            Some(Kind::Upload) => upload(alloc, account, request),
-            Some(Kind::Download) => download_of(alloc, account, request),
-        }
+        route_of_kind(alloc, account, self.kind(request.path), request)
     }
 }

@@ -1,7 +1,7 @@
 // The paths that there are.
 ghost use Rattle.std.specs.Prelude.{◌≡◌, ◌∷◌, [], IfOk, None, Some, option_map};
 ghost use Rattle.matchit.specs.Seek.{first};
-ghost use Rattle.http_routes.specs.Paths.{paths, kind_at};
+ghost use Rattle.http_routes.specs.reading.Table.{paths, kind_at};
 
 use matchit::{InsertError, Router};
 use std::alloc::{AllocError, Global};

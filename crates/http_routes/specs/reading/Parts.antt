@@ -1,4 +1,4 @@
--- Parts of a path, which slashes divide.
+-- Parts of a path that is an upload's or a download's, by its slashes.
 use Rattle.std.specs.Prelude.{ℕ, List, ◌==◌}
 use Rattle.std.specs.List.{before_first, after_first}
 
