@@ -33,7 +33,7 @@ route_of_target account head method path query (Ok route) same_method same_path 
 route_of_target account head method path query (Err e) same_method same_path same_query is = tt
 
 -- what a request asks that is let in and has this route
-pub route_asks : {token account rest : List ℕ} {head : Head} (route : Route) (result : Result HttpAsking AskError) (events : List Event) → IsLetIn token head.token
+pub route_asks : (token account rest : List ℕ) (head : Head) (route : Route) (result : Result HttpAsking AskError) (events : List Event) → IsLetIn token head.token
     → IsRouteOfHead account head route → RouteAsks route head rest result events ⊎ LacksMemory result events → HeadAsks token account head rest result events
-route_asks route result events let_in is (inl asks) = inr (let_in, inl (record { found = route; is_route = is; asks = asks }))
-route_asks route result events let_in is (inr lacks) = inr (let_in, inr lacks)
+route_asks token account rest head route result events let_in is (inl asks) = inr (let_in, inl (record { found = route; is_route = is; asks = asks }))
+route_asks token account rest head route result events let_in is (inr lacks) = inr (let_in, inr lacks)
