@@ -1,30 +1,36 @@
-// A script that both kinds of worlds follow.
+// Scripts that are written down as words.
 use scripted_world::Script;
-use std::alloc::Global;
-use std::process::Abort;
+use std::alloc::{AllocError, Global};
 
-/// The link lives, clients and words of the calls below, two of each.
-pub(crate) fn pairs(rt: &impl Abort, alloc: Global) -> Script {
-    with_clients(rt, with_links(rt, alloc))
-        .with_word(5)
-        .expect(rt, "memory")
-        .with_word(6)
-        .expect(rt, "memory")
+/// The script with what a word adds to it.
+fn with_word(script: Script, word: &str) -> Result<Script, AllocError> {
+    let (name, value) = word.split_once('=').unwrap_or((word, ""));
+    let number = value.parse::<u64>().unwrap_or(0);
+    match name {
+        "link" => script.with_link(value.as_bytes()),
+        "client" => script.with_client(value.as_bytes()),
+        "word" => script.with_word(number),
+        "failing" => script.failing(number),
+        "stop" => Ok(script.stopping_at(number)),
+        "piece" => Ok(script.in_pieces(number as usize)),
+        "secrets" => {
+            let (password, token) = value.split_once('/').unwrap_or((value, ""));
+            script.with_secrets(password.as_bytes(), token.as_bytes())
+        }
+        _ => Ok(script),
+    }
 }
 
-fn with_links(rt: &impl Abort, alloc: Global) -> Script {
-    Script::new(alloc)
-        .expect(rt, "memory")
-        .with_link(b"abc")
-        .expect(rt, "memory")
-        .with_link(b"defgh")
-        .expect(rt, "memory")
+/// The script with what each word adds to it, from first to last.
+pub(crate) fn with_words(mut script: Script, words: &str) -> Result<Script, AllocError> {
+    for word in words.split_whitespace() {
+        script = with_word(script, word)?;
+    }
+    Ok(script)
 }
 
-fn with_clients(rt: &impl Abort, script: Script) -> Script {
-    script
-        .with_client(b"xy")
-        .expect(rt, "memory")
-        .with_client(b"z")
-        .expect(rt, "memory")
+/// The script of these words and then of those.
+pub(crate) fn script_of(alloc: Global, given: &str, words: &str) -> Result<Script, AllocError> {
+    let script = with_words(Script::new(alloc)?, given)?;
+    with_words(script, words)
 }

@@ -1,0 +1,55 @@
+// Calls by letters: d, r, w and h for dial, read, write and hang_up, A, R, S and F for accept, recv, send and finish, n for a
+// word, and s for a text.
+use gate_world::{Chance, Console, Front, Link, World};
+use scripted_world::{ScriptWorld, SteadyWorld};
+
+/// Makes a call that has no failure.
+fn call_plainly<W: World>(world: &mut W, letter: u8) {
+    match letter {
+        b'h' => world.hang_up(),
+        b'F' => world.finish(),
+        b'n' => {
+            let _ = world.word();
+        }
+        _ => {}
+    }
+}
+
+/// Makes the call of the letter; false where it fails.
+pub(crate) fn call(world: &mut ScriptWorld, letter: u8) -> bool {
+    let mut room = [7u8; 4];
+    match letter {
+        b'd' => world.dial().is_ok(),
+        b'r' => world.read(&mut room).is_ok(),
+        b'w' => world.write(b"q").is_ok(),
+        b'A' => world.accept().is_ok(),
+        b'R' => world.recv(&mut room).is_ok(),
+        b'S' => world.send(b"Q").is_ok(),
+        b's' => world.say(b"!").is_ok(),
+        _ => {
+            call_plainly(world, letter);
+            true
+        }
+    }
+}
+
+/// Makes the call of the letter in a world in which none fails: the arm for a failure is proved to be out of reach.
+pub(crate) fn call_steadily(world: &mut SteadyWorld, letter: u8) {
+    let mut room = [7u8; 4];
+    let done = match letter {
+        b'd' => world.dial().is_ok(),
+        b'r' => world.read(&mut room).is_ok(),
+        b'w' => world.write(b"q").is_ok(),
+        b'A' => world.accept().is_ok(),
+        b'R' => world.recv(&mut room).is_ok(),
+        b'S' => world.send(b"Q").is_ok(),
+        b's' => world.say(b"!").is_ok(),
+        _ => {
+            call_plainly(world, letter);
+            true
+        }
+    };
+    if !done {
+        unreachable!();
+    }
+}
