@@ -25,31 +25,31 @@ pub(crate) fn touch(list: &mut ChangeList, entry: Entry) {
     }
 }
 
-/// Notes the touch of each word; where the first is a number, of the word behind it so many times.
-pub(crate) fn touch_all(list: &mut ChangeList, text: &str) {
-    let (times, last) = first_number(text);
-    for _ in 0..times {
-        touch(list, entry_of(last));
-    }
-    if times == 0 {
-        for word in text.split_whitespace() {
-            touch(list, entry_of(word));
-        }
+/// Notes the touch of each word.
+fn touch_all(list: &mut ChangeList, words: &str) {
+    for word in words.split_whitespace() {
+        touch(list, entry_of(word));
     }
 }
 
-/// Adds what the list answers of a place.
-pub(crate) fn put_answer(
-    list: &ChangeList,
+/// Does what a word says, and adds what comes of it.
+pub(crate) fn take(
+    list: &mut ChangeList,
     word: &str,
     text: &str,
     out: &mut String,
 ) -> Result<(), AllocError> {
-    let (place, most) = first_number(text);
+    let (number, rest) = first_number(text);
     match word {
-        "since" => write!(out, " {:?}", list.since(place, most.parse::<u64>().ok())),
-        "touched" => write!(out, " {:?}", list.touched(place)),
-        "holds" => write!(out, " {}", list.holds(place)),
-        _ => write!(out, " {} to {}", list.front(), list.place()),
+        "touch" => {
+            for _ in 0..number {
+                touch_all(list, rest);
+            }
+            Ok(())
+        }
+        "since" => write!(out, " -> {:?}", list.since(number, rest.parse::<u64>().ok())),
+        "touched" => write!(out, " -> {:?}", list.touched(number)),
+        "holds" => write!(out, " -> {}", list.holds(number)),
+        _ => write!(out, " -> {} to {}", list.front(), list.place()),
     }
 }

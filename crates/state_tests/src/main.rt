@@ -2,15 +2,12 @@
 //! top of the file `stdin`, and what has to come of its rows in the file `stdout`.
 #![tactic(auto)]
 
-// Base subjects.
+// Base subjects, and Threads of Emails.
 mod subjects;
-
-// Threads of Emails as they arrive.
 mod threads;
 
 // Changes: by rows, and at random beside a slow program.
 mod changes;
-mod history;
 mod walks;
 
 use change_list::ChangeList;
@@ -28,64 +25,42 @@ struct Rows {
 }
 
 impl Rows {
-    /// Begins again, with no changes and no Emails.
-    fn clear(&mut self) -> Result<(), AllocError> {
-        self.list = ChangeList::new(self.alloc)?;
-        self.threads = Threads::new(self.alloc);
-        Ok(())
+    fn new(alloc: Global) -> Result<Rows, AllocError> {
+        Ok(Rows {
+            list: ChangeList::new(alloc)?,
+            threads: Threads::new(alloc),
+            alloc,
+        })
     }
 
-    /// Adds what comes of a line.
-    fn answer(&mut self, word: &str, rest: &str, out: &mut String) -> Result<(), AllocError> {
+    /// Does what a word says, and adds what comes of it.
+    fn take(&mut self, word: &str, text: &str, out: &mut String) -> Result<(), AllocError> {
         match word {
-            "base" | "raw" | "normal" | "nested" | "normal-nested" => {
-                subjects::put_base(self.alloc, word, rest, out)
-            }
-            "since" | "touched" | "holds" | "places" => {
-                changes::put_answer(&self.list, word, rest, out)
-            }
-            "walk" => walks::put_walk(self.alloc, rest, out),
-            _ => self.threads.answer(word, rest, out),
-        }
-    }
-
-    /// Does what a line says, and adds what comes of it.
-    fn take(&mut self, line: &str, out: &mut String) -> Result<(), AllocError> {
-        let (word, rest) = first_word(line);
-        match word {
-            "" | "#" => Ok(()),
             "=" => {
-                self.clear()?;
-                writeln!(out, "{line}")
-            }
-            "touch" => {
-                changes::touch_all(&mut self.list, rest);
+                *self = Rows::new(self.alloc)?;
                 Ok(())
             }
-            "mail" => self.threads.keep(rest),
-            "forget" => {
-                self.threads.forget(rest);
-                Ok(())
+            "base" | "raw" | "form" => subjects::put_base(self.alloc, word, text, out),
+            "touch" | "since" | "touched" | "holds" | "places" => {
+                changes::take(&mut self.list, word, text, out)
             }
-            _ => {
-                write!(out, "{line} ->")?;
-                self.answer(word, rest, out)?;
-                out.push('\n')
-            }
+            "walk" => walks::put_walk(self.alloc, text, out),
+            _ => self.threads.take(word, text, out),
         }
     }
 }
 
-/// What comes of all lines.
+/// All lines, each with what comes of it.
 fn answers(alloc: Global, lines: &str) -> Result<String, AllocError> {
-    let mut rows = Rows {
-        list: ChangeList::new(alloc)?,
-        threads: Threads::new(alloc),
-        alloc,
-    };
+    let mut rows = Rows::new(alloc)?;
     let mut out = String::new(alloc);
     for line in lines.lines() {
-        rows.take(line, &mut out)?;
+        let (word, text) = first_word(line);
+        if word != "" && word != "#" {
+            out.push_str(line)?;
+            rows.take(word, text, &mut out)?;
+            out.push('\n')?;
+        }
     }
     Ok(out)
 }

@@ -4,15 +4,21 @@ use std::alloc::{AllocError, Global};
 use thread_rule::{Named, ThreadBook, base_subject};
 use told_dialogues::{first_number, first_word};
 
-/// The ids between commas; `-` stands for none, and `#` and a number for so many, of eight octets each.
-fn names_of(alloc: Global, ids: &str) -> Result<Names, AllocError> {
+/// So many ids, of eight octets each.
+fn numbered(alloc: Global, count: u64) -> Result<Names, AllocError> {
     let mut names = Names::new(alloc);
-    if let Some(count) = ids.strip_prefix('#') {
-        for id in 0..first_number(count).0 {
-            names.push(Bytes::copy_of(alloc, &id.to_le_bytes())?)?;
-        }
-        return Ok(names);
+    for id in 0..count {
+        names.push(Bytes::copy_of(alloc, &id.to_le_bytes())?)?;
     }
+    Ok(names)
+}
+
+/// The ids between commas; `-` stands for none, and `#` and a number for so many.
+fn names_of(alloc: Global, ids: &str) -> Result<Names, AllocError> {
+    if let Some(count) = ids.strip_prefix('#') {
+        return numbered(alloc, first_number(count).0);
+    }
+    let mut names = Names::new(alloc);
     for id in ids.split(',') {
         if id != "-" {
             names.push(Bytes::copy_of(alloc, id.as_bytes())?)?;
@@ -33,19 +39,21 @@ fn named_of(alloc: Global, email: u64, text: &str) -> Result<Named, AllocError> 
     })
 }
 
-/// The numbers of `FIRST-LAST`, or of one number.
-fn range_of(word: &str) -> (u64, u64) {
-    let (first, last) = word.split_once('-').unwrap_or((word, word));
-    (first_number(first).0, first_number(last).0)
-}
-
-/// Puts an Email that isn't there yet into the Thread that is found for it.
-fn take_in(book: &mut ThreadBook, new: Named) -> Result<u64, AllocError> {
+/// The Thread that is found for an Email, which is put into it if it isn't there yet.
+fn arrive(alloc: Global, book: &mut ThreadBook, email: u64, text: &str) -> Result<u64, AllocError> {
+    let new = named_of(alloc, email, text)?;
     let thread = book.find(&new);
-    if !book.contains(new.email) {
+    if !book.contains(email) {
         book.put(new, thread)?;
     }
     Ok(thread)
+}
+
+fn put_thread(email: u64, thread: u64, out: &mut String) -> Result<(), AllocError> {
+    if thread == email {
+        return out.push_str(" -> its own");
+    }
+    write!(out, " -> {thread}")
 }
 
 /// Emails in their Threads, and mail that arrives in one order and another.
@@ -65,50 +73,24 @@ impl Threads {
         }
     }
 
-    /// Keeps mail, which is one letter further than the one before.
-    pub(crate) fn keep(&mut self, text: &str) -> Result<(), AllocError> {
-        self.mail.push(String::from_str(self.alloc, text)?)?;
-        Ok(())
-    }
-
-    /// Takes Emails out.
-    pub(crate) fn forget(&mut self, text: &str) {
-        let (first, last) = range_of(text);
+    /// Takes Emails in, and adds the Thread of each but where that is told already.
+    fn arrive(
+        &mut self,
+        first: u64,
+        last: u64,
+        text: &str,
+        out: &mut String,
+    ) -> Result<(), AllocError> {
+        let mut told = None;
         for email in first..=last {
-            self.book.forget(email);
-        }
-    }
-
-    /// Adds the Thread of an Email, but where that has just been added.
-    fn put_thread(&self, email: u64, thread: u64, out: &mut String) -> Result<(), AllocError> {
-        let told = if thread == email {
-            String::from_str(self.alloc, " its own")?
-        } else {
-            format!(in self.alloc; " {thread}")?
-        };
-        if out.ends_with(told.as_str()) {
-            return Ok(());
-        }
-        out.push_str(&told)
-    }
-
-    /// Takes Emails in, and adds their Threads.
-    fn arrive(&mut self, text: &str, out: &mut String) -> Result<(), AllocError> {
-        let (emails, text) = first_word(text);
-        let (first, last) = range_of(emails);
-        for email in first..=last {
-            let new = named_of(self.alloc, email, text)?;
-            let thread = take_in(&mut self.book, new)?;
-            self.put_thread(email, thread, out)?;
+            let thread = arrive(self.alloc, &mut self.book, email, text)?;
+            let tells = Some((thread != email).then_some(thread));
+            if tells != told {
+                put_thread(email, thread, out)?;
+            }
+            told = tells;
         }
         Ok(())
-    }
-
-    /// Adds the Thread that is found for an Email.
-    fn find(&self, text: &str, out: &mut String) -> Result<(), AllocError> {
-        let (email, text) = first_number(text);
-        let new = named_of(self.alloc, email, text)?;
-        self.put_thread(email, self.book.find(&new), out)
     }
 
     /// Whether the mail that is kept comes into the Thread of the first in this order of arrival.
@@ -117,36 +99,50 @@ impl Threads {
         let mut one = true;
         for (place, letter) in order.as_bytes().iter().enumerate() {
             if let Some(text) = self.mail.get(letter.wrapping_sub(b'a') as usize) {
-                let new = named_of(self.alloc, place as u64, text.as_str())?;
-                one = take_in(&mut book, new)? == 0 && one;
+                one &= arrive(self.alloc, &mut book, place as u64, text.as_str())? == 0;
             }
         }
         Ok(one)
     }
 
-    /// Adds how many orders there are, and in how many of them all come into one Thread.
+    /// Adds in how many orders of arrival there is one Thread, and in how many there is not.
     fn put_orders(&self, orders: &str, out: &mut String) -> Result<(), AllocError> {
-        let (mut all, mut one) = (0u64, 0u64);
+        let mut counts = [0u64; 2];
         for order in orders.split_whitespace() {
-            all = all.saturating_add(1);
-            one = one.saturating_add(u64::from(self.is_one_thread(order)?));
+            let count = &mut counts[usize::from(self.is_one_thread(order)?)];
+            *count = count.saturating_add(1);
         }
-        write!(out, " {all} orders, one Thread in {one}")
+        write!(out, " -> one Thread in {}, more in {}", counts[1], counts[0])
     }
 
-    /// Adds what comes of a line.
-    pub(crate) fn answer(
+    /// Does what a word says, and adds what comes of it.
+    pub(crate) fn take(
         &mut self,
         word: &str,
         text: &str,
         out: &mut String,
     ) -> Result<(), AllocError> {
+        let (emails, rest) = first_word(text);
+        let (first, last) = emails.split_once('-').unwrap_or((emails, emails));
+        let (first, last) = (first_number(first).0, first_number(last).0);
         match word {
-            "arrive" => self.arrive(text, out),
-            "find" => self.find(text, out),
-            "contains" => write!(out, " {}", self.book.contains(first_number(text).0)),
-            "orders" => self.put_orders(text, out),
-            _ => out.push_str(" no such word"),
+            "arrive" => self.arrive(first, last, rest, out),
+            "find" => {
+                let new = named_of(self.alloc, first, rest)?;
+                put_thread(first, self.book.find(&new), out)
+            }
+            "forget" => {
+                for email in first..=last {
+                    self.book.forget(email);
+                }
+                Ok(())
+            }
+            "contains" => write!(out, " -> {}", self.book.contains(first)),
+            "mail" => {
+                self.mail.push(String::from_str(self.alloc, text)?)?;
+                Ok(())
+            }
+            _ => self.put_orders(text, out),
         }
     }
 }
