@@ -15,13 +15,13 @@ use std::io;
 /// What comes of all lines.
 fn answers(alloc: Global, lines: &str) -> Result<String, AllocError> {
     let mut out = String::new(alloc);
-    let mut given = "";
+    let mut given = String::new(alloc);
     for line in lines.lines() {
         let (word, rest) = line.split_once(' ').unwrap_or((line, ""));
         if word == "script" {
-            given = rest;
+            given = String::from_str(alloc, rest)?;
         } else {
-            rows::take(alloc, given, word, rest, &mut out)?;
+            rows::take(alloc, &given, word, rest, &mut out)?;
         }
     }
     Ok(out)
