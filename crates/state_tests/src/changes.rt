@@ -47,7 +47,11 @@ pub(crate) fn take(
             }
             Ok(())
         }
-        "since" => write!(out, " -> {:?}", list.since(number, rest.parse::<u64>().ok())),
+        "since" => write!(
+            out,
+            " -> {:?}",
+            list.since(number, rest.parse::<u64>().ok())
+        ),
         "touched" => write!(out, " -> {:?}", list.touched(number)),
         "holds" => write!(out, " -> {}", list.holds(number)),
         _ => write!(out, " -> {} to {}", list.front(), list.place()),

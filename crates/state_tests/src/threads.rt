@@ -43,7 +43,7 @@ fn named_of(alloc: Global, email: u64, text: &str) -> Result<Named, AllocError> 
 fn arrive(alloc: Global, book: &mut ThreadBook, email: u64, text: &str) -> Result<u64, AllocError> {
     let new = named_of(alloc, email, text)?;
     let thread = book.find(&new);
-    if !book.contains(email) {
+    if !book.contains(new.email) {
         book.put(new, thread)?;
     }
     Ok(thread)
@@ -112,7 +112,11 @@ impl Threads {
             let count = &mut counts[usize::from(self.is_one_thread(order)?)];
             *count = count.saturating_add(1);
         }
-        write!(out, " -> one Thread in {}, more in {}", counts[1], counts[0])
+        write!(
+            out,
+            " -> one Thread in {}, more in {}",
+            counts[1], counts[0]
+        )
     }
 
     /// Does what a word says, and adds what comes of it.

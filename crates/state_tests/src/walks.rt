@@ -1,4 +1,6 @@
 // Touches at random, and the answers of a slow program that goes by the definition alone.
+ghost use Rattle.std.specs.Prelude.{◌<◌, vec_len};
+
 use crate::changes::touch;
 use change_list::{ChangeList, Changes, Entry, Kind, SinceError};
 use gate_world::Listed;
@@ -61,7 +63,9 @@ impl Walk {
         Ok((id, Kind::Added))
     }
 
-    fn remove(&mut self, at: usize, place: usize) -> (usize, Kind) {
+    fn remove(&mut self, at: usize, place: usize) -> (usize, Kind)
+        requires { at < vec_len self.old.present }
+    {
         let id = self.present.swap_remove(at);
         if let Some(life) = self.lives.get_mut(id) {
             life.1 = place;
@@ -230,5 +234,9 @@ pub(crate) fn put_walk(alloc: Global, text: &str, out: &mut String) -> Result<()
             walk.compare(at.saturating_mul(step) as usize);
         }
     }
-    write!(out, " -> {} answers, {} refusals", walk.answers, walk.refusals)
+    write!(
+        out,
+        " -> {} answers, {} refusals",
+        walk.answers, walk.refusals
+    )
 }
