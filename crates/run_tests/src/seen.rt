@@ -1,113 +1,131 @@
-// What a run over a script comes to.
-use crate::scripts::words_of;
-use gate_world::{Bytes, Event, Watcher};
-use gateway::run;
-use scripted_world::{Script, ScriptWorld};
-use std::alloc::Global;
-use std::process::Abort;
+// What is told of a world.
+use gate_world::Event;
+use scripted_world::ScriptWorld;
+use std::alloc::{AllocError, Global};
+use told_dialogues::put_octets;
 
-fn append(rt: &impl Abort, text: &mut Vec<u8>, octets: &Bytes) {
-    text.extend_from_slice(octets.as_slice())
-        .expect(rt, "out of memory");
+/// What came of a command.
+#[derive(PartialEq, Drop)]
+pub(crate) struct Seen {
+    ended: String,
+    /// How many octets clients gave.
+    pub gave: usize,
+    /// What clients took, and what the store took, as texts.
+    took: String,
+    store: String,
+    dials: usize,
+    is_linked: bool,
+    /// What else is worth telling.
+    notes: String,
 }
 
-/// What a run came to.
-#[derive(Drop)]
-pub(crate) struct Seen {
-    pub(crate) status: u8,
-    pub(crate) client_gave: usize,
-    pub(crate) client_took: Vec<u8>,
-    pub(crate) store_took: Vec<u8>,
-    pub(crate) said: Vec<u8>,
-    pub(crate) dials: usize,
-    pub(crate) is_linked: bool,
-    /// Whether a client took octets while a link life had not ended.
-    pub(crate) was_early: bool,
-    pub(crate) front_failed: bool,
-    pub(crate) say_failed: bool,
+/// Adds the name of each event.
+pub(crate) fn put_names(
+    alloc: Global,
+    world: &ScriptWorld,
+    out: &mut String,
+) -> Result<(), AllocError> {
+    out.push_str("events:")?;
+    for event in world.events().unwrap_or(&[]) {
+        let text = format!(in alloc; "{event:?}")?;
+        let (name, _) = text.split_once('(').unwrap_or((text.as_str(), ""));
+        write!(out, " {name}")?;
+    }
+    out.push('\n')
+}
+
+/// How often one text stands in another.
+fn count_of(text: &str, part: &str) -> usize {
+    text.split(part).count().saturating_sub(1)
 }
 
 impl Seen {
-    fn new(alloc: Global, status: u8) -> Seen {
+    /// Nothing was done.
+    pub(crate) fn nothing(alloc: Global) -> Seen {
         Seen {
-            status,
-            client_gave: 0,
-            client_took: Vec::new(alloc),
-            store_took: Vec::new(alloc),
-            said: Vec::new(alloc),
+            ended: String::new(alloc),
+            gave: 0,
+            took: String::new(alloc),
+            store: String::new(alloc),
             dials: 0,
             is_linked: false,
-            was_early: false,
-            front_failed: false,
-            say_failed: false,
+            notes: String::new(alloc),
         }
     }
 
-    fn note(&mut self, rt: &impl Abort, event: &Event) {
-        self.note_client(rt, event);
-        self.note_store(rt, event);
-        self.note_console(rt, event);
+    /// What is told of a command that ended so.
+    pub(crate) fn new(
+        alloc: Global,
+        ended: String,
+        world: &ScriptWorld,
+    ) -> Result<Seen, AllocError> {
+        let mut seen = Seen::nothing(alloc);
+        seen.ended = ended;
+        for event in world.events().unwrap_or(&[]) {
+            seen.note(event)?;
+        }
+        Ok(seen)
     }
 
-    fn note_client(&mut self, rt: &impl Abort, event: &Event) {
+    /// A client took octets.
+    fn note_took(&mut self, octets: &[u8]) -> Result<(), AllocError> {
+        if self.is_linked {
+            self.notes.push_str(", early")?;
+        }
+        put_octets(&mut self.took, octets)
+    }
+
+    /// The console took a text.
+    fn note_said(&mut self, text: &[u8]) -> Result<(), AllocError> {
+        self.notes.push_str(", said ")?;
+        put_octets(&mut self.notes, text)
+    }
+
+    fn note(&mut self, event: &Event) -> Result<(), AllocError> {
+        match event {
+            Event::ClientTook(octets) => self.note_took(octets.as_slice()),
+            Event::StoreTook(octets) => put_octets(&mut self.store, octets.as_slice()),
+            Event::Said(text) => self.note_said(text.as_slice()),
+            Event::SayFailed => self.notes.push_str(", say failed"),
+            Event::FrontFailed => self.notes.push_str(", front failed"),
+            _ => {
+                self.count(event);
+                Ok(())
+            }
+        }
+    }
+
+    fn count(&mut self, event: &Event) {
         match event {
             Event::ClientGave(octets) => {
-                self.client_gave = self.client_gave.saturating_add(octets.as_slice().len());
+                self.gave = self.gave.saturating_add(octets.as_slice().len());
             }
-            Event::ClientTook(octets) => {
-                append(rt, &mut self.client_took, octets);
-                self.was_early = self.was_early || self.is_linked;
-            }
-            Event::FrontFailed => self.front_failed = true,
-            _ => {}
-        }
-    }
-
-    fn note_store(&mut self, rt: &impl Abort, event: &Event) {
-        match event {
             Event::Dialed => {
                 self.dials = self.dials.saturating_add(1);
                 self.is_linked = true;
             }
-            Event::StoreTook(octets) => append(rt, &mut self.store_took, octets),
             Event::LinkEnded => self.is_linked = false,
             _ => {}
         }
     }
 
-    fn note_console(&mut self, rt: &impl Abort, event: &Event) {
-        match event {
-            Event::Said(text) => append(rt, &mut self.said, text),
-            Event::SayFailed => self.say_failed = true,
-            _ => {}
-        }
+    /// Adds how it ended, and what clients took.
+    pub(crate) fn put(&self, alloc: Global, out: &mut String) -> Result<(), AllocError> {
+        let took = self.took.replace(alloc, "%0D%0A", "\n")?;
+        let left = if self.is_linked { ", linked" } else { "" };
+        let (ended, dials, notes) = (&self.ended, self.dials, &self.notes);
+        writeln!(out, "{ended}, dials {dials}{notes}{left}|{took}")
     }
-}
 
-/// What the tape tells of a run that ended with this status.
-pub(crate) fn seen_in(rt: &impl Abort, alloc: Global, status: u8, world: &ScriptWorld) -> Seen {
-    let mut seen = Seen::new(alloc, status);
-    for event in world.events().expect(rt, "the tape is not told") {
-        seen.note(rt, event);
+    /// Adds what the store took.
+    pub(crate) fn put_store(&self, alloc: Global, out: &mut String) -> Result<(), AllocError> {
+        let store = self.store.replace(alloc, "%0D%0A", "\n")?;
+        writeln!(out, "the store took: {store}")
     }
-    seen
-}
 
-/// The status of a run over these words.
-pub(crate) fn status_of(
-    rt: &impl Abort,
-    alloc: Global,
-    words: &str,
-    world: &mut ScriptWorld,
-) -> u8 {
-    let words = words_of(rt, alloc, words);
-    let mut watchers: Vec<Box<dyn Watcher>> = Vec::new(alloc);
-    run(&words, world, &mut watchers)
-}
-
-/// What a run over these words and this script comes to.
-pub(crate) fn follow(rt: &impl Abort, alloc: Global, words: &str, script: Script) -> Seen {
-    let mut world = ScriptWorld::new(alloc, script);
-    let status = status_of(rt, alloc, words, &mut world);
-    seen_in(rt, alloc, status, &world)
+    /// Adds how often this stands in what clients and the store took.
+    pub(crate) fn put_counts(&self, text: &str, out: &mut String) -> Result<(), AllocError> {
+        let (clients, store) = (count_of(&self.took, text), count_of(&self.store, text));
+        writeln!(out, "{text}: {clients} for clients, {store} for the store")
+    }
 }

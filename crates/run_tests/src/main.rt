@@ -1,0 +1,154 @@
+//! Whole runs of the program: reads rows from standard input, what stores and clients give and the words of a command, and
+//! prints what comes of a run over them. The legend stands at the top of the file `stdin`, and what has to come of its rows in
+//! the file `stdout`.
+#![tactic(auto)]
+
+// What stores and clients give.
+mod written;
+
+// What is done over it, and what comes of it.
+mod plays;
+mod seen;
+
+use email_objects::email_object;
+use gateway::read_words;
+use plays::{play, words_of};
+use seen::{Seen, put_names};
+use std::alloc::{AllocError, Global};
+use std::io;
+use told_dialogues::{first_number, first_word, octets_of, put_octets};
+use written::Written;
+
+/// Adds the task that these words name.
+fn put_task(alloc: Global, text: &str, out: &mut String) -> Result<(), AllocError> {
+    let words = words_of(alloc, text)?;
+    write!(out, "{text} -> ")?;
+    match read_words(alloc, &words) {
+        Ok(task) => writeln!(out, "{task:?}"),
+        Err(error) => writeln!(out, "{error}"),
+    }
+}
+
+/// Adds the Email object of a message.
+fn put_object(alloc: Global, text: &str, out: &mut String) -> Result<(), AllocError> {
+    let message = octets_of(alloc, text)?;
+    let object = email_object(alloc, &message)?;
+    put_octets(out, object.to_string(alloc)?.as_bytes())?;
+    out.push('\n')
+}
+
+/// What the rows so far have left.
+#[derive(Drop)]
+struct Rows {
+    written: Written,
+    seen: Seen,
+    alloc: Global,
+}
+
+impl Rows {
+    /// What comes of a command.
+    fn played(&self, command: &str) -> Result<Seen, AllocError> {
+        let mut world = self.written.world()?;
+        let ended = play(self.alloc, command, &mut world)?;
+        Seen::new(self.alloc, ended, &world)
+    }
+
+    /// Does a command, and adds what comes of it.
+    fn play(&mut self, line: &str, out: &mut String) -> Result<(), AllocError> {
+        self.seen = self.played(line)?;
+        self.seen.put(self.alloc, out)
+    }
+
+    /// Does a command, and adds what comes of it where that is something else than before.
+    fn play_again(
+        &mut self,
+        number: u64,
+        command: &str,
+        out: &mut String,
+    ) -> Result<(), AllocError> {
+        let seen = self.played(command)?;
+        if seen != self.seen {
+            write!(out, "{number}: ")?;
+            seen.put(self.alloc, out)?;
+        }
+        self.seen = seen;
+        Ok(())
+    }
+
+    /// Does a command for each number that is set.
+    fn each(&mut self, text: &str, out: &mut String) -> Result<(), AllocError> {
+        let (kind, text) = first_word(text);
+        let (last, command) = first_number(text);
+        writeln!(out, "{kind} 1 to {last}:")?;
+        for number in 1..=last {
+            self.written.set(kind, number);
+            self.play_again(number, command, out)?;
+        }
+        Ok(())
+    }
+
+    /// Does a command, and adds what was told of it.
+    fn put_events(&self, command: &str, out: &mut String) -> Result<(), AllocError> {
+        let mut world = self.written.world()?;
+        play(self.alloc, command, &mut world)?;
+        put_names(self.alloc, &world, out)
+    }
+
+    /// Adds what is asked.
+    fn answer(&self, word: &str, text: &str, out: &mut String) -> Result<(), AllocError> {
+        match word {
+            "gave" => writeln!(out, "clients gave {} octets", self.seen.gave),
+            "store" => self.seen.put_store(self.alloc, out),
+            "count" => self.seen.put_counts(text, out),
+            "events" => self.put_events(text, out),
+            "object" => put_object(self.alloc, text, out),
+            _ => put_task(self.alloc, text, out),
+        }
+    }
+
+    /// Does what a line says, and adds what comes of it.
+    fn take(&mut self, line: &str, out: &mut String) -> Result<(), AllocError> {
+        let (word, text) = first_word(line);
+        match word {
+            "" | "#" => Ok(()),
+            "=" => {
+                self.written.clear();
+                self.seen = Seen::nothing(self.alloc);
+                writeln!(out, "{line}")
+            }
+            "run" | "serve" | "begin" => self.play(line, out),
+            "each" => self.each(text, out),
+            "gave" | "store" | "count" | "events" | "object" | "task" => {
+                self.answer(word, text, out)
+            }
+            _ => self.written.take(word, text),
+        }
+    }
+
+    /// Does what a line says once names are what they stand for.
+    fn take_named(&mut self, line: &str, out: &mut String) -> Result<(), AllocError> {
+        let line = self.written.spelled(line)?;
+        self.take(&line, out)
+    }
+}
+
+/// What comes of all lines.
+fn answers(alloc: Global, lines: &str) -> Result<String, AllocError> {
+    let mut rows = Rows {
+        written: Written::new(alloc),
+        seen: Seen::nothing(alloc),
+        alloc,
+    };
+    let mut out = String::new(alloc);
+    for line in lines.lines() {
+        rows.take_named(line, &mut out)?;
+    }
+    Ok(out)
+}
+
+fn main(rt: HostRuntime) -> Result<(), anyhow::Error> {
+    let lines = io::read_to_string(rt.alloc(), rt.reader())?;
+    let out = answers(rt.alloc(), &lines)?;
+    print!(rt; "{out}")?;
+    Ok(())
+}
