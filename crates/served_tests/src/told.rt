@@ -1,252 +1,220 @@
-// A mirror that is told what a store says.
-use gate_world::{Bytes, Listed, Names};
-use imap_syntax::{Code, Command, FetchItems, Response, Status, UidRange, UidSet};
-use std::alloc::Global;
-use std::process::Abort;
-use told_mail::{Exchange, Folder, Message, Mirror};
+// Mail that a store tells.
+use gate_world::{Bytes, Names};
+use std::alloc::{AllocError, Global};
+use std::mem;
+use told_dialogues::{exchange_of, first_number, first_uid, first_word, octets_of};
+use told_mail::{Folder, Message, Mirror};
 
-/// A folder's name, delimiter and attributes.
-pub(crate) type Line = (&'static [u8], Option<u8>, &'static [&'static [u8]]);
+/// The greatest number of a folder, and the greatest mark.
+const LAST: u64 = 9_007_199_254_740_991;
 
-/// A message's UID, flags, date and header.
-pub(crate) type Mail = (u32, &'static [&'static [u8]], i64, &'static [u8]);
-
-/// What becomes of a store's mail.
-#[derive(Clone, Copy, Debug, Drop)]
-pub(crate) enum Told {
-    /// There are these folders, and no others.
-    Folders(&'static [Line]),
-    /// The folder's validity. Where it is another one, no message that was there is left.
-    Validity(&'static [u8], u32),
-    /// A message of the folder. Where its UID is held, its flags alone are taken.
-    Mail(&'static [u8], Mail),
-    Gone(&'static [u8], u32),
-    /// The message of a mark moves to the folder of a number and has this UID there. It loses its flags.
-    Moved(u64, u64, u32),
-    /// The folder of a number has another name.
-    Renamed(u64, &'static [u8]),
+/// The mail that was told.
+#[derive(Drop)]
+pub(crate) struct Told {
+    pub mirror: Mirror,
+    /// Whether all was told, moved and named.
+    pub is_right: bool,
+    /// What was told last.
+    pub last: Vec<u8>,
+    /// What the store sends next, as it is written down.
+    octets: Vec<u8>,
+    alloc: Global,
 }
 
-pub(crate) const INBOX: Line = (b"INBOX", Some(b'/'), &[]);
-
-fn bytes(rt: &impl Abort, alloc: Global, octets: &[u8]) -> Bytes {
-    Bytes::copy_of(alloc, octets).expect(rt, "memory")
+/// The texts before and after the first `|`.
+fn parted(text: &str) -> (&str, &str) {
+    text.split_once('|').unwrap_or((text, ""))
 }
 
-fn names(rt: &impl Abort, alloc: Global, words: &[&[u8]]) -> Names {
-    let mut names = Names::new(alloc);
-    for word in words {
-        names.push(bytes(rt, alloc, word)).expect(rt, "memory");
+impl Told {
+    pub(crate) fn new(alloc: Global) -> Told {
+        Told {
+            mirror: Mirror::new(alloc),
+            is_right: true,
+            last: Vec::new(alloc),
+            octets: Vec::new(alloc),
+            alloc,
+        }
     }
-    names
-}
 
-/// Tells responses of a command that is OK.
-pub(crate) fn tell(
-    rt: &impl Abort,
-    alloc: Global,
-    mirror: &mut Mirror,
-    command: Command,
-    selected: &[u8],
-    responses: Vec<Response>,
-) {
-    let exchange = Exchange {
-        command,
-        selected: Some(bytes(rt, alloc, selected)),
-        responses: Listed::from_vec(responses),
-        status: Status::Ok,
-        code: Code::Absent,
-    };
-    mirror.tell(&exchange).expect(rt, "memory");
-}
-
-/// Tells one response of a command that is OK.
-pub(crate) fn tell_one(
-    rt: &impl Abort,
-    alloc: Global,
-    mirror: &mut Mirror,
-    command: Command,
-    selected: &[u8],
-    response: Response,
-) {
-    let mut responses = Vec::new(alloc);
-    responses.push(response).expect(rt, "memory");
-    tell(rt, alloc, mirror, command, selected, responses);
-}
-
-pub(crate) fn line(
-    rt: &impl Abort,
-    alloc: Global,
-    name: &[u8],
-    delimiter: Option<u8>,
-    attributes: &[&[u8]],
-) -> Response {
-    Response::List {
-        attributes: names(rt, alloc, attributes),
-        delimiter,
-        name: bytes(rt, alloc, name),
+    /// Writes down what the store sends next.
+    fn put(&mut self, text: &str) -> Result<(), AllocError> {
+        let octets = octets_of(self.alloc, text)?;
+        self.octets.extend_from_slice(&octets)?;
+        Ok(())
     }
-}
 
-fn tell_folders(rt: &impl Abort, alloc: Global, mirror: &mut Mirror, lines: &[Line]) {
-    let mut responses = Vec::new(alloc);
-    for row in lines {
-        let response = line(rt, alloc, row.0, row.1, row.2);
-        responses.push(response).expect(rt, "memory");
+    /// Writes down a text so many times, with the number of each in place of `%n`.
+    fn repeat(&mut self, text: &str) -> Result<(), AllocError> {
+        let (count, text) = first_number(text);
+        for at in 0..count {
+            let number = format!(in self.alloc; "{}", at.saturating_add(1))?;
+            let text = text.replace(self.alloc, "%n", &number)?;
+            self.put(&text)?;
+        }
+        Ok(())
     }
-    tell(rt, alloc, mirror, Command::List, b"", responses);
-}
 
-/// A mirror with an empty INBOX.
-pub(crate) fn inbox(rt: &impl Abort, alloc: Global) -> Mirror {
-    let mut mirror = Mirror::new(alloc);
-    tell_folders(rt, alloc, &mut mirror, &[INBOX]);
-    mirror
-}
-
-pub(crate) fn tell_validity(
-    rt: &impl Abort,
-    alloc: Global,
-    mirror: &mut Mirror,
-    folder: &[u8],
-    validity: u32,
-) {
-    let command = Command::Select {
-        name: bytes(rt, alloc, folder),
-        known: None,
-    };
-    let response = Response::Untagged {
-        status: Status::Ok,
-        code: Code::UidValidity(validity),
-    };
-    tell_one(rt, alloc, mirror, command, folder, response);
-}
-
-/// What is asked for new messages.
-pub(crate) fn fetch_new() -> Command {
-    Command::FetchNew {
-        from: 1,
-        modseq: true,
+    /// Writes down all of a message, as a store sends it. It came in this second of 1970.
+    fn put_message(
+        &mut self,
+        uid: u32,
+        second: u64,
+        flags: &str,
+        header: &[u8],
+    ) -> Result<(), AllocError> {
+        let count = header.len();
+        let front = format!(in self.alloc;
+            "* 1 FETCH (UID {uid} FLAGS ({flags}) INTERNALDATE \"01-Jan-1970 00:00:{second:02} +0000\" RFC822.SIZE 9 BODY[HEADER]<0> {{{count}}}\r\n"
+        )?;
+        self.octets.extend_from_slice(front.as_bytes())?;
+        self.octets.extend_from_slice(header)?;
+        self.octets.extend_from_slice(b")\r\n")?;
+        Ok(())
     }
-}
 
-/// All of a message.
-pub(crate) fn whole(
-    rt: &impl Abort,
-    alloc: Global,
-    uid: u32,
-    flags: &[&[u8]],
-    date: i64,
-    header: &[u8],
-) -> Response {
-    let items = FetchItems {
-        uid: Some(uid),
-        flags: Some(names(rt, alloc, flags)),
-        modseq: None,
-        date: Some(date),
-        size: Some(9),
-        header: Some(bytes(rt, alloc, header)),
-        body: None,
-    };
-    Response::Fetch { seq: 1, items }
-}
-
-/// Tells all of a message. Where its UID is held, its flags alone are taken.
-pub(crate) fn tell_mail(
-    rt: &impl Abort,
-    alloc: Global,
-    mirror: &mut Mirror,
-    folder: &[u8],
-    mail: &Mail,
-) {
-    let message = whole(rt, alloc, mail.0, mail.1, mail.2, mail.3);
-    tell_one(rt, alloc, mirror, fetch_new(), folder, message);
-}
-
-pub(crate) fn tell_gone(
-    rt: &impl Abort,
-    alloc: Global,
-    mirror: &mut Mirror,
-    folder: &[u8],
-    uid: u32,
-) {
-    let mut ranges = Vec::new(alloc);
-    let range = UidRange {
-        first: uid,
-        last: uid,
-    };
-    ranges.push(range).expect(rt, "memory");
-    let response = Response::Vanished {
-        earlier: false,
-        uids: UidSet {
-            ranges: Listed::from_vec(ranges),
-        },
-    };
-    tell_one(rt, alloc, mirror, Command::Unselect, folder, response);
-}
-
-/// Moves the message of a mark to a folder, where it has this UID. It loses its flags.
-pub(crate) fn move_message(
-    rt: &impl Abort,
-    alloc: Global,
-    mirror: &mut Mirror,
-    mark: u64,
-    folder: u64,
-    uid: u32,
-) {
-    let message = mirror.cut_message(mark).expect(rt, "no such mark");
-    assert!(rt; mirror.folder(folder).is_some());
-    assert!(rt; mirror.message(folder, uid).is_none());
-    assert!(rt; mirror.place_of(mark).is_none());
-    assert!(rt; 0 < mark && mark < 1 << 53);
-    let moved = Message {
-        uid,
-        mark,
-        flags: Names::new(alloc),
-        ..message
-    };
-    mirror.put_message(folder, moved).expect(rt, "memory");
-}
-
-/// Gives the folder of a number, or a new folder, a name that no folder has.
-pub(crate) fn name_folder(
-    rt: &impl Abort,
-    alloc: Global,
-    mirror: &mut Mirror,
-    number: u64,
-    name: &[u8],
-) {
-    assert!(rt; 0 < number && number < 1 << 53);
-    mirror.one_named();
-    let folder = Folder {
-        number,
-        name: bytes(rt, alloc, name),
-        delimiter: Some(b'/'),
-        attributes: Names::new(alloc),
-        validity: 0,
-        modseq: 0,
-        next: 1,
-    };
-    match mirror.named(folder.name.as_slice()) {
-        None => mirror.put_folder(folder).expect(rt, "memory"),
-        Some(_) => panic!(rt; "another folder has the name"),
+    /// Tells the exchange of a command that what is written down answers, and that is OK, while the folder is selected.
+    fn tell(&mut self, asked: &str, folder: &str) -> Result<(), AllocError> {
+        self.put("a1 OK x%0D%0A")?;
+        self.last = mem::replace(&mut self.octets, Vec::new(self.alloc));
+        let folder = octets_of(self.alloc, folder)?;
+        let is_told = match exchange_of(self.alloc, asked, &folder, &self.last)? {
+            Some(exchange) => self.mirror.tell(&exchange).is_ok(),
+            None => false,
+        };
+        self.is_right = self.is_right && is_told;
+        Ok(())
     }
-}
 
-fn tell_told(rt: &impl Abort, alloc: Global, mirror: &mut Mirror, told: &Told) {
-    match told {
-        Told::Folders(lines) => tell_folders(rt, alloc, mirror, lines),
-        Told::Validity(folder, validity) => tell_validity(rt, alloc, mirror, folder, *validity),
-        Told::Mail(folder, mail) => tell_mail(rt, alloc, mirror, folder, mail),
-        Told::Gone(folder, uid) => tell_gone(rt, alloc, mirror, folder, *uid),
-        Told::Moved(mark, folder, uid) => move_message(rt, alloc, mirror, *mark, *folder, *uid),
-        Told::Renamed(number, name) => name_folder(rt, alloc, mirror, *number, name),
+    /// Tells all of a message. Where its UID is held, its flags alone are taken.
+    fn mail(&mut self, folder: &str, uid: u32, text: &str) -> Result<(), AllocError> {
+        let (second, rest) = first_number(text);
+        let (flags, header) = parted(rest);
+        let header = octets_of(self.alloc, header)?;
+        self.put_message(uid, second, flags, &header)?;
+        self.tell("new 1", folder)
     }
-}
 
-/// Tells all of these, in order.
-pub(crate) fn tell_all(rt: &impl Abort, alloc: Global, mirror: &mut Mirror, told: &[Told]) {
-    for one in told {
-        tell_told(rt, alloc, mirror, one);
+    /// A message of a folder comes, gets flags or is gone.
+    fn change_message(&mut self, word: &str, text: &str) -> Result<(), AllocError> {
+        let (folder, rest) = first_word(text);
+        let (uid, rest) = first_uid(rest);
+        match word {
+            "mail" => self.mail(folder, uid, rest),
+            "flags" => {
+                self.put_message(uid, 0, rest, b"")?;
+                self.tell("new 1", folder)
+            }
+            _ => {
+                let gone = format!(in self.alloc; "* VANISHED {uid}%0D%0A")?;
+                self.put(&gone)?;
+                self.tell("unselect", folder)
+            }
+        }
+    }
+
+    /// The messages of the folder of a number, without their flags.
+    fn messages(&self, number: u64) -> Result<Told, AllocError> {
+        let mut told = Told::new(self.alloc);
+        for message in self.mirror.messages(number) {
+            let second = message.date.unsigned_abs();
+            told.put_message(message.uid, second, "", message.header.as_slice())?;
+        }
+        Ok(told)
+    }
+
+    /// The folder of a number and name has another validity: the same messages are new ones.
+    fn renew(&mut self, number: u64, text: &str) -> Result<(), AllocError> {
+        let (folder, validity) = first_word(text);
+        let again = self.messages(number)?;
+        let line = format!(in self.alloc; "* OK [UIDVALIDITY {validity}] x%0D%0A")?;
+        let select = format!(in self.alloc; "select {folder}")?;
+        self.put(&line)?;
+        self.tell(&select, folder)?;
+        self.octets.extend_from_slice(&again.octets)?;
+        self.tell("new 1", folder)
+    }
+
+    /// Whether a message of this mark may come into the folder at this UID.
+    fn is_free(&self, mark: u64, folder: u64, uid: u32) -> bool {
+        self.mirror.folder(folder).is_some()
+            && self.mirror.message(folder, uid).is_none()
+            && self.mirror.place_of(mark).is_none()
+            && 0 < mark
+            && mark <= LAST
+    }
+
+    /// The message of a mark goes to a folder, where it has this UID. It loses its flags.
+    fn move_message(&mut self, mark: u64, text: &str) -> Result<(), AllocError> {
+        let (folder, rest) = first_number(text);
+        let (uid, _) = first_uid(rest);
+        if let Some(message) = self.mirror.cut_message(mark) {
+            if self.is_free(mark, folder, uid) {
+                let moved = Message {
+                    uid,
+                    mark,
+                    flags: Names::new(self.alloc),
+                    ..message
+                };
+                return self.mirror.put_message(folder, moved);
+            }
+        }
+        self.is_right = false;
+        Ok(())
+    }
+
+    /// The folder of a number, which may be new, gets a name that no folder has.
+    fn name_folder(&mut self, number: u64, name: &str) -> Result<(), AllocError> {
+        let name = Bytes::from_vec(octets_of(self.alloc, name)?)?;
+        if number == 0 || LAST < number || self.mirror.named(name.as_slice()).is_some() {
+            self.is_right = false;
+            return Ok(());
+        }
+        let folder = Folder {
+            number,
+            name,
+            delimiter: Some(b'/'),
+            attributes: Names::new(self.alloc),
+            validity: 0,
+            modseq: 0,
+            next: 1,
+        };
+        self.mirror.put_folder(folder)
+    }
+
+    /// Does what a line says of a mark or of a folder's number.
+    fn change_numbered(&mut self, word: &str, text: &str) -> Result<(), AllocError> {
+        let (number, rest) = first_number(text);
+        match word {
+            "moved" => self.move_message(number, rest),
+            "renamed" => self.name_folder(number, rest),
+            "renewed" => self.renew(number, rest),
+            "cut" => {
+                self.mirror.cut_folder(number);
+                Ok(())
+            }
+            _ => {
+                self.is_right = false;
+                Ok(())
+            }
+        }
+    }
+
+    /// Does what a line says of the mail.
+    pub(crate) fn take(&mut self, word: &str, text: &str) -> Result<(), AllocError> {
+        match word {
+            "store" => {
+                self.put(text)?;
+                self.put("%0D%0A")
+            }
+            "part" => self.put(text),
+            "repeat" => self.repeat(text),
+            "tell" => {
+                let (asked, folder) = parted(text);
+                self.tell(asked, folder)
+            }
+            "mail" | "flags" | "gone" => self.change_message(word, text),
+            _ => self.change_numbered(word, text),
+        }
     }
 }
