@@ -1,81 +1,78 @@
-// Methods by their names, and errors as they are told.
-use gate_calls::{Method, method_named, name_needs_mail};
-use jmap_methods::{MethodError, Using, error_arguments};
-use std::alloc::Global;
-use std::process::Abort;
+// Calls of methods, and what they are answered.
+use crate::properties::put_wanted;
+use crate::texts::put_text;
+use email_properties::{Defaults, email_wanted};
+use gate_calls::{Method, method_named};
+use jmap_methods::{MethodError, Using, echo};
+use mail_state::MailState;
+use read_methods::{email_changes, mailbox_changes, mailbox_get, thread_changes, thread_get};
+use serde_json::Value;
+use std::alloc::{AllocError, Global};
+use told_dialogues::first_word;
 
-const CORE: Using = Using {
+/// All capabilities.
+const BOTH: Using = Using {
     core: true,
-    mail: false,
-};
-
-const MAIL: Using = Using {
-    core: false,
     mail: true,
 };
 
-/// What a request uses, a name, and the method of the name.
-const NAMES: [(Using, &str, Result<Method, MethodError>); 14] = [
-    (CORE, "Core/echo", Ok(Method::CoreEcho)),
-    (MAIL, "Mailbox/get", Ok(Method::MailboxGet)),
-    (MAIL, "Mailbox/changes", Ok(Method::MailboxChanges)),
-    (MAIL, "Thread/get", Ok(Method::ThreadGet)),
-    (MAIL, "Thread/changes", Ok(Method::ThreadChanges)),
-    (MAIL, "Email/changes", Ok(Method::EmailChanges)),
-    (MAIL, "Email/get", Ok(Method::EmailGet)),
-    (MAIL, "Email/parse", Ok(Method::EmailParse)),
-    (MAIL, "Email/set", Err(MethodError::UnknownMethod)),
-    (CORE, "Email/get", Err(MethodError::UnknownMethod)),
-    (MAIL, "Core/echo", Err(MethodError::UnknownMethod)),
-    (CORE, "Mailbox/get", Err(MethodError::UnknownMethod)),
-    (MAIL, "mailbox/get", Err(MethodError::UnknownMethod)),
-    (CORE, "", Err(MethodError::UnknownMethod)),
-];
-
-#[test]
-fn names(rt: HostRuntime) {
-    for row in NAMES.iter() {
-        assert!(rt; method_named(row.0, row.1) == row.2);
+/// Adds an answer, or why there is none.
+pub(crate) fn put_answer(
+    alloc: Global,
+    out: &mut String,
+    answer: Result<Value, MethodError>,
+) -> Result<(), AllocError> {
+    match answer {
+        Ok(value) => put_text(out, &value.to_string(alloc)?),
+        Err(error) => write!(out, "{error}"),
     }
-    assert!(rt; !name_needs_mail("Core/echo"));
-    assert!(rt; name_needs_mail("Core/Echo"));
 }
 
-/// Why a method has no answer, and the type by which a client is told.
-const ERRORS: [(MethodError, &str); 15] = [
-    (MethodError::ServerUnavailable, "serverUnavailable"),
-    (MethodError::ServerFail, "serverFail"),
-    (MethodError::ServerPartialFail, "serverPartialFail"),
-    (MethodError::UnknownMethod, "unknownMethod"),
-    (MethodError::InvalidArguments, "invalidArguments"),
-    (
-        MethodError::InvalidResultReference,
-        "invalidResultReference",
-    ),
-    (MethodError::AccountNotFound, "accountNotFound"),
-    (MethodError::RequestTooLarge, "requestTooLarge"),
-    (MethodError::StateMismatch, "stateMismatch"),
-    (
-        MethodError::CannotCalculateChanges,
-        "cannotCalculateChanges",
-    ),
-    (MethodError::AnchorNotFound, "anchorNotFound"),
-    (MethodError::UnsupportedFilter, "unsupportedFilter"),
-    (MethodError::UnsupportedSort, "unsupportedSort"),
-    (MethodError::TooManyChanges, "tooManyChanges"),
-    (MethodError::Memory, "serverUnavailable"),
-];
-
-fn expect_told(rt: &impl Abort, alloc: Global, row: &(MethodError, &str)) {
-    let arguments = error_arguments(alloc, row.0).expect(rt, "out of memory");
-    let told = arguments.to_string(alloc).expect(rt, "out of memory");
-    let wanted = format!(in alloc; "{{\"type\":\"{}\"}}", row.1).expect(rt, "out of memory");
-    assert_eq!(rt; told.as_str(), wanted.as_str());
+/// What a method answers that asks for no body.
+fn answer_of(
+    alloc: Global,
+    state: &MailState,
+    method: Method,
+    arguments: &Value,
+) -> Result<Value, MethodError> {
+    match method {
+        Method::MailboxGet => mailbox_get(alloc, state, arguments),
+        Method::MailboxChanges => mailbox_changes(alloc, state, arguments),
+        Method::ThreadGet => thread_get(alloc, state, arguments),
+        Method::ThreadChanges => thread_changes(alloc, state, arguments),
+        Method::EmailChanges => email_changes(alloc, state, arguments),
+        _ => echo(arguments.clone()?),
+    }
 }
 
-#[test]
-fn errors(rt: HostRuntime) {
-    for row in ERRORS.iter() {
-        expect_told(&rt, rt.alloc(), row);
+/// Adds what a method answers; of those that ask for bodies, what they ask of each Email.
+fn put_method(
+    alloc: Global,
+    state: &MailState,
+    method: Method,
+    arguments: &Value,
+    out: &mut String,
+) -> Result<(), AllocError> {
+    match method {
+        Method::EmailGet => put_wanted(email_wanted(alloc, arguments, Defaults::Get), out),
+        Method::EmailParse => put_wanted(email_wanted(alloc, arguments, Defaults::Parse), out),
+        _ => put_answer(alloc, out, answer_of(alloc, state, method, arguments)),
+    }
+}
+
+/// Adds what the method of a name answers to its arguments.
+pub(crate) fn put_called(
+    alloc: Global,
+    state: &MailState,
+    text: &str,
+    out: &mut String,
+) -> Result<(), AllocError> {
+    let (name, text) = first_word(text);
+    let Ok(arguments) = Value::from_str(alloc, text) else {
+        return out.push_str("no JSON");
+    };
+    match method_named(BOTH, name) {
+        Ok(method) => put_method(alloc, state, method, &arguments, out),
+        Err(error) => write!(out, "{error}"),
     }
 }
