@@ -1,20 +1,48 @@
-// A host with streams in memory.
-use gate_host::{Dialer, Draws, Host};
-use std::alloc::Global;
+// A host over loopback.
+use gate_host::{Dialer, Draws, Host, addresses_over, draw_over};
 use std::io;
-use std::io::Read;
-use std::net::{Ipv4Addr, SocketAddr, SocketAddrV4, TcpStream};
+use std::io::{ErrorKind, Read, Stdin};
+use std::net::{Ipv4Addr, Net, SocketAddr, SocketAddrV4, TcpListener, TcpStream};
+use std::random::RandomSource;
 use std::rt::Clock;
 use std::time::Duration;
 
-/// A host over loopback in which the store of a port has two addresses, with streams in memory, a clock that stands still,
-/// and the random octets that it is given.
+/// A host that looks up the names that begin with `named.`: each has two addresses. Its clock stands still, and its random
+/// octets are those that it is given, or none.
 #[derive(Clone, Copy)]
 pub(crate) struct Desk {
     pub(crate) rt: HostRuntime,
-    pub(crate) alloc: Global,
-    pub(crate) port: Option<u16>,
     pub(crate) random: Option<[u8; 8]>,
+}
+
+impl Net for Desk {
+    type Stream = TcpStream;
+
+    type Listener = TcpListener;
+
+    fn bind(&self, address: SocketAddr) -> io::Result<TcpListener> {
+        self.rt.bind(address)
+    }
+
+    fn connect(&self, address: SocketAddr) -> io::Result<TcpStream> {
+        self.rt.connect(address)
+    }
+
+    fn lookup_host(&self, _host: &str, port: u16, found: &mut [SocketAddr]) -> io::Result<usize> {
+        for (place, last) in found.iter_mut().zip([2, 1]) {
+            *place = SocketAddr::V4(SocketAddrV4::new(Ipv4Addr::new(127, 0, 0, last), port));
+        }
+        Ok(found.len().min(2))
+    }
+}
+
+impl RandomSource for Desk {
+    fn fill_bytes(&self, into: &mut [u8]) -> io::Result<()> {
+        match self.random {
+            Some(octets) => octets.as_slice().read_exact(into),
+            None => Err(io::Error::from(ErrorKind::Unsupported)),
+        }
+    }
 }
 
 impl Dialer for Desk {
@@ -27,13 +55,10 @@ impl Dialer for Desk {
     ghost dials = { λ _ _ _ _. ⊤ };
 
     fn addresses(&self, store: &str, room: &mut [SocketAddr]) -> Option<usize> {
-        let Some(port) = self.port else {
-            return self.rt.addresses(store, room);
-        };
-        for (place, last) in room.iter_mut().zip([2, 1]) {
-            *place = SocketAddr::V4(SocketAddrV4::new(Ipv4Addr::new(127, 0, 0, last), port));
+        match store.starts_with("named.") {
+            true => addresses_over(self, store, room),
+            false => self.rt.addresses(store, room),
         }
-        Some(room.len().min(2))
     }
 
     fn dial(&self, address: SocketAddr, limit_seconds: u64) -> Option<TcpStream> {
@@ -47,7 +72,7 @@ impl Draws for Desk {
     ghost draws = { λ _ _. ⊤ };
 
     fn draw(&self) -> Option<[u8; 8]> {
-        self.random
+        draw_over(self)
     }
 }
 
@@ -61,35 +86,23 @@ impl Clock for Desk {
     }
 }
 
-/// An input of these octets.
-#[derive(Drop)]
-pub(crate) struct Given {
-    octets: &'static [u8],
-}
-
-impl Read for Given {
-    fn read(&mut self, buf: &mut [u8]) -> io::Result<usize> {
-        self.octets.read(buf)
-    }
-}
-
 impl Host for Desk {
-    type Input = Given;
+    type Input = Stdin;
 
     type Output = Vec<u8>;
 
     type Errors = Vec<u8>;
 
-    fn input(&self) -> Given {
-        Given { octets: b"ask" }
+    fn input(&self) -> Stdin {
+        self.rt.input()
     }
 
     fn output(&self) -> Vec<u8> {
-        Vec::new(self.alloc)
+        Vec::new(self.rt.alloc())
     }
 
     fn errors(&self) -> Vec<u8> {
-        Vec::new(self.alloc)
+        Vec::new(self.rt.alloc())
     }
 
     fn process_number(&self) -> u32 {

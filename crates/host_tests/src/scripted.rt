@@ -1,0 +1,149 @@
+// A clock, a client, a listener and an input that do as a row says.
+use crate::peers::Peers;
+use client_front::{ClientListener, ClientStream, First, Next, Ticks};
+use std::cell::Cell;
+use std::io;
+use std::io::{ErrorKind, Read};
+use std::rc::Rc;
+use told_dialogues::{first_number, octets_of};
+
+/// A clock that goes on by a step at each look, this many times, and then is far on.
+#[derive(Drop)]
+pub(crate) struct SteppingClock {
+    step: u64,
+    steps: u64,
+    looks: Cell<u64>,
+}
+
+impl Ticks for SteppingClock {
+    ghost use Rattle.std.specs.Prelude.{⊤};
+
+    ghost reads = { λ _ _. ⊤ };
+
+    fn milliseconds(&self) -> Option<u64> {
+        let looks = self.looks.get().saturating_add(1);
+        self.looks.set(looks);
+        match looks <= self.steps {
+            true => looks.checked_mul(self.step),
+            false => Some(1_000_000),
+        }
+    }
+}
+
+/// A client that is seen so often to have sent nothing. It sends this many octets in pieces of at most so many; the first of each
+/// piece is an octet of the head, or `.` past it. It takes one octet a turn.
+#[derive(Drop)]
+pub(crate) struct ScriptedClient {
+    silent: Cell<u64>,
+    octets: u64,
+    piece: u64,
+    head: Vec<u8>,
+    given: u64,
+    open: Rc<u8>,
+}
+
+impl ClientStream for ScriptedClient {
+    ghost use Rattle.std.specs.Prelude.{⊤};
+
+    ghost shows = { λ _ _. ⊤ };
+
+    ghost receives = { λ _ _ _. ⊤ };
+
+    ghost sends = { λ _ _ _. ⊤ };
+
+    fn first(&self) -> First {
+        let silent = self.silent.get();
+        self.silent.set(silent.saturating_sub(1));
+        match silent {
+            0 => First::Octet(b'G'),
+            _ => First::Nothing,
+        }
+    }
+
+    fn receive(&mut self, into: &mut [u8], _limit: u64) -> Option<usize> {
+        *into.first_mut()? = self.head.get(self.given as usize).copied().unwrap_or(b'.');
+        let left = self.octets.saturating_sub(self.given);
+        let count = left.min(self.piece).min(into.len() as u64);
+        self.given = self.given.saturating_add(count);
+        Some(count as usize)
+    }
+
+    fn send(&mut self, from: &[u8], _limit: u64) -> Option<usize> {
+        from.first().map(|_| 1)
+    }
+
+    fn end_writing(&mut self) {}
+}
+
+/// A listener to which one client comes; further ones can't be accepted, or there are none. So many of its waits end for the
+/// client, which has the first key; then it fails.
+#[derive(Drop)]
+pub(crate) struct OneClient {
+    client: Option<ScriptedClient>,
+    refuses: bool,
+    waits: u64,
+}
+
+/// The listener of a row, and its clock.
+pub(crate) fn scripted_of(peers: &Peers, row: &str) -> io::Result<(OneClient, SteppingClock)> {
+    let (step, row) = first_number(row);
+    let (steps, row) = first_number(row);
+    let (waits, row) = first_number(row);
+    let (refuses, row) = first_number(row);
+    let (silent, row) = first_number(row);
+    let (octets, row) = first_number(row);
+    let (piece, head) = first_number(row);
+    let client = ScriptedClient {
+        silent: Cell::new(silent),
+        octets,
+        piece,
+        head: octets_of(peers.desk.rt.alloc(), head)?,
+        given: 0,
+        open: peers.open.clone()?,
+    };
+    let listener = OneClient {
+        client: Some(client),
+        refuses: refuses == 1,
+        waits,
+    };
+    let looks = Cell::new(0);
+    Ok((listener, SteppingClock { step, steps, looks }))
+}
+
+impl ClientListener for OneClient {
+    type Stream = ScriptedClient;
+
+    fn next_client(&mut self, _key: u64) -> Next<ScriptedClient> {
+        match self.client.take() {
+            Some(client) => Next::Client(client),
+            None if self.refuses => Next::Refused,
+            None => Next::Nobody,
+        }
+    }
+
+    fn wait(&mut self, _limit: u64, room: &mut [u64]) -> Option<usize> {
+        self.waits = self.waits.checked_sub(1)?;
+        *room.first_mut()? = 0;
+        Some(1)
+    }
+}
+
+/// An input of pieces, between `|`: into the read at a `~` a signal breaks, and the one at a `!` fails.
+#[derive(Drop)]
+pub(crate) struct RoughInput {
+    pub(crate) pieces: String,
+    pub(crate) given: usize,
+}
+
+impl Read for RoughInput {
+    fn read(&mut self, into: &mut [u8]) -> io::Result<usize> {
+        let rest = self.pieces.get(self.given..).unwrap_or("");
+        let (piece, _) = rest.split_once('|').unwrap_or((rest, ""));
+        self.given = self.given.saturating_add(piece.len()).saturating_add(1);
+        match piece {
+            "~" => Err(io::Error::from(ErrorKind::Interrupted)),
+            "!" => Err(io::Error::from(ErrorKind::ConnectionReset)),
+            _ => piece.as_bytes().read(into),
+        }
+    }
+}
