@@ -135,13 +135,30 @@ impl Told {
         self.tell("new 1", folder)
     }
 
-    /// Whether a message of this mark may come into the folder at this UID.
-    fn is_free(&self, mark: u64, folder: u64, uid: u32) -> bool {
-        self.mirror.folder(folder).is_some()
+    /// Puts the message of a mark into a folder at this UID, without flags, where it may come there.
+    fn put_moved(
+        &mut self,
+        folder: u64,
+        uid: u32,
+        mark: u64,
+        message: Message,
+    ) -> Result<(), AllocError> {
+        if self.mirror.folder(folder).is_some()
             && self.mirror.message(folder, uid).is_none()
             && self.mirror.place_of(mark).is_none()
             && 0 < mark
             && mark <= LAST
+        {
+            let moved = Message {
+                uid,
+                mark,
+                flags: Names::new(self.alloc),
+                ..message
+            };
+            return self.mirror.put_message(folder, moved);
+        }
+        self.is_right = false;
+        Ok(())
     }
 
     /// The message of a mark goes to a folder, where it has this UID. It loses its flags.
@@ -149,15 +166,7 @@ impl Told {
         let (folder, rest) = first_number(text);
         let (uid, _) = first_uid(rest);
         if let Some(message) = self.mirror.cut_message(mark) {
-            if self.is_free(mark, folder, uid) {
-                let moved = Message {
-                    uid,
-                    mark,
-                    flags: Names::new(self.alloc),
-                    ..message
-                };
-                return self.mirror.put_message(folder, moved);
-            }
+            return self.put_moved(folder, uid, mark, message);
         }
         self.is_right = false;
         Ok(())
@@ -166,7 +175,8 @@ impl Told {
     /// The folder of a number, which may be new, gets a name that no folder has.
     fn name_folder(&mut self, number: u64, name: &str) -> Result<(), AllocError> {
         let name = Bytes::from_vec(octets_of(self.alloc, name)?)?;
-        if number == 0 || LAST < number || self.mirror.named(name.as_slice()).is_some() {
+        self.mirror.one_named();
+        if number == 0 || LAST < number {
             self.is_right = false;
             return Ok(());
         }
@@ -179,7 +189,13 @@ impl Told {
             modseq: 0,
             next: 1,
         };
-        self.mirror.put_folder(folder)
+        match self.mirror.named(folder.name.as_slice()) {
+            None => self.mirror.put_folder(folder),
+            Some(_) => {
+                self.is_right = false;
+                Ok(())
+            }
+        }
     }
 
     /// Does what a line says of a mark or of a folder's number.
