@@ -17,11 +17,11 @@ fn take(rt: HostRuntime, line: &str, out: &mut String) -> io::Result<()> {
     let (scene, steps) = line.split_once(" -> ").unwrap_or((line, ""));
     let (word, row) = first_word(scene);
     let text = match word {
-        "=" => String::new(rt.alloc()),
+        "" | "#" => return Ok(()),
         "scripted" => scenes::scripted(rt, row, steps)?,
         "loopback" => scenes::loopback(rt, row, steps)?,
         "standard" => scenes::standard(rt, row, steps)?,
-        _ => return Ok(()),
+        _ => String::new(rt.alloc()),
     };
     Ok(writeln!(out, "{scene}{text}")?)
 }

@@ -85,7 +85,8 @@ impl Peers {
             "end" => return self.stream()?.shutdown(Shutdown::Write),
             "leave" => drop(self.streams.pop()),
             "at" => self.at = step.number as usize,
-            _ => self.listener = None,
+            "close" => self.listener = None,
+            _ => return Err(io::Error::from(ErrorKind::Unsupported)),
         }
         Ok(())
     }

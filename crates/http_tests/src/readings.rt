@@ -91,7 +91,7 @@ impl<'a> Setting<'a> {
             let (front, _) = octets.split_at(cut);
             self.put_cut(words, front, out)?;
         }
-        writeln!(out, "cut after each of {} octets", octets.len())
+        writeln!(out, "cut before each of {} octets", octets.len())
     }
 
     /// Adds what comes of the octets where each call from the first to the last fails in turn, at a call where it is something

@@ -41,7 +41,7 @@ fn answer_of(
         Method::ThreadGet => thread_get(alloc, state, arguments),
         Method::ThreadChanges => thread_changes(alloc, state, arguments),
         Method::EmailChanges => email_changes(alloc, state, arguments),
-        _ => echo(arguments.clone()?),
+        Method::CoreEcho | Method::EmailGet | Method::EmailParse => echo(arguments.clone()?),
     }
 }
 

@@ -1,4 +1,4 @@
-// Words of which nothing is left: names, states, ids and errors.
+// Words that leave nothing for later rows: names, states, ids and errors.
 use crate::properties::{put_email, put_forms, put_header, put_part};
 use gate_calls::{method_named, name_needs_mail};
 use jmap_core::CreatedIds;

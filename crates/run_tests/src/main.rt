@@ -121,7 +121,18 @@ impl Rows {
             "gave" | "store" | "count" | "events" | "object" | "task" => {
                 self.answer(word, text, out)
             }
-            _ => self.written.take(word, text),
+            "text"
+            | "part"
+            | "times"
+            | "repeat"
+            | "link"
+            | "client"
+            | "token"
+            | "piece"
+            | "failing"
+            | "stopping"
+            | "cut" => self.written.take(word, text),
+            _ => writeln!(out, "no such word: {word}"),
         }
     }
 

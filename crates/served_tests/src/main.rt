@@ -75,6 +75,18 @@ impl Rows {
         Ok(())
     }
 
+    /// The message of a header comes, in a step of its own.
+    fn come_one(&mut self, uid: u64, place: u8, header: Option<&String>) -> Result<(), AllocError> {
+        let Some(header) = header else {
+            self.told.is_right = false;
+            return Ok(());
+        };
+        let mail = format!(in self.alloc; "INBOX {uid} {place} |{header}")?;
+        self.told.take("mail", &mail)?;
+        self.served.follow(&self.told.mirror);
+        Ok(())
+    }
+
     /// The messages of the headers come in this order, which names each by a digit from 1 on, each in a step of its own. It was
     /// received at the second of its place among the headers.
     fn come(&mut self, headers: &[String], order: &str) -> Result<(), AllocError> {
@@ -84,10 +96,7 @@ impl Rows {
         for digit in order.as_bytes() {
             uid = uid.saturating_add(1);
             let place = digit.saturating_sub(b'1');
-            let header = headers.get(usize::from(place)).map_or("", |header| header);
-            let mail = format!(in self.alloc; "INBOX {uid} {place} |{header}")?;
-            self.told.take("mail", &mail)?;
-            self.served.follow(&self.told.mirror);
+            self.come_one(uid, place, headers.get(usize::from(place)))?;
         }
         Ok(())
     }

@@ -11,8 +11,13 @@ fn entry_of(word: &str) -> Entry {
         "removed" => Kind::Removed,
         _ => Kind::Changed,
     };
+    // A word that isn't known touches an id that no row has.
+    let id = match done {
+        "added" | "removed" | "changed" | "counted" => first_number(id).0,
+        _ => 99,
+    };
     Entry {
-        id: first_number(id).0,
+        id,
         kind,
         counts_only: done == "counted",
     }

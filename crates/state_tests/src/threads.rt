@@ -98,9 +98,10 @@ impl Threads {
         let mut book = ThreadBook::new(self.alloc);
         let mut one = true;
         for (place, letter) in order.as_bytes().iter().enumerate() {
-            if let Some(text) = self.mail.get(letter.wrapping_sub(b'a') as usize) {
-                one &= arrive(self.alloc, &mut book, place as u64, text.as_str())? == 0;
-            }
+            one &= match self.mail.get(letter.wrapping_sub(b'a') as usize) {
+                Some(text) => arrive(self.alloc, &mut book, place as u64, text.as_str())? == 0,
+                None => false,
+            };
         }
         Ok(one)
     }

@@ -12,8 +12,10 @@ fn put_told<W: Secrets>(
     out: &mut String,
 ) -> Result<(), AllocError> {
     let (password, token) = (world.password(), world.token());
-    let events = events.unwrap_or(&[]);
-    writeln!(out, "{password:?} {token:?} {events:?}")
+    match events {
+        Some(events) => writeln!(out, "{password:?} {token:?} {events:?}"),
+        None => writeln!(out, "{password:?} {token:?} no tape"),
+    }
 }
 
 fn put_scripted(

@@ -17,7 +17,8 @@ fn with_word(script: Script, word: &str) -> Result<Script, AllocError> {
             let (password, token) = value.split_once('/').unwrap_or((value, ""));
             script.with_secrets(password.as_bytes(), token.as_bytes())
         }
-        _ => Ok(script),
+        // So that a word that isn't known shows.
+        _ => Ok(script.stopping_at(1)),
     }
 }
 
