@@ -11,9 +11,13 @@ module _ {V : Type 0} where
   row_cmp cmp a b = ordering_then (cmp a.1 b.1) (nat_cmp a.0 b.0)
 
   -- the rows of the map that are taken, and no others, in strictly ascending order
-  pub record IsQueryList (rows : List (ℕ × V)) (Takes : V → Type 0) (cmp : V → V → Ordering) (list : List (ℕ × V)) : Type 0 where
+  pub record IsQueryList (rows : List (ℕ × V)) (Takes : ℕ × V → Type 0) (cmp : V → V → Ordering) (list : List (ℕ × V)) : Type 0 where
     pub ascends : IsStrictlySortedBy (row_cmp cmp) list
-    pub members : (e : ℕ × V) → Contains list e ↔ ((row_at rows e.0 ≡ Some e.1) × Takes e.1)
+    pub members : (e : ℕ × V) → Contains list e ↔ ((row_at rows e.0 ≡ Some e.1) × Takes e)
 
   abbrev pub numbers_of : List (ℕ × V) → List ℕ
   numbers_of list = map (λ (e : ℕ × V). e.0) list
+
+  -- the rows stand by number, each once
+  abbrev pub AscendByNumber : List (ℕ × V) → Type 0
+  AscendByNumber rows = IsStrictlySortedBy nat_cmp (numbers_of rows)

@@ -1,14 +1,16 @@
-//! What queries are made of: reads rows from standard input, Emails, Mailboxes, conditions and lists, and prints which of them
-//! each condition takes, and which part of a list is asked. The legend stands at the top of the file `stdin`, and what has to
-//! come of its rows in the file `stdout`.
+//! What queries are made of: reads rows from standard input, Emails, Mailboxes, conditions, orders, lists and arguments, and prints
+//! which Emails each condition takes, how an order puts them, which part of a list is asked, and what arguments ask. The legend
+//! stands at the top of the file `stdin`, and what has to come of its rows in the file `stdout`.
 #![tactic(auto)]
 
 // Emails and Mailboxes of lines.
 mod mail;
 
-// What is asked of them, of texts and of lists.
+// What is asked of them, of texts, of lists and of arguments.
+mod arguments;
 mod emails;
 mod mailboxes;
+mod orders;
 mod windows;
 
 use mail_conditions::has_word;
@@ -52,7 +54,12 @@ impl Rows {
             "position" => windows::put_by_position(self.alloc, argument, out)?,
             "anchor" => windows::put_by_anchor(self.alloc, argument, out)?,
             "windows" => windows::put_sweep(self.alloc, argument, out)?,
+            "order" => orders::put_emails(self.alloc, &self.emails, argument, out)?,
+            "mailbox-order" => orders::put_mailboxes(self.alloc, &self.mailboxes, argument, out)?,
             "groups" => windows::put_groups(self.alloc, argument, out)?,
+            "Email/query" | "Mailbox/query" | "Email/queryChanges" | "Mailbox/queryChanges" => {
+                arguments::put_asked(self.alloc, name, argument, out)?
+            }
             _ => self.put_taken(name, argument, out)?,
         }
         out.push('\n')

@@ -1,0 +1,5 @@
+pub mod SortLemmas
+pub mod KeyLemmas
+pub mod OrderLaws
+pub mod RowLemmas
+pub mod DecidingLemmas

@@ -1,0 +1,52 @@
+-- Conditions of Emails as JSON (RFC 8621 section 4.4.1).
+use Rattle.std.specs.Prelude.{ℕ, List, [], ◌∷◌, bytes_eq, codes, if◌then◌else◌, Option, Some, None}
+use Rattle.serde_json.specs.Data.{Data}
+use Rattle.serde_json.specs.Find.{as_str}
+use Rattle.jmap_methods.specs.Ids.{mailbox_letter}
+use Rattle.mail_conditions.specs.declared.email_condition.Quantity.TheVariants as quantity
+use Rattle.mail_conditions.specs.declared.email_condition.RecordCondition.{RecordCondition}
+use Rattle.mail_conditions.specs.declared.email_condition.RecordCondition.TheVariants as condition
+use Rattle.mail_conditions.specs.declared.email_condition.TextField.TheVariants as field
+use Rattle.query_arguments.specs.declared.email_condition.EmailCondition.{EmailCondition}
+use Rattle.query_arguments.specs.declared.email_condition.EmailCondition.TheVariants.{Record, Header, Thread}
+use Rattle.query_arguments.specs.declared.reading.Reading.{Reading}
+use Rattle.query_arguments.specs.declared.reading.Reading.TheVariants.{Wrong, Unsupported, Means}
+use Rattle.query_arguments.specs.Dates.{utc_seconds_of}
+use Rattle.query_arguments.specs.Readings.{means}
+use Rattle.query_arguments.specs.Values.{number_of_id, mailboxes_of_ids, list_of_texts, natural_of, keyword_given}
+
+-- a field's name, or a name and a word
+abbrev pub field_and_word : List (List ℕ) → Reading EmailCondition
+field_and_word [] = Wrong
+field_and_word (name ∷ []) = Means (Header name None)
+field_and_word (name ∷ word ∷ []) = Means (Header name (Some word))
+field_and_word (name ∷ word ∷ more ∷ rest) = Wrong
+
+abbrev pub header_condition : Option (List (List ℕ)) → Reading EmailCondition
+header_condition None = Wrong
+header_condition (Some texts) = field_and_word texts
+
+-- a condition of the record alone, made of a value of the right kind
+abbrev pub of_record : {A : Type 0} → (A → RecordCondition) → Option A → Reading EmailCondition
+of_record make value = means (λ a. Record (make a)) value
+
+abbrev pub email_condition_in : List ℕ → Data → Reading EmailCondition
+email_condition_in key d =
+    if bytes_eq key (codes "inMailbox") then of_record (λ id. condition.InMailbox (number_of_id mailbox_letter id)) (as_str d)
+    else if bytes_eq key (codes "inMailboxOtherThan") then of_record (λ ids. condition.InMailboxOtherThan (mailboxes_of_ids ids)) (list_of_texts d)
+    else if bytes_eq key (codes "before") then of_record condition.Before (utc_seconds_of d)
+    else if bytes_eq key (codes "after") then of_record condition.After (utc_seconds_of d)
+    else if bytes_eq key (codes "minSize") then of_record condition.MinSize (natural_of d)
+    else if bytes_eq key (codes "maxSize") then of_record condition.MaxSize (natural_of d)
+    else if bytes_eq key (codes "allInThreadHaveKeyword") then means (Thread quantity.All) (keyword_given d)
+    else if bytes_eq key (codes "someInThreadHaveKeyword") then means (Thread quantity.Some) (keyword_given d)
+    else if bytes_eq key (codes "noneInThreadHaveKeyword") then means (Thread quantity.None) (keyword_given d)
+    else if bytes_eq key (codes "hasKeyword") then of_record condition.HasKeyword (keyword_given d)
+    else if bytes_eq key (codes "notKeyword") then of_record condition.NotKeyword (keyword_given d)
+    else if bytes_eq key (codes "from") then of_record (condition.InField field.From) (as_str d)
+    else if bytes_eq key (codes "to") then of_record (condition.InField field.To) (as_str d)
+    else if bytes_eq key (codes "cc") then of_record (condition.InField field.Cc) (as_str d)
+    else if bytes_eq key (codes "bcc") then of_record (condition.InField field.Bcc) (as_str d)
+    else if bytes_eq key (codes "subject") then of_record (condition.InField field.Subject) (as_str d)
+    else if bytes_eq key (codes "header") then header_condition (list_of_texts d)
+    else Unsupported

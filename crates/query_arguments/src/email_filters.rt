@@ -1,0 +1,196 @@
+// Conditions of Emails as JSON.
+ghost use Rattle.std.specs.Prelude.{◌≡◌, IfOk, List, ℕ, map};
+ghost use Rattle.serde_json.specs.Find.{as_str};
+ghost use Rattle.serde_json.specs.View.{view};
+ghost use Rattle.jmap_methods.specs.Ids.{mailbox_letter};
+ghost use Rattle.query_arguments.specs.Dates as dates;
+ghost use Rattle.query_arguments.specs.EmailFilters as spec;
+ghost use Rattle.query_arguments.specs.EmailFilters.{of_record};
+ghost use Rattle.query_arguments.specs.Readings as readings;
+ghost use Rattle.query_arguments.specs.Values as values;
+
+use crate::dates::utc_seconds_of;
+use crate::email_condition::EmailCondition;
+use crate::reading::Reading;
+use crate::values::{
+    keyword_given, list_of_texts, mailbox_number, natural_of, numbers_of_ids, word_of,
+};
+use gate_world::Bytes;
+use mail_conditions::{Quantity, RecordCondition, TextField};
+use serde_json::Value;
+use std::alloc::{AllocError, Global};
+
+/// A condition of the record alone.
+fn record(condition: RecordCondition) -> Reading<EmailCondition>
+    ensures { result ≡ Reading.Means (EmailCondition.Record condition) }
+{
+    Reading::Means(EmailCondition::Record(condition))
+}
+
+fn in_mailbox(value: &Value) -> Reading<EmailCondition>
+    ensures { result ≡ of_record (λ id. RecordCondition.InMailbox (values.number_of_id mailbox_letter id)) (as_str (view value.now)) }
+{
+    match value.as_str() {
+        None => Reading::Wrong,
+        Some(id) => record(RecordCondition::InMailbox(mailbox_number(id))),
+    }
+}
+
+fn in_mailbox_other_than(
+    alloc: Global,
+    value: &Value,
+) -> Result<Reading<EmailCondition>, AllocError>
+    ensures { IfOk result (λ r. r ≡ of_record (λ ids. RecordCondition.InMailboxOtherThan (values.mailboxes_of_ids ids)) (values.list_of_texts (view value.now))) }
+{
+    match list_of_texts(alloc, value)? {
+        None => Ok(Reading::Wrong),
+        Some(ids) => {
+            let mailboxes = numbers_of_ids(alloc, &ids)?;
+            Ok(record(RecordCondition::InMailboxOtherThan(mailboxes)))
+        }
+    }
+}
+
+fn received_before(value: &Value) -> Reading<EmailCondition>
+    ensures { result ≡ of_record (λ time. RecordCondition.Before time) (dates.utc_seconds_of (view value.now)) }
+{
+    match utc_seconds_of(value) {
+        None => Reading::Wrong,
+        Some(time) => record(RecordCondition::Before(time)),
+    }
+}
+
+fn received_after(value: &Value) -> Reading<EmailCondition>
+    ensures { result ≡ of_record (λ time. RecordCondition.After time) (dates.utc_seconds_of (view value.now)) }
+{
+    match utc_seconds_of(value) {
+        None => Reading::Wrong,
+        Some(time) => record(RecordCondition::After(time)),
+    }
+}
+
+fn min_size(value: &Value) -> Reading<EmailCondition>
+    ensures { result ≡ of_record (λ size. RecordCondition.MinSize size) (values.natural_of (view value.now)) }
+{
+    match natural_of(value) {
+        None => Reading::Wrong,
+        Some(size) => record(RecordCondition::MinSize(size)),
+    }
+}
+
+fn max_size(value: &Value) -> Reading<EmailCondition>
+    ensures { result ≡ of_record (λ size. RecordCondition.MaxSize size) (values.natural_of (view value.now)) }
+{
+    match natural_of(value) {
+        None => Reading::Wrong,
+        Some(size) => record(RecordCondition::MaxSize(size)),
+    }
+}
+
+fn has_keyword(alloc: Global, value: &Value) -> Result<Reading<EmailCondition>, AllocError>
+    ensures { IfOk result (λ r. r ≡ of_record (λ keyword. RecordCondition.HasKeyword keyword) (values.keyword_given (view value.now))) }
+{
+    match keyword_given(alloc, value)? {
+        None => Ok(Reading::Wrong),
+        Some(keyword) => Ok(record(RecordCondition::HasKeyword(keyword))),
+    }
+}
+
+fn not_keyword(alloc: Global, value: &Value) -> Result<Reading<EmailCondition>, AllocError>
+    ensures { IfOk result (λ r. r ≡ of_record (λ keyword. RecordCondition.NotKeyword keyword) (values.keyword_given (view value.now))) }
+{
+    match keyword_given(alloc, value)? {
+        None => Ok(Reading::Wrong),
+        Some(keyword) => Ok(record(RecordCondition::NotKeyword(keyword))),
+    }
+}
+
+fn in_thread(
+    alloc: Global,
+    quantity: Quantity,
+    value: &Value,
+) -> Result<Reading<EmailCondition>, AllocError>
+    ensures { IfOk result (λ r. r ≡ readings.means (λ keyword. EmailCondition.Thread quantity keyword) (values.keyword_given (view value.now))) }
+{
+    match keyword_given(alloc, value)? {
+        None => Ok(Reading::Wrong),
+        Some(keyword) => Ok(Reading::Means(EmailCondition::Thread(quantity, keyword))),
+    }
+}
+
+fn in_field(
+    alloc: Global,
+    field: TextField,
+    value: &Value,
+) -> Result<Reading<EmailCondition>, AllocError>
+    ensures { IfOk result (λ r. r ≡ of_record (λ word. RecordCondition.InField field word) (as_str (view value.now))) }
+{
+    match word_of(alloc, value)? {
+        None => Ok(Reading::Wrong),
+        Some(word) => Ok(record(RecordCondition::InField { field, word })),
+    }
+}
+
+fn header_named(
+    alloc: Global,
+    name: &str,
+    word: Option<Bytes>,
+) -> Result<Reading<EmailCondition>, AllocError>
+    ensures { IfOk result (λ r. r ≡ Reading.Means (EmailCondition.Header name.now word)) }
+{
+    let name = Bytes::copy_of(alloc, name.as_bytes())?;
+    Ok(Reading::Means(EmailCondition::Header(name, word)))
+}
+
+/// The condition that a list of a field's name, and a word in it, is.
+fn field_and_word(alloc: Global, texts: &[&str]) -> Result<Reading<EmailCondition>, AllocError>
+    ensures { IfOk result (λ r. r ≡ spec.field_and_word (map (λ t. t.now) texts.now)) }
+{
+    match texts {
+        [name] => header_named(alloc, *name, None),
+        [name, word] => {
+            let word = Bytes::copy_of(alloc, word.as_bytes())?;
+            header_named(alloc, *name, Some(word))
+        }
+        _ => Ok(Reading::Wrong),
+    }
+}
+
+fn header(alloc: Global, value: &Value) -> Result<Reading<EmailCondition>, AllocError>
+    ensures { IfOk result (λ r. r ≡ spec.header_condition (values.list_of_texts (view value.now))) }
+{
+    match list_of_texts(alloc, value)? {
+        None => Ok(Reading::Wrong),
+        Some(texts) => field_and_word(alloc, texts.as_slice()),
+    }
+}
+
+/// The condition that a member of a FilterCondition is (RFC 8621 section 4.4.1).
+pub(crate) fn email_condition(
+    alloc: Global,
+    key: &str,
+    value: &Value,
+) -> Result<Reading<EmailCondition>, AllocError>
+    ensures { IfOk result (λ r. r ≡ spec.email_condition_in key.now (view value.now)) }
+{
+    match key {
+        "inMailbox" => Ok(in_mailbox(value)),
+        "inMailboxOtherThan" => in_mailbox_other_than(alloc, value),
+        "before" => Ok(received_before(value)),
+        "after" => Ok(received_after(value)),
+        "minSize" => Ok(min_size(value)),
+        "maxSize" => Ok(max_size(value)),
+        "allInThreadHaveKeyword" => in_thread(alloc, Quantity::All, value),
+        "someInThreadHaveKeyword" => in_thread(alloc, Quantity::Some, value),
+        "noneInThreadHaveKeyword" => in_thread(alloc, Quantity::None, value),
+        "hasKeyword" => has_keyword(alloc, value),
+        "notKeyword" => not_keyword(alloc, value),
+        "from" => in_field(alloc, TextField::From, value),
+        "to" => in_field(alloc, TextField::To, value),
+        "cc" => in_field(alloc, TextField::Cc, value),
+        "bcc" => in_field(alloc, TextField::Bcc, value),
+        "subject" => in_field(alloc, TextField::Subject, value),
+        "header" => header(alloc, value),
+        _ => Ok(Reading::Unsupported),
+    }
+}
