@@ -1,0 +1,8 @@
+pub mod KeptLemmas
+pub mod EntryLemmas
+pub mod ListLemmas
+pub mod FilterLemmas
+pub mod AnswerLemmas
+pub mod FoundLemmas
+pub mod OneAnswer
+pub mod HeaderLemmas

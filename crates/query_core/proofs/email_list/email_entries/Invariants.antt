@@ -1,0 +1,10 @@
+use Rattle.std.proofs.Common.{◌≡◌, ◌++◌, drop}
+use Rattle.served_maps.specs.Past.{served}
+use Rattle.mail_maps.specs.Serve.{email_of}
+use Rattle.mail_conditions.specs.Entries.{emails_at}
+use Rattle.query_core.proofs.email_list.email_entries.Given as goal
+
+-- those so far, and those of the rest
+abbrev pub invariant-loop-number : goal.invariant-loop-number
+invariant-loop-number l =
+    emails_at l.entries.items ++ served email_of (drop l.number-index l.state.rows.numbered.rows) ≡ served email_of l.state.rows.numbered.rows

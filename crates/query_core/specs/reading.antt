@@ -1,0 +1,4 @@
+-- What the code finds of Threads and of lists: private clauses and proofs alone speak of it.
+pub mod Found
+pub mod Kept
+pub mod ListAnswers

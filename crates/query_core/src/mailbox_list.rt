@@ -1,0 +1,127 @@
+// The list of a query of Mailboxes.
+ghost use Rattle.std.specs.Prelude.{◌≡◌, ◌++◌, ◌∷◌, [], IfOk, OnOk, Some, if◌then◌else◌};
+ghost use Rattle.change_list.specs.Advance.{row_at};
+ghost use Rattle.served_maps.specs.Past.{served};
+ghost use Rattle.mail_maps.specs.Serve.{mailbox_of};
+ghost use Rattle.mail_maps.specs.declared.row.MailboxRow as declared;
+ghost use Rattle.mail_conditions.specs.Mailboxes.{MailboxMatches};
+ghost use Rattle.mail_orders.specs.Entries.{mailboxes_at};
+ghost use Rattle.mail_state.specs.History.{MailHistory};
+ghost use Rattle.mail_state.specs.State.{IsStateOf};
+ghost use Rattle.query_arguments.specs.Asked.{list_seen};
+ghost use Rattle.query_arguments.specs.FilterTrees.{filter_tree};
+ghost use Rattle.query_lists.specs.Filters.{PassesFilter};
+ghost use Rattle.query_lists.specs.Ordered as ordered;
+ghost use Rattle.query_lists.specs.Ordered.{AscendByNumber};
+ghost use Rattle.query_core.specs.Lists.{IsMailboxList};
+ghost use Rattle.query_core.specs.reading.Kept.{Keeps};
+
+use crate::filter_walk::{Tested, takes};
+use mail_conditions::{MailboxCondition, mailbox_matches};
+use mail_orders::{MailboxComparator, MailboxEntry, sort_mailboxes};
+use mail_state::{MailState, MailType};
+use query_arguments::{AskedList, Filter};
+use std::alloc::{AllocError, Global};
+
+impl<'a> Tested<MailboxCondition> for MailboxEntry<'a> {
+    ghost use Rattle.mail_conditions.specs.Mailboxes.{MailboxMatches};
+    ghost use Rattle.mail_maps.specs.Serve.{mailbox_of};
+
+    ghost Knows = { λ b c. Unit {0} };
+
+    ghost Holds = { λ b c. MailboxMatches (mailbox_of b.row.now) c };
+
+    fn holds(&self, condition: &MailboxCondition) -> Result<bool, AllocError> {
+        Ok(mailbox_matches(self.row, condition))
+    }
+}
+
+/// Adds the Mailbox of a number, where there is one.
+fn put_mailbox<'a>(
+    state: &'a MailState,
+    number: u64,
+    entries: &mut Vec<MailboxEntry<'a>>,
+) -> Result<(), AllocError>
+    ensures { OnOk result ((row : declared.MailboxRow) → row_at state.now.rows.mailboxes number ≡ Some row
+        → mailboxes_at entries.new.items ≡ mailboxes_at entries.old.items ++ (number, mailbox_of row) ∷ []) }
+{
+    match state.mailbox(number) {
+        None => Ok(()),
+        Some(row) => {
+            entries.push(MailboxEntry { number, row })?;
+            Ok(())
+        }
+    }
+}
+
+/// All Mailboxes, by number.
+fn mailbox_entries<'a>(
+    alloc: Global,
+    state: &'a MailState,
+) -> Result<Vec<MailboxEntry<'a>>, AllocError>
+    ensures rows { IfOk result (λ v. mailboxes_at v.items ≡ served mailbox_of state.now.rows.mailboxes) }
+    ensures ascending { IfOk result (λ v. AscendByNumber (mailboxes_at v.items)) }
+{
+    let numbers = state.numbers(MailType::Mailbox)?;
+    let mut entries = Vec::with_capacity(alloc, numbers.len())?;
+    for number in &numbers {
+        put_mailbox(state, *number, &mut entries)?;
+    }
+    Ok(entries)
+}
+
+/// Adds a Mailbox, where it is taken.
+fn keep_if<'a>(
+    rows: &mut Vec<MailboxEntry<'a>>,
+    mailbox: MailboxEntry<'a>,
+    taken: bool,
+) -> Result<(), AllocError>
+    ensures { OnOk result (rows.new.items ≡ (if taken then rows.old.items ++ mailbox.entry ∷ [] else rows.old.items)) }
+{
+    if taken {
+        rows.push(mailbox)?;
+    }
+    Ok(())
+}
+
+/// Those that the filter takes, in their order.
+fn taken<'a>(
+    alloc: Global,
+    mailboxes: &[MailboxEntry<'a>],
+    filter: &Filter<MailboxCondition>,
+) -> Result<Vec<MailboxEntry<'a>>, AllocError>
+    ensures { IfOk result (λ v. Keeps (λ b. PassesFilter (MailboxMatches b.1) (filter_tree filter.now)) (mailboxes_at mailboxes.now) (mailboxes_at v.items)) }
+{
+    let mut rows = Vec::new(alloc);
+    for mailbox in mailboxes {
+        let taken = takes(mailbox, filter)?;
+        keep_if(&mut rows, *mailbox, taken)?;
+    }
+    Ok(rows)
+}
+
+/// The numbers of rows, in their order.
+fn numbers_of(alloc: Global, rows: &[MailboxEntry<'_>]) -> Result<Vec<u64>, AllocError>
+    ensures { IfOk result (λ v. v.items ≡ ordered.numbers_of (mailboxes_at rows.now)) }
+{
+    let mut numbers = Vec::with_capacity(alloc, rows.len())?;
+    for row in rows {
+        numbers.push(row.number)?;
+    }
+    Ok(numbers)
+}
+
+/// The numbers of the Mailboxes that the filter takes, in the order asked (RFC 8621 section 2.3).
+pub fn mailbox_numbers(
+    alloc: Global,
+    state: &MailState,
+    asked: &AskedList<MailboxCondition, MailboxComparator>,
+) -> Result<Vec<u64>, AllocError>
+    ensures list { IfOk result (λ v. IsMailboxList (served mailbox_of state.now.rows.mailboxes) (list_seen asked.now) v.items) }
+    ensures histories { IfOk result (λ v. (h : MailHistory) → IsStateOf h state.now → IsMailboxList h.mailboxes.now (list_seen asked.now) v.items) }
+{
+    let mailboxes = mailbox_entries(alloc, state)?;
+    let mut rows = taken(alloc, &mailboxes, &asked.filter)?;
+    sort_mailboxes(&mut rows, &asked.sort)?;
+    numbers_of(alloc, &rows)
+}
