@@ -23,5 +23,5 @@ pub use gets::{AskedNumbers, asked_numbers, count_of_ids, distinct, get_value};
 pub use ids::{EMAIL_LETTER, MAILBOX_LETTER, THREAD_LETTER, id_list, id_text, id_value, read_id};
 pub use method_error::{MethodError, error_arguments};
 pub use numbers::Numbers;
-pub use state::{State, read_state, state_text};
+pub use state::{State, read_place, read_state, state_text};
 pub use using::Using;
