@@ -11,6 +11,7 @@ mod arguments;
 mod core_echo;
 mod gets;
 mod ids;
+mod members;
 mod numbers;
 mod state;
 
@@ -21,6 +22,7 @@ pub use arguments::{
 pub use core_echo::echo;
 pub use gets::{AskedNumbers, asked_numbers, count_of_ids, distinct, get_value};
 pub use ids::{EMAIL_LETTER, MAILBOX_LETTER, THREAD_LETTER, id_list, id_text, id_value, read_id};
+pub use members::put_text;
 pub use method_error::{MethodError, error_arguments};
 pub use numbers::Numbers;
 pub use state::{State, read_place, read_state, state_text};

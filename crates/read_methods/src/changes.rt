@@ -18,7 +18,7 @@ ghost use Rattle.read_methods.specs.reading.Found.{Finds, AnswersFound};
 use change_list::{ChangeList, Changes, SinceError};
 use jmap_methods::{
     ACCOUNT_ID, EMAIL_LETTER, MAILBOX_LETTER, MethodError, State, THREAD_LETTER, check_account,
-    id_list, most_or_null, read_place, state_text, text_at,
+    id_list, most_or_null, put_text, read_place, state_text, text_at,
 };
 use mail_state::{MailState, MailType};
 use serde_json::{Map, Value, json, put};
@@ -82,17 +82,6 @@ fn find<'a>(epoch: u64, list: &ChangeList, arguments: &'a Value) -> Result<Found
         Err(SinceError::AfterEnd { .. }) => Err(MethodError::CannotCalculateChanges),
         Err(SinceError::Memory) => Err(MethodError::Memory),
     }
-}
-
-fn put_text(
-    members: &mut Map<String, Value>,
-    alloc: Global,
-    key: &str,
-    text: &str,
-) -> Result<(), AllocError>
-    ensures { OnOk result (members_view members.new.entries ≡ put_data key.now (string text.now) (members_view members.old.entries)) }
-{
-    put(members, alloc, key, Value::try_from_str(alloc, text)?)
 }
 
 fn put_ids(
