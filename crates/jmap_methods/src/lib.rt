@@ -17,7 +17,7 @@ mod state;
 
 pub use arguments::{
     ACCOUNT_ID, MAX_OBJECTS_IN_GET, MAX_WHOLE_NUMBER, check_account, check_count, is_among,
-    most_or_null, text_at, texts_in, texts_or_null, whole_or_null,
+    most_or_null, text_at, texts_in, texts_or_null, whole_in, whole_or_null,
 };
 pub use core_echo::echo;
 pub use gets::{AskedNumbers, asked_numbers, count_of_ids, distinct, get_value};
