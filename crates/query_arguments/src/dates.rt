@@ -1,10 +1,9 @@
 // Dates in UTC (RFC 8620 section 1.4, RFC 3339 section 5.6).
-ghost use Rattle.std.specs.Prelude.{◌≡◌, ◌<◌, ◌≤◌, IfSome, option_map, length};
-ghost use Rattle.header_dates.specs.Dates.{value_from};
+ghost use Rattle.std.specs.Prelude.{◌≡◌, ◌≤◌, IfSome, option_map};
 ghost use Rattle.serde_json.specs.View.{view};
 ghost use Rattle.query_arguments.specs.Dates as dates;
 
-use header_dates::{Clock, Day, moment_of};
+use header_dates::{Clock, Day, moment_of, value_of_digits};
 use serde_json::Value;
 use text_words::{Digit, are_all, cut};
 
@@ -21,19 +20,6 @@ fn after(octet: u8, text: &[u8]) -> Option<&[u8]>
     }
 }
 
-/// The number that up to four digits spell.
-fn value_of(digits: &[u8]) -> u32
-    requires { length digits.now ≤ 4 }
-    ensures value { result ≡ value_from 0 digits.now }
-    ensures small { result < 300000 }
-{
-    let mut value: u32 = 0;
-    for digit in digits {
-        value = 10 * value + (*digit as u32).saturating_sub(b'0' as u32);
-    }
-    value
-}
-
 /// The number of so many digits at the front, and what follows them.
 fn number_at(digits: usize, text: &[u8]) -> Option<(u32, &[u8])>
     requires { digits ≤ 4 }
@@ -44,7 +30,7 @@ fn number_at(digits: usize, text: &[u8]) -> Option<(u32, &[u8])>
     }
     let (front, rest) = text.split_at(digits);
     if are_all(&Digit, front) {
-        Some((value_of(front), rest))
+        Some((value_of_digits(front), rest))
     } else {
         None
     }
