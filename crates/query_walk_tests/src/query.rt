@@ -118,7 +118,8 @@ impl Query {
         Ok(is_right)
     }
 
-    /// Whether as many changes as are answered may be allowed, and one less may not.
+    /// Whether as many changes as are answered may be allowed, and one less may not. None or one are left out, since at least one
+    /// has to be allowed.
     fn is_bounded(
         &mut self,
         state: &MailState,
@@ -128,11 +129,11 @@ impl Query {
         let changes = changes_of(self.alloc, answer, self.kind.letter())?;
         let count = changes.removed.len() as u64;
         let count = count.saturating_add(changes.added.len() as u64);
+        if count < 2 {
+            return Ok(true);
+        }
         let is_answered = self.ask(state, slot, Some(count)).is_ok();
-        let Some(less) = count.checked_sub(1) else {
-            return Ok(is_answered);
-        };
-        let refusal = self.ask(state, slot, Some(less)).err();
+        let refusal = self.ask(state, slot, Some(count - 1)).err();
         let is_refused = refusal == Some(MethodError::TooManyChanges);
         self.counts.many = self.counts.many.saturating_add(u64::from(is_refused));
         Ok(is_answered && is_refused)
