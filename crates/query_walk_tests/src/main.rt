@@ -67,11 +67,7 @@ impl Rows {
     /// The mail changes once, or in one step of two up to 63 times, and the state goes on to it.
     fn go_on(&mut self) -> Result<(), AllocError> {
         let chance = self.random.next();
-        let times = if chance % 2 == 0 {
-            chance / 2 % 64
-        } else {
-            1
-        };
+        let times = if chance % 2 == 0 { chance / 2 % 64 } else { 1 };
         self.change_mail(times)?;
         if let Some(state) = self.state.take() {
             self.state = state.apply(&self.told.mirror).ok().map(|step| step.0);

@@ -73,11 +73,7 @@ impl Query {
         if told != Some(self.kind != Kind::Threads) {
             return Ok(None);
         }
-        Ok(Some(list_of(
-            self.alloc,
-            &answer,
-            self.kind.letter(),
-        )?))
+        Ok(Some(list_of(self.alloc, &answer, self.kind.letter())?))
     }
 
     /// What is answered to what changed since a state, where so many changes are allowed.
@@ -150,10 +146,12 @@ impl Query {
         let since = self.earlier.get(slot).map_or("", |list| &list.state);
         let is_old = is_too_old(since, &present.state);
         match self.ask(state, slot, None) {
-            Ok(answer) => Ok(self.kind != Kind::Threads
-                && !is_old
-                && self.splices(slot, &answer, present)?
-                && (!is_bounded || self.is_bounded(state, slot, &answer)?)),
+            Ok(answer) => Ok(
+                self.kind != Kind::Threads
+                    && !is_old
+                    && self.splices(slot, &answer, present)?
+                    && (!is_bounded || self.is_bounded(state, slot, &answer)?),
+            ),
             Err(MethodError::CannotCalculateChanges) => {
                 let threads = u64::from(self.kind == Kind::Threads);
                 let old = u64::from(is_old && self.kind != Kind::Threads);

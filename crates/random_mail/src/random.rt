@@ -167,10 +167,7 @@ impl Random {
             _ => {
                 let chance = self.next();
                 let attributes = one_of(self.alloc, &self.attributes, chance)?;
-                Ok((
-                    "listed",
-                    format!(in self.alloc; "{number} {attributes}")?,
-                ))
+                Ok(("listed", format!(in self.alloc; "{number} {attributes}")?))
             }
         }
     }
