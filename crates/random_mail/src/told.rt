@@ -10,7 +10,7 @@ const LAST: u64 = 9_007_199_254_740_991;
 
 /// The mail that was told.
 #[derive(Drop)]
-pub(crate) struct Told {
+pub struct Told {
     pub mirror: Mirror,
     /// Whether all was told, moved and named.
     pub is_right: bool,
@@ -26,8 +26,37 @@ fn parted(text: &str) -> (&str, &str) {
     text.split_once('|').unwrap_or((text, ""))
 }
 
+/// Adds the attributes of a folder, between spaces.
+fn put_attributes(lines: &mut Vec<u8>, folder: &Folder) -> Result<(), AllocError> {
+    for (at, attribute) in folder.attributes.as_slice().iter().enumerate() {
+        if at != 0 {
+            lines.push(b' ')?;
+        }
+        lines.extend_from_slice(attribute.as_slice())?;
+    }
+    Ok(())
+}
+
+/// Adds the line of a folder: with these attributes, else with its own.
+fn put_line(
+    lines: &mut Vec<u8>,
+    folder: &Folder,
+    attributes: Option<&str>,
+) -> Result<(), AllocError> {
+    lines.extend_from_slice(b"* LIST (")?;
+    match attributes {
+        Some(text) => lines.extend_from_slice(text.as_bytes())?,
+        None => put_attributes(lines, folder)?,
+    }
+    lines.extend_from_slice(b") \"/\" ")?;
+    lines.extend_from_slice(folder.name.as_slice())?;
+    lines.extend_from_slice(b"\r\n")?;
+    Ok(())
+}
+
 impl Told {
-    pub(crate) fn new(alloc: Global) -> Told {
+    /// No mail.
+    pub fn new(alloc: Global) -> Told {
         Told {
             mirror: Mirror::new(alloc),
             is_right: true,
@@ -55,7 +84,7 @@ impl Told {
         Ok(())
     }
 
-    /// Writes down all of a message, as a store sends it. It came in this second of 1970.
+    /// Writes down all of a message, as a store sends it. It came in this second of 1970, and has no body.
     fn put_message(
         &mut self,
         uid: u32,
@@ -65,7 +94,7 @@ impl Told {
     ) -> Result<(), AllocError> {
         let count = header.len();
         let front = format!(in self.alloc;
-            "* 1 FETCH (UID {uid} FLAGS ({flags}) INTERNALDATE \"01-Jan-1970 00:00:{second:02} +0000\" RFC822.SIZE 9 BODY[HEADER]<0> {{{count}}}\r\n"
+            "* 1 FETCH (UID {uid} FLAGS ({flags}) INTERNALDATE \"01-Jan-1970 00:00:{second:02} +0000\" RFC822.SIZE {count} BODY[HEADER]<0> {{{count}}}\r\n"
         )?;
         self.octets.extend_from_slice(front.as_bytes())?;
         self.octets.extend_from_slice(header)?;
@@ -198,12 +227,28 @@ impl Told {
         }
     }
 
+    /// Tells all folders by their lines. That of this number has these attributes, the others have theirs.
+    fn list(&mut self, number: u64, attributes: &str) -> Result<(), AllocError> {
+        let mut lines = Vec::new(self.alloc);
+        for held in self.mirror.folders() {
+            let told = if held.folder.number == number {
+                Some(attributes)
+            } else {
+                None
+            };
+            put_line(&mut lines, &held.folder, told)?;
+        }
+        self.octets.extend_from_slice(&lines)?;
+        self.tell("list", "")
+    }
+
     /// Does what a line says of a mark or of a folder's number.
     fn change_numbered(&mut self, word: &str, text: &str) -> Result<(), AllocError> {
         let (number, rest) = first_number(text);
         match word {
             "moved" => self.move_message(number, rest),
             "renamed" => self.name_folder(number, rest),
+            "listed" => self.list(number, rest),
             "renewed" => self.renew(number, rest),
             "cut" => {
                 self.mirror.cut_folder(number);
@@ -216,8 +261,20 @@ impl Told {
         }
     }
 
-    /// Does what a line says of the mail.
-    pub(crate) fn take(&mut self, word: &str, text: &str) -> Result<(), AllocError> {
+    /// Does what a line says of the mail: what the word is, and what belongs to it. UIDs, marks and folders' numbers are those of
+    /// the mail; in what the store sends, in names and in headers `%` and two hexadecimal digits stand for one octet.
+    ///
+    /// - `store LINE`, `part TEXT` and `repeat COUNT TEXT` write down what the store sends: the line and CR LF, the text, and the
+    ///   text so many times, with the number of each, from 1 on, in place of `%n`.
+    /// - `tell COMMAND|FOLDER` tells the exchange of a command that what is written down, and an OK, answers, while the folder is
+    ///   selected.
+    /// - `mail FOLDER UID SECOND FLAGS|HEADER` tells all of a message, which came in this second of 1970, `flags FOLDER UID FLAGS` the
+    ///   flags of one, and `gone FOLDER UID` that it is gone.
+    /// - `listed NUMBER ATTRIBUTES` tells all folders by their lines, in which that of a number has these attributes.
+    /// - `moved MARK NUMBER UID` puts the message of a mark, without its flags, into the folder of a number at this UID.
+    /// - `renamed NUMBER NAME`: the folder of a number, which may be new, has this name. `cut NUMBER`: it is taken out.
+    /// - `renewed NUMBER NAME VALIDITY` tells that it has another UIDVALIDITY, and its messages, without flags, as new ones.
+    pub fn take(&mut self, word: &str, text: &str) -> Result<(), AllocError> {
         match word {
             "store" => {
                 self.put(text)?;

@@ -1,7 +1,7 @@
 use Rattle.std.proofs.Common.{◌≡◌, ℕ, List, Option, Some, None, sym, ap, ◌∙◌, option_map}
 use Rattle.told_folder.specs.declared.message.Held.{Held}
 use Rattle.told_mail.specs.Mail.{named}
-use Rattle.served_tests.proofs.told.Told.name_folder.Goals as goal
+use Rattle.random_mail.proofs.told.Told.name_folder.Goals as goal
 
 pub put_folder-requires-clause-name : goal.put_folder-requires-clause-name
 put_folder-requires-clause-name c n h there same =
