@@ -1,6 +1,6 @@
 // What queries of Emails cost, beside sorts of the same keys.
 use crate::plain::{dates, keys_of_all, subjects};
-use crate::timed::{Timed, Work, say_in_turn};
+use crate::timed::{Work, say_in_turn};
 use mail_state::MailState;
 use process_watch::resident;
 use query_core::email_query;
@@ -47,12 +47,7 @@ fn say_query(
     let whole = arguments(rt.alloc(), list, "")?;
     let first = arguments(rt.alloc(), list, FIRST)?;
     println!(rt; "{what}")?;
-    let mut things = [
-        Timed::new("query", Work::Query(&whole)),
-        Timed::new("query of 50", Work::Query(&first)),
-        Timed::new("beside it", plain),
-    ];
-    say_in_turn(rt, state, &mut things)
+    say_in_turn(rt, state, Work::Query(&whole), Work::Query(&first), plain)
 }
 
 /// Times queries by date, by subject and by sender.
@@ -74,27 +69,25 @@ pub fn say_filter(
     filter: &str,
 ) -> Result<(), anyhow::Error> {
     let list = format!(in rt.alloc(); "\"filter\":{filter}")?;
-    let filtered = arguments(rt.alloc(), &list, FIRST)?;
+    let whole = arguments(rt.alloc(), &list, "")?;
+    let first = arguments(rt.alloc(), &list, FIRST)?;
     let all = arguments(rt.alloc(), "\"filter\":null", FIRST)?;
-    println!(rt; "by FILTER, without an order")?;
-    let mut things = [
-        Timed::new("query of 50", Work::Query(&filtered)),
-        Timed::new("query of 50 without a filter", Work::Query(&all)),
-    ];
-    say_in_turn(rt, state, &mut things)
+    println!(rt; "by FILTER, without an order; beside it 50 without a filter")?;
+    say_in_turn(rt, state, Work::Query(&whole), Work::Query(&first), Work::Query(&all))
 }
 
-/// Times what is answered of what changed since a state, beside the query.
+/// Times a query, and what is answered of what changed in its list since a state.
 pub fn say_changes(rt: &HostRuntime, state: &MailState, since: &str) -> Result<(), anyhow::Error> {
     let named = format!(in rt.alloc(); ",\"sinceQueryState\":\"{since}\"")?;
-    let changes = arguments(rt.alloc(), BY_DATE, &named)?;
     let whole = arguments(rt.alloc(), BY_DATE, "")?;
     let first = arguments(rt.alloc(), BY_DATE, FIRST)?;
-    println!(rt; "changes by date")?;
-    let mut things = [
-        Timed::new("queryChanges", Work::QueryChanges(&changes)),
-        Timed::new("query", Work::Query(&whole)),
-        Timed::new("query of 50", Work::Query(&first)),
-    ];
-    say_in_turn(rt, state, &mut things)
+    let changes = arguments(rt.alloc(), BY_DATE, &named)?;
+    println!(rt; "by date; beside it queryChanges")?;
+    say_in_turn(
+        rt,
+        state,
+        Work::Query(&whole),
+        Work::Query(&first),
+        Work::QueryChanges(&changes),
+    )
 }

@@ -50,22 +50,17 @@ fn done(alloc: Global, state: &MailState, work: Work<'_>) -> Result<usize, anyho
     }
 }
 
-/// Something that is done several times, and the least and the most microseconds that it took.
-#[derive(Drop)]
-pub struct Timed<'a> {
-    what: &'a str,
-    work: Work<'a>,
+/// The least and the most microseconds that something took, and how many items it had the last time.
+#[derive(Clone, Copy)]
+struct Spread {
     least: u128,
     most: u128,
     count: usize,
 }
 
-impl<'a> Timed<'a> {
-    /// Nothing is done yet.
-    pub fn new(what: &'a str, work: Work<'a>) -> Timed<'a> {
-        Timed {
-            what,
-            work,
+impl Spread {
+    fn new() -> Spread {
+        Spread {
             least: u128::MAX,
             most: 0,
             count: 0,
@@ -73,50 +68,47 @@ impl<'a> Timed<'a> {
     }
 
     /// Does it once more.
-    fn run(&mut self, rt: &HostRuntime, state: &MailState) -> Result<(), anyhow::Error> {
+    fn with(
+        self,
+        rt: &HostRuntime,
+        state: &MailState,
+        work: Work<'_>,
+    ) -> Result<Spread, anyhow::Error> {
         let start = Instant::now(rt)?;
-        self.count = done(rt.alloc(), state, self.work)?;
+        let count = done(rt.alloc(), state, work)?;
         let taken = start.elapsed(rt)?.as_micros();
-        self.least = self.least.min(taken);
-        self.most = self.most.max(taken);
-        Ok(())
+        Ok(Spread {
+            least: self.least.min(taken),
+            most: self.most.max(taken),
+            count,
+        })
     }
 
-    fn say(&self, rt: &HostRuntime) -> Result<(), anyhow::Error> {
-        let Timed {
-            what,
-            work: _,
-            least,
-            most,
-            count,
-        } = self;
+    fn say(self, rt: &HostRuntime, what: &str) -> Result<(), anyhow::Error> {
+        let Spread { least, most, count } = self;
         println!(rt; "{what}: {least} to {most} microseconds; {count} items")?;
         Ok(())
     }
 }
 
-fn run_each(
-    rt: &HostRuntime,
-    state: &MailState,
-    things: &mut [Timed<'_>],
-) -> Result<(), anyhow::Error> {
-    for thing in things {
-        thing.run(rt, state)?;
-    }
-    Ok(())
-}
-
-/// Does things in turn, several times, and says how long each took at least and at most.
+/// Does a query, its first ids and what stands beside them in turn, several times, and says how long each took at least and at
+/// most.
 pub fn say_in_turn(
     rt: &HostRuntime,
     state: &MailState,
-    things: &mut [Timed<'_>],
+    query: Work<'_>,
+    first: Work<'_>,
+    beside: Work<'_>,
 ) -> Result<(), anyhow::Error> {
+    let mut whole = Spread::new();
+    let mut part = Spread::new();
+    let mut other = Spread::new();
     for _ in 0..RUNS {
-        run_each(rt, state, &mut *things)?;
+        whole = whole.with(rt, state, query)?;
+        part = part.with(rt, state, first)?;
+        other = other.with(rt, state, beside)?;
     }
-    for thing in things {
-        thing.say(rt)?;
-    }
-    Ok(())
+    whole.say(rt, "query")?;
+    part.say(rt, "query of 50")?;
+    other.say(rt, "beside it")
 }
