@@ -1,6 +1,6 @@
 use Rattle.std.proofs.Common.{◌≡◌, ◌≤◌, drop}
 use Rattle.header_dates.specs.Dates.{value_from}
-use Rattle.query_arguments.proofs.dates.value_of.Given as goal
+use Rattle.header_dates.proofs.dates.value_of_digits.Given as goal
 
 abbrev pub invariant-loop-digit : goal.invariant-loop-digit
 invariant-loop-digit l = record {
