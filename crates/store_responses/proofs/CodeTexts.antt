@@ -6,9 +6,10 @@ use Rattle.imap_syntax.proofs.EachLemmas.{each_append, each_all, each_to}
 use Rattle.imap_syntax.proofs.CutLemmas.{other, cut_free, cut_none}
 use Rattle.imap_syntax.specs.declared.code.Code.{Code}
 use Rattle.imap_syntax.specs.declared.code.Code.TheVariants as code
+use Rattle.imap_syntax.specs.declared.uid_set.UidSet.{UidSet}
 use Rattle.imap_syntax.specs.Octets.{is_digit, is_text, is_word}
 use Rattle.imap_syntax.specs.Texts.{Each, crlf, IsWord}
-use Rattle.imap_syntax.specs.Codes.{Parted, IsKnown, in_brackets, Bracketed}
+use Rattle.imap_syntax.specs.Codes.{Parted, IsKnown, in_brackets, Bracketed, HasCode}
 use Rattle.imap_syntax.specs.Lines.{IsLine, IsRest, IsCodedRest}
 use Rattle.imap_syntax.specs.reading.CodeReading.{cut}
 use Rattle.imap_values.proofs.Cuts.{small, text_small}
@@ -119,6 +120,37 @@ pub record HasRest (c : Code) (t : List ℕ) : Type 0 where
 no_bracket : (inner behind : List ℕ) → line_end ≡ 32 ∷ 91 ∷ inner ++ 93 ∷ behind → ⊥
 no_bracket inner behind e = eqb-false 100 91 refl (ap (λ (u : List ℕ). get_or u 1 0) e)
 
+-- a code in brackets, whose words are of A
+in_rest : (c : Code) (A : List ℕ → Type 0) (inner : List ℕ) → Each is_coded inner → A inner
+    → (Bracketed A ((32 ∷ 91 ∷ inner ++ 93 ∷ []) ++ line_end) → HasCode c ((32 ∷ 91 ∷ inner ++ 93 ∷ []) ++ line_end))
+    → HasRest c ((32 ∷ 91 ∷ inner ++ 93 ∷ []) ++ line_end)
+in_rest c A inner each says code = let b = bracketed A inner each says in record { rest = (b.rest, code b.code); octet = b.octet }
+
+append_known : (validity uid : ℕ) → IsNonZeroNumber validity → IsNonZeroNumber uid → IsKnown (code.AppendUid validity uid) (code_words (code.AppendUid validity uid))
+append_known validity uid h g = record {
+  front = codes "APPENDUID";
+  back = decimal validity ++ 32 ∷ decimal uid;
+  whole = refl;
+  first = refl;
+  second = record { front = decimal validity; back = decimal uid; whole = refl; first = nonzero_text validity h; second = nonzero_text uid g };
+}
+
+copy_known : (validity : ℕ) (from to : UidSet) → IsNonZeroNumber validity → IsSendableSet from.ranges → IsSendableSet to.ranges
+    → IsKnown (code.CopyUid validity from to) (code_words (code.CopyUid validity from to))
+copy_known validity from to h f g = record {
+  front = codes "COPYUID";
+  back = decimal validity ++ (32 ∷ ranges_text from.ranges ++ 32 ∷ ranges_text to.ranges);
+  whole = refl;
+  first = refl;
+  second = record {
+    front = decimal validity;
+    back = ranges_text from.ranges ++ 32 ∷ ranges_text to.ranges;
+    whole = refl;
+    first = nonzero_text validity h;
+    second = record { front = ranges_text from.ranges; back = ranges_text to.ranges; whole = refl; first = set_text from.ranges f; second = set_text to.ranges g };
+  };
+}
+
 -- a status line goes on, after the status, with its code
 pub code_spelled : (c : Code) → IsSendableCode c → HasRest c (code_text c ++ line_end)
 code_spelled code.Absent h = record {
@@ -126,61 +158,23 @@ code_spelled code.Absent h = record {
   octet = refl;
 }
 code_spelled (code.UidValidity n) h =
-    let b = bracketed (IsKnown (code.UidValidity n)) (code_words (code.UidValidity n)) (words_coded (code.UidValidity n) h)
-    (record { front = codes "UIDVALIDITY"; back = decimal n; whole = refl; first = refl; second = nonzero_text n h }) in
-    record { rest = (b.rest, b.code); octet = b.octet }
+    let c = code.UidValidity n in
+    in_rest c (IsKnown c) (code_words c) (words_coded c h) (record { front = codes "UIDVALIDITY"; back = decimal n; whole = refl; first = refl; second = nonzero_text n h }) (λ b. b)
 code_spelled (code.UidNext n) h =
-    let b = bracketed (IsKnown (code.UidNext n)) (code_words (code.UidNext n)) (words_coded (code.UidNext n) h)
-    (record { front = codes "UIDNEXT"; back = decimal n; whole = refl; first = refl; second = nonzero_text n h }) in
-    record { rest = (b.rest, b.code); octet = b.octet }
+    let c = code.UidNext n in
+    in_rest c (IsKnown c) (code_words c) (words_coded c h) (record { front = codes "UIDNEXT"; back = decimal n; whole = refl; first = refl; second = nonzero_text n h }) (λ b. b)
 code_spelled (code.HighestModSeq n) h =
-    let b = bracketed (IsKnown (code.HighestModSeq n)) (code_words (code.HighestModSeq n)) (words_coded (code.HighestModSeq n) h)
-    (record { front = codes "HIGHESTMODSEQ"; back = decimal n; whole = refl; first = refl; second = long_text n h }) in
-    record { rest = (b.rest, b.code); octet = b.octet }
-code_spelled code.NoModSeq h =
-    let b = bracketed (IsKnown code.NoModSeq) (code_words code.NoModSeq) (words_coded code.NoModSeq h) refl in
-    record { rest = (b.rest, b.code); octet = b.octet }
-code_spelled code.Closed h =
-    let b = bracketed (IsKnown code.Closed) (code_words code.Closed) (words_coded code.Closed h) refl in
-    record { rest = (b.rest, b.code); octet = b.octet }
+    let c = code.HighestModSeq n in
+    in_rest c (IsKnown c) (code_words c) (words_coded c h) (record { front = codes "HIGHESTMODSEQ"; back = decimal n; whole = refl; first = refl; second = long_text n h }) (λ b. b)
+code_spelled code.NoModSeq h = let c = code.NoModSeq in in_rest c (IsKnown c) (code_words c) (words_coded c h) refl (λ b. b)
+code_spelled code.Closed h = let c = code.Closed in in_rest c (IsKnown c) (code_words c) (words_coded c h) refl (λ b. b)
 code_spelled (code.AppendUid validity uid) h =
-    let b = bracketed (IsKnown (code.AppendUid validity uid)) (code_words (code.AppendUid validity uid)) (words_coded (code.AppendUid validity uid) h)
-    (record {
-      front = codes "APPENDUID";
-      back = decimal validity ++ 32 ∷ decimal uid;
-      whole = refl;
-      first = refl;
-      second = record { front = decimal validity; back = decimal uid; whole = refl; first = nonzero_text validity h.0; second = nonzero_text uid h.1 };
-    }) in
-    record { rest = (b.rest, b.code); octet = b.octet }
+    let c = code.AppendUid validity uid in in_rest c (IsKnown c) (code_words c) (words_coded c h) (append_known validity uid h.0 h.1) (λ b. b)
 code_spelled (code.CopyUid validity from to) h =
-    let b = bracketed (IsKnown (code.CopyUid validity from to)) (code_words (code.CopyUid validity from to)) (words_coded (code.CopyUid validity from to) h)
-    (record {
-      front = codes "COPYUID";
-      back = decimal validity ++ (32 ∷ ranges_text from.ranges ++ 32 ∷ ranges_text to.ranges);
-      whole = refl;
-      first = refl;
-      second = record {
-        front = decimal validity;
-        back = ranges_text from.ranges ++ 32 ∷ ranges_text to.ranges;
-        whole = refl;
-        first = nonzero_text validity h.0;
-        second = record {
-          front = ranges_text from.ranges;
-          back = ranges_text to.ranges;
-          whole = refl;
-          first = set_text from.ranges h.1;
-          second = set_text to.ranges h.2;
-        };
-      };
-    }) in
-    record { rest = (b.rest, b.code); octet = b.octet }
-code_spelled code.OverQuota h =
-    let b = bracketed (IsKnown code.OverQuota) (code_words code.OverQuota) (words_coded code.OverQuota h) refl in
-    record { rest = (b.rest, b.code); octet = b.octet }
+    let c = code.CopyUid validity from to in in_rest c (IsKnown c) (code_words c) (words_coded c h) (copy_known validity from to h.0 h.1 h.2) (λ b. b)
+code_spelled code.OverQuota h = let c = code.OverQuota in in_rest c (IsKnown c) (code_words c) (words_coded c h) refl (λ b. b)
 code_spelled code.Other h =
-    let b = bracketed (λ inner. (c : Code) → IsKnown c inner → ⊥) (code_words code.Other) (words_coded code.Other h) not_known in
-    record { rest = (b.rest, b.code); octet = b.octet }
+    let c = code.Other in in_rest c (λ inner. (k : Code) → IsKnown k inner → ⊥) (code_words c) (words_coded c h) not_known (λ b. b)
 
 -- ---- octets
 

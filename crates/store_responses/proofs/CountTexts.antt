@@ -64,7 +64,8 @@ counted word (Some n) = (word, n) ∷ []
 status_low : (c : ℕ) → is_status_word c ≡ true → small c ≡ true
 status_low c e = grind arith
 
-counted_told : (word : List ℕ) (most : ℕ) (o : Option ℕ) → Each is_status_word word → 0 < length word → most ≤ 2 ^ 63 → IfSome o (λ n. n < most) → AreTold (counted word o)
+counted_told : (word : List ℕ) (most : ℕ) (o : Option ℕ) → Each is_status_word word → 0 < length word → most ≤ 2 ^ 63 → IfSome o (λ n. n < most)
+    → AreTold (counted word o)
 counted_told word most None all some fits h = tt
 counted_told word most (Some n) all some fits h =
     let long : n < 2 ^ 63 = omega (arith, h, fits) in
@@ -87,8 +88,10 @@ counts items =
 
 counts_texts : (items : StatusItems) → map text_of (counts items) ≡ count_texts items
 counts_texts i =
-    texts_join (counted (codes "MESSAGES") i.messages) _ _ _ (counted_text (codes "MESSAGES") i.messages) (texts_join (counted (codes "UIDNEXT") i.uid_next) _ _ _ (counted_text (codes "UIDNEXT") i.uid_next)
-      (texts_join (counted (codes "UIDVALIDITY") i.uid_validity) (counted (codes "HIGHESTMODSEQ") i.modseq) _ _ (counted_text (codes "UIDVALIDITY") i.uid_validity) (counted_text (codes "HIGHESTMODSEQ") i.modseq)))
+    texts_join (counted (codes "MESSAGES") i.messages) _ _ _ (counted_text (codes "MESSAGES") i.messages)
+    (texts_join (counted (codes "UIDNEXT") i.uid_next) _ _ _ (counted_text (codes "UIDNEXT") i.uid_next)
+      (texts_join (counted (codes "UIDVALIDITY") i.uid_validity) (counted (codes "HIGHESTMODSEQ") i.modseq) _ _
+        (counted_text (codes "UIDVALIDITY") i.uid_validity) (counted_text (codes "HIGHESTMODSEQ") i.modseq)))
 
 counts_told : (items : StatusItems) → AreSendableCounts items → AreTold (counts items)
 counts_told i h =

@@ -5,7 +5,7 @@ use Rattle.std.proofs.lemmas.Bool.{ltb-true, ltb-false}
 use Rattle.jiff_core.specs.Calendar.{days_in_month, day_count}
 use Rattle.jiff_core.proofs.CalendarLemmas.{day_count-day, day_count-next_month, day_count-next_year, day_count-last_of_year, days_in_month_bounds}
 use Rattle.jiff_core.proofs.SignedLemmas.{signed_arith}
-use Rattle.store_responses.specs.Sendable.{nearest_date}
+use Rattle.honest_store.specs.WellFormed.{nearest_date}
 use Rattle.imap_syntax.proofs.EachLemmas.{each_append, each_all, each_to}
 use Rattle.imap_syntax.specs.Octets.{is_digit}
 use Rattle.imap_syntax.specs.Texts.{Each}

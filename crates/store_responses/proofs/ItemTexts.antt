@@ -2,6 +2,7 @@
 use Rattle.std.proofs.Common.{◌≡◌, ◌≢◌, ℕ, ◌+◌, ◌<◌, ◌≤◌, ◌^◌, Bool, true, false, cond, ℤ, List, [], ◌∷◌, ◌++◌, length, map, take, codes, decimal, Option, Some, None, IfSome, inl, inr, refl, sym, ap, subst}
 use Rattle.std.proofs.Common.{◌∙◌, arith, append_assoc, All}
 use Rattle.std.proofs.lemmas.List.{map-append, length-map, take_all}
+use Rattle.honest_store.specs.WellFormed.{nearest_date}
 use Rattle.imap_syntax.proofs.EachLemmas.{each_append, each_all}
 use Rattle.imap_syntax.specs.declared.response.FetchItems.{FetchItems}
 use Rattle.imap_syntax.specs.Octets.{is_digit}
@@ -15,7 +16,7 @@ use Rattle.imap_syntax.specs.Items as item
 use Rattle.imap_values.proofs.Cuts.{small, digit_small}
 use Rattle.imap_values.proofs.NameReadings.{joined_small}
 use Rattle.store_responses.specs.ResponseTexts.{names_text, literal_text, count_text, flags_text, modseq_text, internal_date_text, octets_text, item_texts}
-use Rattle.store_responses.specs.Sendable.{IsNonZeroNumber, AreSendableNames, IsSendableLiteral, AreSendableItems, octets_of, nearest_date}
+use Rattle.store_responses.specs.Sendable.{IsNonZeroNumber, AreSendableNames, IsSendableLiteral, AreSendableItems, octets_of}
 use Rattle.store_responses.proofs.Numerals.{decimal_class, decimal_some, decimal_value, count_few, nonzero_text, long_text}
 use Rattle.store_responses.proofs.Marks.{marked, Marks, marks_join, marks_small, marks_front, plain_marked, marks_literal, inside_marked}
 use Rattle.store_responses.proofs.DateTexts.{date_spelled, date_small}
@@ -147,7 +148,8 @@ uid_is None h = tt
 uid_is (Some n) h =
     (plain_is (item.Uid n) (codes "UID") (decimal n) (refl, nonzero_text n h) (number_low (codes "UID ") n (each_all small (codes "UID ") refl) (omega (arith, h.1))), tt)
 
-names_low : (ns : List (List ℕ)) → AllNames ns → Each small (names_text ns)
+-- the octets of names in brackets are below 256
+pub names_low : (ns : List (List ℕ)) → AllNames ns → Each small (names_text ns)
 names_low ns h = (refl, each_append small (joined ns) (41 ∷ []) (joined_small ns h) (refl, tt))
 
 flags_is : (o : Option (List (List ℕ))) → IfSome o AreSendableNames → ArePieces (flags_piece o)
@@ -247,7 +249,8 @@ pieces_texts items =
     texts_join (uid_pieces items.uid) _ _ _ (counts_texts _ (codes "UID") items.uid) (texts_join (flags_piece items.flags) _ _ _ (flags_texts items.flags)
       (texts_join (modseq_piece items.modseq) _ _ _ (modseq_texts items.modseq) (texts_join (date_piece items.date) _ _ _ (date_texts items.date)
         (texts_join (size_pieces items.size) _ _ _ (counts_texts _ (codes "RFC822.SIZE") items.size)
-          (texts_join (header_pieces items.header) (body_pieces items.body) _ _ (octets_texts _ (codes "BODY[HEADER]<0>") items.header) (octets_texts _ (codes "BODY[]<0>") items.body))))))
+          (texts_join (header_pieces items.header) (body_pieces items.body) _ _ (octets_texts _ (codes "BODY[HEADER]<0>") items.header)
+            (octets_texts _ (codes "BODY[]<0>") items.body))))))
 
 -- ---- octets in literals
 
@@ -366,6 +369,3 @@ items_shown items h =
         count = omega (arith, marks.count, pieces_total items, ap (λ (x : List (List ℕ)). length (joined x)) (pieces_texts items));
       };
     }
-
-pub names_small : (ns : List (List ℕ)) → AllNames ns → Each small (names_text ns)
-names_small = names_low

@@ -1,3 +1,5 @@
+-- Written is for the code; the others show that texts spell responses, each after those that it uses.
+pub mod Written
 pub mod Numerals
 pub mod Marks
 pub mod SetTexts

@@ -5,6 +5,7 @@ use Rattle.std.specs.Prelude.{not, ◌||◌, ◌==◌}
 use Rattle.std.specs.List.{list_all}
 use Rattle.std.proofs.lemmas.Bool.{false≢true, and_parts}
 use Rattle.std.proofs.lemmas.Slice.Eq.{bytes_eq-Decides}
+use Rattle.honest_store.specs.WellFormed.{IsToldOctet, IsToldName}
 use Rattle.imap_syntax.proofs.EachLemmas.{each_append, each_all, each_to}
 use Rattle.imap_syntax.proofs.CutLemmas.{other, cut_free, cut_none}
 use Rattle.imap_syntax.specs.declared.code.Code.{Code}
@@ -26,13 +27,13 @@ use Rattle.imap_syntax.specs.Spells.{keywords, Says, Numbered, IsUntagged, Spell
 use Rattle.imap_syntax.specs.reading.CodeReading.{cut}
 use Rattle.imap_values.proofs.Cuts.{small, digit_small, word_small, text_small}
 use Rattle.store_responses.specs.ResponseTexts.{ranges_text, status_text, status_line_text, code_text, names_text, count_texts, item_texts, delimiter_text, earlier_text, text_of_response}
-use Rattle.store_responses.specs.Sendable.{IsSendableSet, IsSendableCode, IsSendableTag, AreSendableNames, AreSendableCounts, AreSendableItems, IsToldOctet, IsToldName, HasSendableValues, octets_of}
+use Rattle.store_responses.specs.Sendable.{IsSendableSet, IsSendableCode, IsSendableTag, AreSendableNames, AreSendableCounts, octets_of}
 use Rattle.store_responses.specs.Sendable.{literal_octets, IsSendable}
 use Rattle.store_responses.proofs.Numerals.{decimal_class, number_text}
 use Rattle.store_responses.proofs.Marks.{Marks, marks_small, marks_front, marks_back, spelling_of}
 use Rattle.store_responses.proofs.SetTexts.{set_text, set_class}
 use Rattle.store_responses.proofs.CodeTexts.{line_end, code_spelled, rest_small}
-use Rattle.store_responses.proofs.ItemTexts.{items_shown, names_small}
+use Rattle.store_responses.proofs.ItemTexts.{items_shown, names_low}
 use Rattle.store_responses.proofs.CountTexts.{counts_spelled}
 
 -- ---- lines by their first word
@@ -59,8 +60,8 @@ said v c w tail all letter longest says = inr (record {
 
 -- a number, and a line that begins with a word
 said_of : (v : Response) (n c : ℕ) (w tail : List ℕ) → n < 2 ^ 32 → list_all is_word (c ∷ w) ≡ true → is_word (get_or tail 0 0) ≡ false
-    → Says (Some n) v (map lower (c ∷ w)) tail (c ∷ w ++ tail) → IsUntagged v (decimal n ++ 32 ∷ c ∷ w ++ tail)
-said_of v n c w tail lt all longest says = subst (IsUntagged v) (sym (append_assoc (decimal n) (32 ∷ c ∷ w) tail)) (inl (n, c ∷ w ++ tail, (decimal n, refl, number_text n lt), record {
+    → Says (Some n) v (map lower (c ∷ w)) tail (c ∷ w ++ tail) → IsUntagged v (decimal n ++ (32 ∷ c ∷ w ++ tail))
+said_of v n c w tail lt all longest says = inl (n, c ∷ w ++ tail, (decimal n, refl, number_text n lt), record {
   word = c ∷ w;
   tail = tail;
   whole = refl;
@@ -68,7 +69,7 @@ said_of v n c w tail lt all longest says = subst (IsUntagged v) (sym (append_ass
   some = λ e. absurd cc;
   longest = longest;
   says = says;
-}))
+})
 
 number_small : (n : ℕ) → n < 2 ^ 32 → Each small (codes "* " ++ decimal n)
 number_small n lt = each_append small (codes "* ") (decimal n) (refl, (refl, tt)) (decimal_class small n digit_small (omega arith))
@@ -129,7 +130,8 @@ spaced_octet (w ∷ ws) = refl
 spaced_small : (ws : List (List ℕ)) → AllPrinted ws → Each small (spaced ws ++ crlf)
 spaced_small [] h = (refl, (refl, tt))
 spaced_small (w ∷ ws) h =
-    subst (Each small) (sym (append_assoc (32 ∷ w) (spaced ws) crlf)) (refl, each_append small w (spaced ws ++ crlf) (each_to is_word small w word_small h.0.0) (spaced_small ws h.1))
+    subst (Each small) (sym (append_assoc (32 ∷ w) (spaced ws) crlf))
+    (refl, each_append small w (spaced ws ++ crlf) (each_to is_word small w word_small h.0.0) (spaced_small ws h.1))
 
 -- ---- folders
 
@@ -178,7 +180,7 @@ listed_small attributes delimiter name a d n =
     let last = each_append small (32 ∷ quoted name) crlf (refl, quoted_small name n.octets) (refl, (refl, tt)) in
     let second = each_append small (32 ∷ delimiter_text delimiter) (32 ∷ quoted name ++ crlf) (refl, delimiter_small delimiter d) last in
     each_append small (codes "* LIST ") (names_text attributes ++ (32 ∷ delimiter_text delimiter ++ (32 ∷ quoted name ++ crlf))) (each_all small (codes "* LIST ") refl)
-    (each_append small (names_text attributes) (32 ∷ delimiter_text delimiter ++ (32 ∷ quoted name ++ crlf)) (names_small attributes a.names) second)
+    (each_append small (names_text attributes) (32 ∷ delimiter_text delimiter ++ (32 ∷ quoted name ++ crlf)) (names_low attributes a.names) second)
 
 counted : (name : List ℕ) (items : StatusItems) → IsToldName name → AreSendableCounts items
     → Spells (response.StatusItems name items) (text_of_response (response.StatusItems name items))
@@ -214,10 +216,11 @@ fetched seq items h =
     let shown = k.shown ++ 41 ∷ crlf in
     let tail = 32 ∷ 40 ∷ shown in
     spelling_of (response.Fetch seq items) (codes "* " ++ decimal seq ++ (codes " FETCH (" ++ shown))
-    (decimal seq ++ (32 ∷ codes "FETCH" ++ tail), refl, subst (IsUntagged (response.Fetch seq items)) (append_assoc (decimal seq) (32 ∷ codes "FETCH") tail)
-      (said_of (response.Fetch seq items) seq 70 (codes "ETCH") tail h.values.0 refl refl (refl, refl, (k.told, shown, refl, k.spelled, k.value))))
+    (decimal seq ++ (32 ∷ codes "FETCH" ++ tail), refl, said_of (response.Fetch seq items) seq 70 (codes "ETCH") tail h.values.0 refl refl
+      (refl, refl, (k.told, shown, refl, k.spelled, k.value)))
     (marks_front (codes "* " ++ decimal seq) (codes " FETCH (" ++ text) (codes " FETCH (" ++ shown) inside (number_small seq h.values.0)
-      (marks_front (codes " FETCH (") text shown inside (each_all small (codes " FETCH (") refl) (marks_back (joined (item_texts items)) k.shown (41 ∷ crlf) inside k.marks (refl, (refl, (refl, tt))))))
+      (marks_front (codes " FETCH (") text shown inside (each_all small (codes " FETCH (") refl)
+        (marks_back (joined (item_texts items)) k.shown (41 ∷ crlf) inside k.marks (refl, (refl, (refl, tt))))))
     h.within
 
 set_line : (rs : List UidRange) → IsSendableSet rs → IsSetLine rs (ranges_text rs ++ crlf)
@@ -283,14 +286,12 @@ text_spelled (response.Flags flags) h =
       said (response.Flags flags) 70 (codes "LAGS") (32 ∷ names_text flags ++ crlf) refl refl refl
       (refl, (flags, names_text flags, refl, (h.values.names, refl), sym h.values.as_kept)))
     (each_append small (codes "* FLAGS ") (names_text flags ++ crlf) (each_all small (codes "* FLAGS ") refl)
-      (each_append small (names_text flags) crlf (names_small flags h.values.names) (refl, (refl, tt))))
+      (each_append small (names_text flags) crlf (names_low flags h.values.names) (refl, (refl, tt))))
 text_spelled (response.Exists n) h =
-    plainly (response.Exists n) h refl (decimal n ++ (codes " EXISTS" ++ crlf), refl, subst (IsUntagged (response.Exists n)) (append_assoc (decimal n) (codes " EXISTS") crlf)
-      (said_of (response.Exists n) n 69 (codes "XISTS") crlf h.values refl refl (refl, refl, refl)))
+    plainly (response.Exists n) h refl (decimal n ++ (codes " EXISTS" ++ crlf), refl, said_of (response.Exists n) n 69 (codes "XISTS") crlf h.values refl refl (refl, refl, refl))
     (each_append small (codes "* " ++ decimal n) (codes " EXISTS" ++ crlf) (number_small n h.values) (each_all small (codes " EXISTS" ++ crlf) refl))
 text_spelled (response.Expunge n) h =
-    plainly (response.Expunge n) h refl (decimal n ++ (codes " EXPUNGE" ++ crlf), refl, subst (IsUntagged (response.Expunge n)) (append_assoc (decimal n) (codes " EXPUNGE") crlf)
-      (said_of (response.Expunge n) n 69 (codes "XPUNGE") crlf h.values refl refl (refl, refl, refl)))
+    plainly (response.Expunge n) h refl (decimal n ++ (codes " EXPUNGE" ++ crlf), refl, said_of (response.Expunge n) n 69 (codes "XPUNGE") crlf h.values refl refl (refl, refl, refl))
     (each_append small (codes "* " ++ decimal n) (codes " EXPUNGE" ++ crlf) (number_small n h.values) (each_all small (codes " EXPUNGE" ++ crlf) refl))
 text_spelled (response.Fetch seq items) h = fetched seq items h
 text_spelled (response.Vanished earlier uids) h =
@@ -300,5 +301,10 @@ text_spelled (response.Vanished earlier uids) h =
     (vanished_small earlier uids.ranges h.values)
 text_spelled response.Other h =
     plainly response.Other h refl (codes "NOTHING" ++ crlf, refl, said response.Other 78 (codes "OTHING") crlf refl refl refl
-      (not_among (keywords None) (codes "nothing") refl, (zero, record { text = codes "NOTHING"; whole = refl; text_is = each_all is_text (codes "NOTHING") refl; no_count = no_count })))
+      (not_among (keywords None) (codes "nothing") refl, (zero, record {
+        text = codes "NOTHING";
+        whole = refl;
+        text_is = each_all is_text (codes "NOTHING") refl;
+        no_count = no_count;
+      })))
     (each_all small (codes "* NOTHING" ++ crlf) refl)

@@ -12,21 +12,8 @@ use Rattle.imap_syntax.specs.Octets.{is_alnum}
 use Rattle.imap_syntax.specs.Texts.{Each, limit}
 use Rattle.imap_syntax.specs.Lines.{Completes, AllPrinted}
 use Rattle.imap_syntax.specs.Items.{AllNames, kept, header_limit, body_limit}
-use Rattle.std.specs.Prelude.{true, ℤ, pos, ◌-ℤ◌}
-use Rattle.imap_syntax.specs.Octets.{is_text}
-use Rattle.imap_syntax.specs.Dates.{seconds_from}
-use Rattle.imap_syntax.specs.Folders.{folder_name}
+use Rattle.honest_store.specs.WellFormed.{IsToldName, IsToldOctet, nearest_date}
 use Rattle.store_responses.specs.ResponseTexts.{item_texts, text_of_response}
-
-abbrev pub nearest_date : ℤ → ℤ
-nearest_date date = pos (seconds_from date) -ℤ pos 62167219200
-
-abbrev pub IsToldOctet : ℕ → Type 0
-IsToldOctet c = is_text c ≡ true
-
-pub record IsToldName (name : List ℕ) : Type 0 where
-  pub as_told : folder_name name ≡ name
-  pub octets : Each is_text name
 
 -- nz-number
 abbrev pub IsNonZeroNumber : ℕ → Type 0
