@@ -1,6 +1,6 @@
 -- What follows the status of a line has the code whose text it is.
 use Rattle.std.proofs.Common.{◌≡◌, ℕ, ◌^◌, ◌<◌, Bool, true, false, List, [], ◌∷◌, ◌++◌, get_or, codes, decimal, inl, inr, refl, sym, ap, subst, ◌∙◌, arith, append_assoc}
-use Rattle.std.specs.Prelude.{not, ◌&&◌, ◌==◌}
+use Rattle.std.specs.Prelude.{◌&&◌, ◌==◌}
 use Rattle.std.proofs.lemmas.Bool.{eqb-false}
 use Rattle.imap_syntax.proofs.EachLemmas.{each_append, each_all, each_to}
 use Rattle.imap_syntax.proofs.CutLemmas.{other, cut_free, cut_none}
@@ -9,7 +9,7 @@ use Rattle.imap_syntax.specs.declared.code.Code.TheVariants as code
 use Rattle.imap_syntax.specs.declared.uid_set.UidSet.{UidSet}
 use Rattle.imap_syntax.specs.Octets.{is_digit, is_text, is_word}
 use Rattle.imap_syntax.specs.Texts.{Each, crlf, IsWord}
-use Rattle.imap_syntax.specs.Codes.{Parted, IsKnown, in_brackets, Bracketed, HasCode}
+use Rattle.imap_syntax.specs.Codes.{IsKnown, in_brackets, Bracketed, HasCode}
 use Rattle.imap_syntax.specs.Lines.{IsLine, IsRest, IsCodedRest}
 use Rattle.imap_syntax.specs.reading.CodeReading.{cut}
 use Rattle.imap_values.proofs.Cuts.{small, text_small}
@@ -55,8 +55,8 @@ words_coded (code.AppendUid validity uid) h =
 words_coded (code.CopyUid validity from to) h =
     each_append is_coded (codes "COPYUID ") (decimal validity ++ (32 ∷ ranges_text from.ranges ++ 32 ∷ ranges_text to.ranges)) (each_all is_coded (codes "COPYUID ") refl)
     (two_coded (decimal validity) (ranges_text from.ranges ++ 32 ∷ ranges_text to.ranges) (nonzero_coded validity h.0)
-      (two_coded (ranges_text from.ranges) (ranges_text to.ranges) (set_class is_coded from.ranges digit_coded refl refl h.1)
-        (set_class is_coded to.ranges digit_coded refl refl h.2)))
+    (two_coded (ranges_text from.ranges) (ranges_text to.ranges) (set_class is_coded from.ranges digit_coded refl refl h.1)
+    (set_class is_coded to.ranges digit_coded refl refl h.2)))
 words_coded code.OverQuota h = each_all is_coded (codes "OVERQUOTA") refl
 words_coded code.Other h = each_all is_coded (codes "READ-WRITE") refl
 
@@ -73,12 +73,19 @@ record CodedBy (A : List ℕ → Type 0) (t : List ℕ) : Type 0 where
 
 bracketed : (A : List ℕ → Type 0) (inner : List ℕ) → Each is_coded inner → A inner → CodedBy A ((32 ∷ 91 ∷ inner ++ 93 ∷ []) ++ line_end)
 bracketed A inner each says = record {
-  rest = inr (91 ∷ (inner ++ 93 ∷ []) ++ line_end, refl, record {
-    text = 91 ∷ (inner ++ 93 ∷ []) ++ codes " done";
-    whole = ap (λ (x : List ℕ). 91 ∷ x) (sym (append_assoc (inner ++ 93 ∷ []) (codes " done") crlf));
-    text_is = (refl, each_append is_text (inner ++ 93 ∷ []) (codes " done")
-      (each_append is_text inner (93 ∷ []) (each_to is_coded is_text inner coded_text each) (refl, tt)) (each_all is_text (codes " done") refl));
-  });
+  rest = inr (
+    91 ∷ (inner ++ 93 ∷ []) ++ line_end,
+    refl,
+    record {
+      text = 91 ∷ (inner ++ 93 ∷ []) ++ codes " done";
+      whole = ap (λ (x : List ℕ). 91 ∷ x) (sym (append_assoc (inner ++ 93 ∷ []) (codes " done") crlf));
+      text_is = (
+        refl,
+        each_append is_text (inner ++ 93 ∷ []) (codes " done")
+            (each_append is_text inner (93 ∷ []) (each_to is_coded is_text inner coded_text each) (refl, tt)) (each_all is_text (codes " done") refl),
+      );
+    },
+  );
   code = record {
     inner = inner;
     behind = line_end;

@@ -1,5 +1,5 @@
 -- The counts of a STATUS spell what they tell.
-use Rattle.std.proofs.Common.{◌≡◌, ℕ, ◌<◌, ◌≤◌, ◌^◌, Bool, true, List, [], ◌∷◌, ◌++◌, length, map, codes, decimal, Option, Some, None, IfSome, refl, sym, ap, subst, ◌∙◌, arith, append_assoc}
+use Rattle.std.proofs.Common.{◌≡◌, ℕ, ◌<◌, ◌≤◌, ◌^◌, true, List, [], ◌∷◌, ◌++◌, length, map, codes, decimal, Option, Some, None, IfSome, refl, sym, ap, subst, ◌∙◌, arith, append_assoc}
 use Rattle.std.specs.Prelude.{nat_le}
 use Rattle.std.proofs.lemmas.Bool.{cond-true, le-leb}
 use Rattle.std.proofs.lemmas.List.{map-append}
@@ -8,7 +8,7 @@ use Rattle.imap_syntax.specs.declared.response.StatusItems.{StatusItems}
 use Rattle.imap_syntax.specs.Octets.{is_status_word}
 use Rattle.imap_syntax.specs.Texts.{Each, crlf}
 use Rattle.imap_syntax.specs.Lines.{spaced, joined}
-use Rattle.imap_syntax.specs.Folders.{IsCount, IsMoreCounts, IsCounts, told_as, told_counts, no_counts}
+use Rattle.imap_syntax.specs.Folders.{IsCount, IsMoreCounts, IsCounts, told_counts, no_counts}
 use Rattle.imap_values.proofs.Cuts.{small, digit_small}
 use Rattle.store_responses.specs.ResponseTexts.{count_text, count_texts}
 use Rattle.store_responses.specs.Sendable.{AreSendableCounts}
@@ -68,11 +68,13 @@ counted_told : (word : List ℕ) (most : ℕ) (o : Option ℕ) → Each is_statu
     → AreTold (counted word o)
 counted_told word most None all some fits h = tt
 counted_told word most (Some n) all some fits h =
-    let long : n < 2 ^ 63 = omega (arith, h, fits) in
-    (record {
-      count = record { digits = decimal n; whole = refl; word = all; some = some; number = long_text n long };
-      low = each_append small word (32 ∷ decimal n) (each_to is_status_word small word status_low all) (refl, decimal_class small n digit_small (omega arith));
-    }, tt)
+    let long : n < 2 ^ 63 = omega (arith, h, fits) in (
+      record {
+        count = record { digits = decimal n; whole = refl; word = all; some = some; number = long_text n long };
+        low = each_append small word (32 ∷ decimal n) (each_to is_status_word small word status_low all) (refl, decimal_class small n digit_small (omega arith));
+      },
+      tt,
+    )
 
 counted_text : (word : List ℕ) (o : Option ℕ) → map text_of (counted word o) ≡ count_text word o
 counted_text word None = refl
@@ -90,18 +92,18 @@ counts_texts : (items : StatusItems) → map text_of (counts items) ≡ count_te
 counts_texts i =
     texts_join (counted (codes "MESSAGES") i.messages) _ _ _ (counted_text (codes "MESSAGES") i.messages)
     (texts_join (counted (codes "UIDNEXT") i.uid_next) _ _ _ (counted_text (codes "UIDNEXT") i.uid_next)
-      (texts_join (counted (codes "UIDVALIDITY") i.uid_validity) (counted (codes "HIGHESTMODSEQ") i.modseq) _ _
-        (counted_text (codes "UIDVALIDITY") i.uid_validity) (counted_text (codes "HIGHESTMODSEQ") i.modseq)))
+    (texts_join (counted (codes "UIDVALIDITY") i.uid_validity) (counted (codes "HIGHESTMODSEQ") i.modseq) _ _
+    (counted_text (codes "UIDVALIDITY") i.uid_validity) (counted_text (codes "HIGHESTMODSEQ") i.modseq)))
 
 counts_told : (items : StatusItems) → AreSendableCounts items → AreTold (counts items)
 counts_told i h =
     told_join (counted (codes "MESSAGES") i.messages) _
     (counted_told (codes "MESSAGES") (2 ^ 32) i.messages (each_all is_status_word (codes "MESSAGES") refl) (omega arith) (omega arith) h.messages)
     (told_join (counted (codes "UIDNEXT") i.uid_next) _
-      (counted_told (codes "UIDNEXT") (2 ^ 32) i.uid_next (each_all is_status_word (codes "UIDNEXT") refl) (omega arith) (omega arith) h.uid_next)
-      (told_join (counted (codes "UIDVALIDITY") i.uid_validity) (counted (codes "HIGHESTMODSEQ") i.modseq)
-        (counted_told (codes "UIDVALIDITY") (2 ^ 32) i.uid_validity (each_all is_status_word (codes "UIDVALIDITY") refl) (omega arith) (omega arith) h.uid_validity)
-        (counted_told (codes "HIGHESTMODSEQ") (2 ^ 63) i.modseq (each_all is_status_word (codes "HIGHESTMODSEQ") refl) (omega arith) (omega arith) h.modseq)))
+    (counted_told (codes "UIDNEXT") (2 ^ 32) i.uid_next (each_all is_status_word (codes "UIDNEXT") refl) (omega arith) (omega arith) h.uid_next)
+    (told_join (counted (codes "UIDVALIDITY") i.uid_validity) (counted (codes "HIGHESTMODSEQ") i.modseq)
+    (counted_told (codes "UIDVALIDITY") (2 ^ 32) i.uid_validity (each_all is_status_word (codes "UIDVALIDITY") refl) (omega arith) (omega arith) h.uid_validity)
+    (counted_told (codes "HIGHESTMODSEQ") (2 ^ 63) i.modseq (each_all is_status_word (codes "HIGHESTMODSEQ") refl) (omega arith) (omega arith) h.modseq)))
 
 -- ---- what they tell together
 
@@ -138,8 +140,8 @@ counts_tell : (items : StatusItems) → AreSendableCounts items → told_counts 
 counts_tell i h =
     tell_step _ _ _ (counted (codes "MESSAGES") i.messages) _ (messages_told i.messages h.messages)
     (tell_step _ _ _ (counted (codes "UIDNEXT") i.uid_next) _ (next_told i.messages i.uid_next h.uid_next)
-      (tell_step _ _ _ (counted (codes "UIDVALIDITY") i.uid_validity) (counted (codes "HIGHESTMODSEQ") i.modseq)
-        (validity_told i.messages i.uid_next i.uid_validity h.uid_validity) (modseq_told i.messages i.uid_next i.uid_validity i.modseq)))
+    (tell_step _ _ _ (counted (codes "UIDVALIDITY") i.uid_validity) (counted (codes "HIGHESTMODSEQ") i.modseq)
+    (validity_told i.messages i.uid_next i.uid_validity h.uid_validity) (modseq_told i.messages i.uid_next i.uid_validity i.modseq)))
 
 -- ---- all counts
 

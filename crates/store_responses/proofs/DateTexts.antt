@@ -41,7 +41,7 @@ reached_next n d h = by (nat_lt d.day (days_in_month (pos d.year) d.month)) (nat
   where
     by : (p q : Bool) → nat_lt d.day (days_in_month (pos d.year) d.month) ≡ p → nat_lt d.month 12 ≡ q
         → Reached (suc n) (cond p (record { year = d.year; month = d.month; day = d.day + 1 })
-          (cond q (record { year = d.year; month = d.month + 1; day = 1 }) (record { year = d.year + 1; month = 1; day = 1 })))
+        (cond q (record { year = d.year; month = d.month + 1; day = 1 }) (record { year = d.year + 1; month = 1; day = 1 })))
     by true q e f = record {
       first_month = h.first_month;
       last_month = h.last_month;
@@ -83,8 +83,16 @@ two_spelled n le = record {
 
 four_spelled : (n : ℕ) → n ≤ 9999 → IsDigits 4 n (four_digits n)
 four_spelled n le = record {
-  digits = (digit_octet (n / 100 / 10) (omega arith), (digit_octet (n / 100 % 10) (omega arith), (digit_octet (n % 100 / 10) (omega arith),
-    (digit_octet (n % 100 % 10) (omega arith), tt))));
+  digits = (
+    digit_octet (n / 100 / 10) (omega arith),
+    (
+      digit_octet (n / 100 % 10) (omega arith),
+      (
+        digit_octet (n % 100 / 10) (omega arith),
+        (digit_octet (n % 100 % 10) (omega arith), tt),
+      ),
+    ),
+  );
   count_is = refl;
   value = omega arith;
 }
@@ -179,11 +187,11 @@ cond_low false x y h g = g
 month_low : (m : ℕ) → Each small (month_name m)
 month_low m =
     cond_low (m == 1) (codes "Jan") _ (refl, (refl, (refl, tt))) (cond_low (m == 2) (codes "Feb") _ (refl, (refl, (refl, tt)))
-      (cond_low (m == 3) (codes "Mar") _ (refl, (refl, (refl, tt))) (cond_low (m == 4) (codes "Apr") _ (refl, (refl, (refl, tt)))
-        (cond_low (m == 5) (codes "May") _ (refl, (refl, (refl, tt))) (cond_low (m == 6) (codes "Jun") _ (refl, (refl, (refl, tt)))
-          (cond_low (m == 7) (codes "Jul") _ (refl, (refl, (refl, tt))) (cond_low (m == 8) (codes "Aug") _ (refl, (refl, (refl, tt)))
-            (cond_low (m == 9) (codes "Sep") _ (refl, (refl, (refl, tt))) (cond_low (m == 10) (codes "Oct") _ (refl, (refl, (refl, tt)))
-              (cond_low (m == 11) (codes "Nov") (codes "Dec") (refl, (refl, (refl, tt))) (refl, (refl, (refl, tt)))))))))))))
+    (cond_low (m == 3) (codes "Mar") _ (refl, (refl, (refl, tt))) (cond_low (m == 4) (codes "Apr") _ (refl, (refl, (refl, tt)))
+    (cond_low (m == 5) (codes "May") _ (refl, (refl, (refl, tt))) (cond_low (m == 6) (codes "Jun") _ (refl, (refl, (refl, tt)))
+    (cond_low (m == 7) (codes "Jul") _ (refl, (refl, (refl, tt))) (cond_low (m == 8) (codes "Aug") _ (refl, (refl, (refl, tt)))
+    (cond_low (m == 9) (codes "Sep") _ (refl, (refl, (refl, tt))) (cond_low (m == 10) (codes "Oct") _ (refl, (refl, (refl, tt)))
+    (cond_low (m == 11) (codes "Nov") (codes "Dec") (refl, (refl, (refl, tt))) (refl, (refl, (refl, tt)))))))))))))
 
 two_low : (n : ℕ) → n ≤ 99 → Each small (two_digits n)
 two_low n le = each_to is_digit small (two_digits n) digit_small (two_spelled n le).digits

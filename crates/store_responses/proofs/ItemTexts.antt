@@ -1,5 +1,5 @@
 -- The items of a FETCH spell what they tell.
-use Rattle.std.proofs.Common.{◌≡◌, ◌≢◌, ℕ, ◌+◌, ◌<◌, ◌≤◌, ◌^◌, Bool, true, false, cond, ℤ, List, [], ◌∷◌, ◌++◌, length, map, take, codes, decimal, Option, Some, None, IfSome, inl, inr, refl, sym, ap, subst}
+use Rattle.std.proofs.Common.{◌≡◌, ◌≢◌, ℕ, ◌+◌, ◌<◌, ◌≤◌, ◌^◌, ℤ, List, [], ◌∷◌, ◌++◌, length, map, codes, decimal, Option, Some, None, IfSome, inl, inr, refl, sym, ap}
 use Rattle.std.proofs.Common.{◌∙◌, arith, append_assoc, All}
 use Rattle.std.proofs.lemmas.List.{map-append, length-map, take_all}
 use Rattle.honest_store.specs.WellFormed.{nearest_date}
@@ -154,27 +154,35 @@ names_low ns h = (refl, each_append small (joined ns) (41 ∷ []) (joined_small 
 
 flags_is : (o : Option (List (List ℕ))) → IfSome o AreSendableNames → ArePieces (flags_piece o)
 flags_is None h = tt
-flags_is (Some flags) h =
-    (plain_is (item.Flags flags) (codes "FLAGS") (names_text flags) (refl, (h.names, refl))
-      (each_append small (codes "FLAGS ") (names_text flags) (each_all small (codes "FLAGS ") refl) (names_low flags h.names)), tt)
+flags_is (Some flags) h = (
+  plain_is (item.Flags flags) (codes "FLAGS") (names_text flags) (refl, (h.names, refl))
+      (each_append small (codes "FLAGS ") (names_text flags) (each_all small (codes "FLAGS ") refl) (names_low flags h.names)),
+  tt,
+)
 
 modseq_is : (o : Option ℕ) → IfSome o (λ n. n < 2 ^ 63) → ArePieces (modseq_piece o)
 modseq_is None h = tt
-modseq_is (Some n) h =
-    (plain_is (item.ModSeq n) (codes "MODSEQ") (40 ∷ decimal n ++ 41 ∷ []) (refl, (decimal n, refl, long_text n h))
-      (each_append small (codes "MODSEQ (" ++ decimal n) (41 ∷ []) (number_low (codes "MODSEQ (") n (each_all small (codes "MODSEQ (") refl) (omega (arith, h))) (refl, tt)), tt)
+modseq_is (Some n) h = (
+  plain_is (item.ModSeq n) (codes "MODSEQ") (40 ∷ decimal n ++ 41 ∷ []) (refl, (decimal n, refl, long_text n h))
+      (each_append small (codes "MODSEQ (" ++ decimal n) (41 ∷ []) (number_low (codes "MODSEQ (") n (each_all small (codes "MODSEQ (") refl) (omega (arith, h))) (refl, tt)),
+  tt,
+)
 
 date_is : (o : Option ℤ) → IfSome o (λ date. nearest_date date ≡ date) → ArePieces (date_piece o)
 date_is None h = tt
-date_is (Some date) h =
-    (plain_is (item.Date date) (codes "INTERNALDATE") (date_text date) (refl, date_spelled date h)
-      (each_append small (codes "INTERNALDATE ") (date_text date) (each_all small (codes "INTERNALDATE ") refl) (date_small date)), tt)
+date_is (Some date) h = (
+  plain_is (item.Date date) (codes "INTERNALDATE") (date_text date) (refl, date_spelled date h)
+      (each_append small (codes "INTERNALDATE ") (date_text date) (each_all small (codes "INTERNALDATE ") refl) (date_small date)),
+  tt,
+)
 
 size_is : (o : Option ℕ) → IfSome o (λ n. n < 2 ^ 63) → ArePieces (size_pieces o)
 size_is None h = tt
-size_is (Some n) h =
-    (plain_is (item.Size n) (codes "RFC822.SIZE") (decimal n) (refl, long_text n h)
-      (number_low (codes "RFC822.SIZE ") n (each_all small (codes "RFC822.SIZE ") refl) (omega (arith, h))), tt)
+size_is (Some n) h = (
+  plain_is (item.Size n) (codes "RFC822.SIZE") (decimal n) (refl, long_text n h)
+      (number_low (codes "RFC822.SIZE ") n (each_all small (codes "RFC822.SIZE ") refl) (omega (arith, h))),
+  tt,
+)
 
 -- a literal whose octets show
 counted : (s : List ℕ) → length s ≤ literal_limit → All (λ c. c < 256) s → IsCounted s (literal_head s ++ marked s)
@@ -201,12 +209,14 @@ octets_is : (make : List ℕ → Item) (word : List ℕ) (most : ℕ) (o : Optio
     → ((s value : List ℕ) → IsNString s value → IsItemValue (make s) word value) → IfSome o (IsSendableLiteral most) → ArePieces (octets_piece make word o)
 octets_is make word most None low le says h = tt
 octets_is make word most (Some s) low le says h =
-    let few : length s ≤ literal_limit = omega (arith, le, h.few) in
-    (record {
-      item = record { name = word; value = literal_head s ++ marked s; whole = refl; item = says s (literal_head s ++ marked s) (inr (inr (inl (counted s few h.octets)))) };
-      marks = marks_front word (32 ∷ literal_text s) (32 ∷ literal_head s ++ marked s) (length s) low
-          (marks_front (32 ∷ literal_head s) s (marked s) (length s) (refl, head_low s few) (marks_literal s));
-    }, tt)
+    let few : length s ≤ literal_limit = omega (arith, le, h.few) in (
+      record {
+        item = record { name = word; value = literal_head s ++ marked s; whole = refl; item = says s (literal_head s ++ marked s) (inr (inr (inl (counted s few h.octets)))) };
+        marks = marks_front word (32 ∷ literal_text s) (32 ∷ literal_head s ++ marked s) (length s) low
+            (marks_front (32 ∷ literal_head s) s (marked s) (length s) (refl, head_low s few) (marks_literal s));
+      },
+      tt,
+    )
 
 header_is : (o : Option (List ℕ)) → IfSome o (IsSendableLiteral header_limit) → ArePieces (header_pieces o)
 header_is o h =
@@ -218,9 +228,9 @@ body_is o h = octets_is (λ s. item.Body s) (codes "BODY[]<0>") body_limit o (ea
 pieces_are : (items : FetchItems) → AreSendableItems items → ArePieces (item_pieces items)
 pieces_are items h =
     pieces_join (uid_pieces items.uid) _ (uid_is items.uid h.uid) (pieces_join (flags_piece items.flags) _ (flags_is items.flags h.flags)
-      (pieces_join (modseq_piece items.modseq) _ (modseq_is items.modseq h.modseq) (pieces_join (date_piece items.date) _ (date_is items.date h.date)
-        (pieces_join (size_pieces items.size) _ (size_is items.size h.size)
-          (pieces_join (header_pieces items.header) (body_pieces items.body) (header_is items.header h.header) (body_is items.body h.body))))))
+    (pieces_join (modseq_piece items.modseq) _ (modseq_is items.modseq h.modseq) (pieces_join (date_piece items.date) _ (date_is items.date h.date)
+    (pieces_join (size_pieces items.size) _ (size_is items.size h.size)
+    (pieces_join (header_pieces items.header) (body_pieces items.body) (header_is items.header h.header) (body_is items.body h.body))))))
 
 -- ---- their texts
 
@@ -247,10 +257,10 @@ octets_texts make word (Some s) = refl
 pieces_texts : (items : FetchItems) → map text_of (item_pieces items) ≡ item_texts items
 pieces_texts items =
     texts_join (uid_pieces items.uid) _ _ _ (counts_texts _ (codes "UID") items.uid) (texts_join (flags_piece items.flags) _ _ _ (flags_texts items.flags)
-      (texts_join (modseq_piece items.modseq) _ _ _ (modseq_texts items.modseq) (texts_join (date_piece items.date) _ _ _ (date_texts items.date)
-        (texts_join (size_pieces items.size) _ _ _ (counts_texts _ (codes "RFC822.SIZE") items.size)
-          (texts_join (header_pieces items.header) (body_pieces items.body) _ _ (octets_texts _ (codes "BODY[HEADER]<0>") items.header)
-            (octets_texts _ (codes "BODY[]<0>") items.body))))))
+    (texts_join (modseq_piece items.modseq) _ _ _ (modseq_texts items.modseq) (texts_join (date_piece items.date) _ _ _ (date_texts items.date)
+    (texts_join (size_pieces items.size) _ _ _ (counts_texts _ (codes "RFC822.SIZE") items.size)
+    (texts_join (header_pieces items.header) (body_pieces items.body) _ _ (octets_texts _ (codes "BODY[HEADER]<0>") items.header)
+    (octets_texts _ (codes "BODY[]<0>") items.body))))))
 
 -- ---- octets in literals
 
@@ -280,11 +290,11 @@ none_before x y n e f = omega (arith, total_join x y, e, f)
 pieces_total : (items : FetchItems) → total (item_pieces items) ≡ octets_of items.header + octets_of items.body
 pieces_total items =
     none_before (uid_pieces items.uid) _ _ (counts_total _ (codes "UID") items.uid) (none_before (flags_piece items.flags) _ _ (flags_total items.flags)
-      (none_before (modseq_piece items.modseq) _ _ (modseq_total items.modseq) (none_before (date_piece items.date) _ _ (date_total items.date)
-        (none_before (size_pieces items.size) _ _ (counts_total _ (codes "RFC822.SIZE") items.size)
-          (let h = octets_total (λ s. item.Header s) (codes "BODY[HEADER]<0>") items.header in
-           let b = octets_total (λ s. item.Body s) (codes "BODY[]<0>") items.body in
-           omega (arith, total_join (header_pieces items.header) (body_pieces items.body), h, b))))))
+    (none_before (modseq_piece items.modseq) _ _ (modseq_total items.modseq) (none_before (date_piece items.date) _ _ (date_total items.date)
+    (none_before (size_pieces items.size) _ _ (counts_total _ (codes "RFC822.SIZE") items.size)
+    (let h = octets_total (λ s. item.Header s) (codes "BODY[HEADER]<0>") items.header in
+    let b = octets_total (λ s. item.Body s) (codes "BODY[]<0>") items.body in
+    omega (arith, total_join (header_pieces items.header) (body_pieces items.body), h, b))))))
 
 -- ---- what they tell together
 
@@ -338,10 +348,10 @@ body_told u f m d z h (Some s) few = ap (λ (x : List ℕ). told_so u f m d z h 
 pieces_tell : (items : FetchItems) → AreSendableItems items → items_of (map item_of (item_pieces items)) ≡ items
 pieces_tell i h =
     tell_step _ _ _ (uid_pieces i.uid) _ (uid_told i.uid) (tell_step _ _ _ (flags_piece i.flags) _ (flags_told i.uid i.flags h.flags)
-      (tell_step _ _ _ (modseq_piece i.modseq) _ (modseq_told i.uid i.flags i.modseq) (tell_step _ _ _ (date_piece i.date) _ (date_told i.uid i.flags i.modseq i.date)
-        (tell_step _ _ _ (size_pieces i.size) _ (size_told i.uid i.flags i.modseq i.date i.size)
-          (tell_step _ _ _ (header_pieces i.header) (body_pieces i.body) (header_told i.uid i.flags i.modseq i.date i.size i.header h.header)
-            (body_told i.uid i.flags i.modseq i.date i.size i.header i.body h.body))))))
+    (tell_step _ _ _ (modseq_piece i.modseq) _ (modseq_told i.uid i.flags i.modseq) (tell_step _ _ _ (date_piece i.date) _ (date_told i.uid i.flags i.modseq i.date)
+    (tell_step _ _ _ (size_pieces i.size) _ (size_told i.uid i.flags i.modseq i.date i.size)
+    (tell_step _ _ _ (header_pieces i.header) (body_pieces i.body) (header_told i.uid i.flags i.modseq i.date i.size i.header h.header)
+    (body_told i.uid i.flags i.modseq i.date i.size i.header i.body h.body))))))
 
 -- ---- all items
 

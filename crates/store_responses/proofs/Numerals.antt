@@ -22,9 +22,10 @@ one_digit n lt = ((digit_octet n lt, tt), omega arith)
 
 more_digits : (n : ℕ) (ds : List ℕ) → 10 ≤ n → IsNumeral (n / 10) ds → IsNumeral n (ds ++ (48 + n % 10) ∷ [])
 more_digits n ds ge h =
-    let last : 10 * (n / 10) + (48 + n % 10 - 48) ≡ n = omega arith in
-    (each_append is_digit ds ((48 + n % 10) ∷ []) h.0 (digit_octet (n % 10) (omega arith), tt),
-    value_last 0 ds (48 + n % 10) ∙ ap (λ v. 10 * v + (48 + n % 10 - 48)) h.1 ∙ last)
+    let last : 10 * (n / 10) + (48 + n % 10 - 48) ≡ n = omega arith in (
+      each_append is_digit ds ((48 + n % 10) ∷ []) h.0 (digit_octet (n % 10) (omega arith), tt),
+      value_last 0 ds (48 + n % 10) ∙ ap (λ v. 10 * v + (48 + n % 10 - 48)) h.1 ∙ last,
+    )
 
 numeral : (n : ℕ) → n < 2 ^ 64 → IsNumeral n (decimal n)
 numeral n lt = decimal_by_steps IsNumeral one_digit more_digits n lt

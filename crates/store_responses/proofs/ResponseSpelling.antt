@@ -1,5 +1,5 @@
 -- The text of each response that may be sent spells it.
-use Rattle.std.proofs.Common.{◌≡◌, ◌≢◌, ℕ, zero, suc, ◌<◌, ◌≤◌, ◌+◌, ◌^◌, Bool, true, false, cond, List, [], ◌∷◌, ◌++◌, length, map, get_or, codes, bytes_eq, decimal, Option, Some, None, IfSome}
+use Rattle.std.proofs.Common.{◌≡◌, ℕ, zero, suc, ◌<◌, ◌+◌, ◌^◌, Bool, true, false, cond, List, [], ◌∷◌, ◌++◌, length, map, get_or, codes, bytes_eq, decimal, Option, Some, None, IfSome}
 use Rattle.std.proofs.Common.{Contains, inl, inr, refl, sym, ap, subst, ◌∙◌, arith, append_assoc}
 use Rattle.std.specs.Prelude.{not, ◌||◌, ◌==◌}
 use Rattle.std.specs.List.{list_all}
@@ -17,7 +17,7 @@ use Rattle.imap_syntax.specs.declared.response.Response.{Response}
 use Rattle.imap_syntax.specs.declared.response.Response.TheVariants as response
 use Rattle.imap_syntax.specs.declared.uid_set.UidRange.{UidRange}
 use Rattle.imap_syntax.specs.Octets.{is_digit, is_alnum, is_text, is_word, lower}
-use Rattle.imap_syntax.specs.Texts.{Each, IsWord, crlf, limit}
+use Rattle.imap_syntax.specs.Texts.{Each, IsWord, crlf}
 use Rattle.imap_syntax.specs.Lines.{word_of, Completes, IsTagged, spaced, joined, AllPrinted}
 use Rattle.imap_syntax.specs.Strings.{escaped, quoted}
 use Rattle.imap_syntax.specs.UidSets.{IsSetLine, IsVanished}
@@ -30,7 +30,7 @@ use Rattle.store_responses.specs.ResponseTexts.{ranges_text, status_text, status
 use Rattle.store_responses.specs.Sendable.{IsSendableSet, IsSendableCode, IsSendableTag, AreSendableNames, AreSendableCounts, octets_of}
 use Rattle.store_responses.specs.Sendable.{literal_octets, IsSendable}
 use Rattle.store_responses.proofs.Numerals.{decimal_class, number_text}
-use Rattle.store_responses.proofs.Marks.{Marks, marks_small, marks_front, marks_back, spelling_of}
+use Rattle.store_responses.proofs.Marks.{marks_small, marks_front, marks_back, spelling_of}
 use Rattle.store_responses.proofs.SetTexts.{set_text, set_class}
 use Rattle.store_responses.proofs.CodeTexts.{line_end, code_spelled, rest_small}
 use Rattle.store_responses.proofs.ItemTexts.{items_shown, names_low}
@@ -48,28 +48,36 @@ not_numbered c t plain n line h = by h.0 h.1 h.2.digits h.2.some
 -- a line that begins with a word, whose first letter is c
 said : (v : Response) (c : ℕ) (w tail : List ℕ) → list_all is_word (c ∷ w) ≡ true → is_digit c ≡ false → is_word (get_or tail 0 0) ≡ false
     → Says None v (map lower (c ∷ w)) tail (c ∷ w ++ tail) → IsUntagged v (c ∷ w ++ tail)
-said v c w tail all letter longest says = inr (record {
-  word = c ∷ w;
-  tail = tail;
-  whole = refl;
-  word_is = each_all is_word (c ∷ w) all;
-  some = λ e. absurd cc;
-  longest = longest;
-  says = says;
-}, not_numbered c (w ++ tail) letter)
+said v c w tail all letter longest says = inr (
+  record {
+    word = c ∷ w;
+    tail = tail;
+    whole = refl;
+    word_is = each_all is_word (c ∷ w) all;
+    some = λ e. absurd cc;
+    longest = longest;
+    says = says;
+  },
+  not_numbered c (w ++ tail) letter,
+)
 
 -- a number, and a line that begins with a word
 said_of : (v : Response) (n c : ℕ) (w tail : List ℕ) → n < 2 ^ 32 → list_all is_word (c ∷ w) ≡ true → is_word (get_or tail 0 0) ≡ false
     → Says (Some n) v (map lower (c ∷ w)) tail (c ∷ w ++ tail) → IsUntagged v (decimal n ++ (32 ∷ c ∷ w ++ tail))
-said_of v n c w tail lt all longest says = inl (n, c ∷ w ++ tail, (decimal n, refl, number_text n lt), record {
-  word = c ∷ w;
-  tail = tail;
-  whole = refl;
-  word_is = each_all is_word (c ∷ w) all;
-  some = λ e. absurd cc;
-  longest = longest;
-  says = says;
-})
+said_of v n c w tail lt all longest says = inl (
+  n,
+  c ∷ w ++ tail,
+  (decimal n, refl, number_text n lt),
+  record {
+    word = c ∷ w;
+    tail = tail;
+    whole = refl;
+    word_is = each_all is_word (c ∷ w) all;
+    some = λ e. absurd cc;
+    longest = longest;
+    says = says;
+  },
+)
 
 number_small : (n : ℕ) → n < 2 ^ 32 → Each small (codes "* " ++ decimal n)
 number_small n lt = each_append small (codes "* ") (decimal n) (refl, (refl, tt)) (decimal_class small n digit_small (omega arith))
@@ -157,22 +165,28 @@ delimiter_small (Some c) h = quoted_small (c ∷ []) (h, tt)
 listed : (attributes : List (List ℕ)) (delimiter : Option ℕ) (name : List ℕ) → AreSendableNames attributes → IfSome delimiter IsToldOctet → IsToldName name
     → Spells (response.List attributes delimiter name) (text_of_response (response.List attributes delimiter name))
 listed attributes delimiter name a d n =
-    let tail = 32 ∷ names_text attributes ++ (32 ∷ delimiter_text delimiter ++ (32 ∷ quoted name ++ crlf)) in
-    (codes "LIST" ++ tail, refl, said (response.List attributes delimiter name) 76 (codes "IST") tail refl refl refl (refl, record {
-      told = attributes;
-      string = name;
-      first = names_text attributes;
-      second = delimiter_text delimiter;
-      third = quoted name;
-      rest = crlf;
-      whole = refl;
-      names = (a.names, refl);
-      delimited = delimited delimiter d;
-      spelled = inr (inl (n.octets, refl));
-      ends = inl refl;
-      attributes_are = sym a.as_kept;
-      name_is = sym n.as_told;
-    }))
+    let tail = 32 ∷ names_text attributes ++ (32 ∷ delimiter_text delimiter ++ (32 ∷ quoted name ++ crlf)) in (
+      codes "LIST" ++ tail,
+      refl,
+      said (response.List attributes delimiter name) 76 (codes "IST") tail refl refl refl (
+        refl,
+        record {
+          told = attributes;
+          string = name;
+          first = names_text attributes;
+          second = delimiter_text delimiter;
+          third = quoted name;
+          rest = crlf;
+          whole = refl;
+          names = (a.names, refl);
+          delimited = delimited delimiter d;
+          spelled = inr (inl (n.octets, refl));
+          ends = inl refl;
+          attributes_are = sym a.as_kept;
+          name_is = sym n.as_told;
+        },
+      ),
+    )
 
 listed_small : (attributes : List (List ℕ)) (delimiter : Option ℕ) (name : List ℕ) → AreSendableNames attributes → IfSome delimiter IsToldOctet → IsToldName name
     → Each small (text_of_response (response.List attributes delimiter name))
@@ -186,18 +200,24 @@ counted : (name : List ℕ) (items : StatusItems) → IsToldName name → AreSen
     → Spells (response.StatusItems name items) (text_of_response (response.StatusItems name items))
 counted name items n c =
     let k = counts_spelled items c in
-    let tail = 32 ∷ quoted name ++ (32 ∷ 40 ∷ joined (count_texts items) ++ 41 ∷ crlf) in
-    (codes "STATUS" ++ tail, refl, said (response.StatusItems name items) 83 (codes "TATUS") tail refl refl refl (refl, record {
-      string = name;
-      counts = k.told;
-      first = quoted name;
-      rest = joined (count_texts items) ++ 41 ∷ crlf;
-      whole = refl;
-      spelled = inr (inl (n.octets, refl));
-      counted = k.spelled;
-      name_is = sym n.as_told;
-      items_are = k.value;
-    }))
+    let tail = 32 ∷ quoted name ++ (32 ∷ 40 ∷ joined (count_texts items) ++ 41 ∷ crlf) in (
+      codes "STATUS" ++ tail,
+      refl,
+      said (response.StatusItems name items) 83 (codes "TATUS") tail refl refl refl (
+        refl,
+        record {
+          string = name;
+          counts = k.told;
+          first = quoted name;
+          rest = joined (count_texts items) ++ 41 ∷ crlf;
+          whole = refl;
+          spelled = inr (inl (n.octets, refl));
+          counted = k.spelled;
+          name_is = sym n.as_told;
+          items_are = k.value;
+        },
+      ),
+    )
 
 counted_small : (name : List ℕ) (items : StatusItems) → IsToldName name → AreSendableCounts items → Each small (text_of_response (response.StatusItems name items))
 counted_small name items n c =
@@ -215,12 +235,15 @@ fetched seq items h =
     let text = joined (item_texts items) ++ 41 ∷ crlf in
     let shown = k.shown ++ 41 ∷ crlf in
     let tail = 32 ∷ 40 ∷ shown in
-    spelling_of (response.Fetch seq items) (codes "* " ++ decimal seq ++ (codes " FETCH (" ++ shown))
-    (decimal seq ++ (32 ∷ codes "FETCH" ++ tail), refl, said_of (response.Fetch seq items) seq 70 (codes "ETCH") tail h.values.0 refl refl
-      (refl, refl, (k.told, shown, refl, k.spelled, k.value)))
+    spelling_of (response.Fetch seq items) (codes "* " ++ decimal seq ++ (codes " FETCH (" ++ shown)) (
+      decimal seq ++ (32 ∷ codes "FETCH" ++ tail),
+      refl,
+      said_of (response.Fetch seq items) seq 70 (codes "ETCH") tail h.values.0 refl refl
+          (refl, refl, (k.told, shown, refl, k.spelled, k.value)),
+    )
     (marks_front (codes "* " ++ decimal seq) (codes " FETCH (" ++ text) (codes " FETCH (" ++ shown) inside (number_small seq h.values.0)
-      (marks_front (codes " FETCH (") text shown inside (each_all small (codes " FETCH (") refl)
-        (marks_back (joined (item_texts items)) k.shown (41 ∷ crlf) inside k.marks (refl, (refl, (refl, tt))))))
+    (marks_front (codes " FETCH (") text shown inside (each_all small (codes " FETCH (") refl)
+    (marks_back (joined (item_texts items)) k.shown (41 ∷ crlf) inside k.marks (refl, (refl, (refl, tt))))))
     h.within
 
 set_line : (rs : List UidRange) → IsSendableSet rs → IsSetLine rs (ranges_text rs ++ crlf)
@@ -238,7 +261,7 @@ vanished_small : (earlier : Bool) (rs : List UidRange) → IsSendableSet rs → 
 vanished_small earlier rs h =
     each_append small (codes "* VANISHED ") (earlier_text earlier ++ (ranges_text rs ++ crlf)) (each_all small (codes "* VANISHED ") refl)
     (each_append small (earlier_text earlier) (ranges_text rs ++ crlf) (earlier_small earlier)
-      (each_append small (ranges_text rs) crlf (set_class small rs digit_small refl refl h) (refl, (refl, tt))))
+    (each_append small (ranges_text rs) crlf (set_class small rs digit_small refl refl h) (refl, (refl, tt))))
 
 -- ---- a line of another word
 
@@ -269,12 +292,18 @@ text_spelled response.Continue h =
     plainly response.Continue h refl (codes " go" ++ crlf, refl, record { text = codes " go"; whole = refl; text_is = each_all is_text (codes " go") refl })
     (each_all small (codes "+ go" ++ crlf) refl)
 text_spelled (response.Capability words) h =
-    plainly (response.Capability words) h refl (codes "CAPABILITY" ++ (spaced words ++ crlf), refl,
-      said (response.Capability words) 67 (codes "APABILITY") (spaced words ++ crlf) refl refl (spaced_octet words) (refl, (h.values, refl)))
+    plainly (response.Capability words) h refl (
+      codes "CAPABILITY" ++ (spaced words ++ crlf),
+      refl,
+      said (response.Capability words) 67 (codes "APABILITY") (spaced words ++ crlf) refl refl (spaced_octet words) (refl, (h.values, refl)),
+    )
     (each_append small (codes "* CAPABILITY") (spaced words ++ crlf) (each_all small (codes "* CAPABILITY") refl) (spaced_small words h.values))
 text_spelled (response.Enabled words) h =
-    plainly (response.Enabled words) h refl (codes "ENABLED" ++ (spaced words ++ crlf), refl,
-      said (response.Enabled words) 69 (codes "NABLED") (spaced words ++ crlf) refl refl (spaced_octet words) (refl, (h.values, refl)))
+    plainly (response.Enabled words) h refl (
+      codes "ENABLED" ++ (spaced words ++ crlf),
+      refl,
+      said (response.Enabled words) 69 (codes "NABLED") (spaced words ++ crlf) refl refl (spaced_octet words) (refl, (h.values, refl)),
+    )
     (each_append small (codes "* ENABLED") (spaced words ++ crlf) (each_all small (codes "* ENABLED") refl) (spaced_small words h.values))
 text_spelled (response.List attributes delimiter name) h =
     plainly (response.List attributes delimiter name) h refl (listed attributes delimiter name h.values.0 h.values.1 h.values.2)
@@ -282,11 +311,14 @@ text_spelled (response.List attributes delimiter name) h =
 text_spelled (response.StatusItems name items) h =
     plainly (response.StatusItems name items) h refl (counted name items h.values.0 h.values.1) (counted_small name items h.values.0 h.values.1)
 text_spelled (response.Flags flags) h =
-    plainly (response.Flags flags) h refl (codes "FLAGS " ++ (names_text flags ++ crlf), refl,
+    plainly (response.Flags flags) h refl (
+      codes "FLAGS " ++ (names_text flags ++ crlf),
+      refl,
       said (response.Flags flags) 70 (codes "LAGS") (32 ∷ names_text flags ++ crlf) refl refl refl
-      (refl, (flags, names_text flags, refl, (h.values.names, refl), sym h.values.as_kept)))
+          (refl, (flags, names_text flags, refl, (h.values.names, refl), sym h.values.as_kept)),
+    )
     (each_append small (codes "* FLAGS ") (names_text flags ++ crlf) (each_all small (codes "* FLAGS ") refl)
-      (each_append small (names_text flags) crlf (names_low flags h.values.names) (refl, (refl, tt))))
+    (each_append small (names_text flags) crlf (names_low flags h.values.names) (refl, (refl, tt))))
 text_spelled (response.Exists n) h =
     plainly (response.Exists n) h refl (decimal n ++ (codes " EXISTS" ++ crlf), refl, said_of (response.Exists n) n 69 (codes "XISTS") crlf h.values refl refl (refl, refl, refl))
     (each_append small (codes "* " ++ decimal n) (codes " EXISTS" ++ crlf) (number_small n h.values) (each_all small (codes " EXISTS" ++ crlf) refl))
@@ -295,16 +327,28 @@ text_spelled (response.Expunge n) h =
     (each_append small (codes "* " ++ decimal n) (codes " EXPUNGE" ++ crlf) (number_small n h.values) (each_all small (codes " EXPUNGE" ++ crlf) refl))
 text_spelled (response.Fetch seq items) h = fetched seq items h
 text_spelled (response.Vanished earlier uids) h =
-    plainly (response.Vanished earlier uids) h refl (codes "VANISHED " ++ (earlier_text earlier ++ (ranges_text uids.ranges ++ crlf)), refl,
+    plainly (response.Vanished earlier uids) h refl (
+      codes "VANISHED " ++ (earlier_text earlier ++ (ranges_text uids.ranges ++ crlf)),
+      refl,
       said (response.Vanished earlier uids) 86 (codes "ANISHED") (32 ∷ earlier_text earlier ++ (ranges_text uids.ranges ++ crlf)) refl refl refl
-      (refl, (earlier_text earlier ++ (ranges_text uids.ranges ++ crlf), refl, vanished earlier uids.ranges h.values)))
+          (refl, (earlier_text earlier ++ (ranges_text uids.ranges ++ crlf), refl, vanished earlier uids.ranges h.values)),
+    )
     (vanished_small earlier uids.ranges h.values)
 text_spelled response.Other h =
-    plainly response.Other h refl (codes "NOTHING" ++ crlf, refl, said response.Other 78 (codes "OTHING") crlf refl refl refl
-      (not_among (keywords None) (codes "nothing") refl, (zero, record {
-        text = codes "NOTHING";
-        whole = refl;
-        text_is = each_all is_text (codes "NOTHING") refl;
-        no_count = no_count;
-      })))
+    plainly response.Other h refl (
+      codes "NOTHING" ++ crlf,
+      refl,
+      said response.Other 78 (codes "OTHING") crlf refl refl refl (
+        not_among (keywords None) (codes "nothing") refl,
+        (
+          zero,
+          record {
+            text = codes "NOTHING";
+            whole = refl;
+            text_is = each_all is_text (codes "NOTHING") refl;
+            no_count = no_count;
+          },
+        ),
+      ),
+    )
     (each_all small (codes "* NOTHING" ++ crlf) refl)

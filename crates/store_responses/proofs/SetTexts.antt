@@ -1,5 +1,5 @@
 -- The text of a set of UIDs spells the set.
-use Rattle.std.proofs.Common.{◌≡◌, ℕ, ◌^◌, ◌<◌, ◌≤◌, Bool, true, List, [], ◌∷◌, ◌++◌, inr, refl, sym, subst, arith, decimal, All}
+use Rattle.std.proofs.Common.{◌≡◌, ℕ, ◌≤◌, Bool, true, List, [], ◌∷◌, ◌++◌, inr, refl, sym, subst, arith, decimal, All}
 use Rattle.std.specs.Prelude.{nat_le}
 use Rattle.std.proofs.lemmas.Bool.{cond-true, le-leb}
 use Rattle.std.proofs.lemmas.List.{append-nil}
@@ -18,8 +18,16 @@ in_order r le =
     sym (cond-true (nat_le r.first r.last) (record { first = r.first; last = r.last }) (record { first = r.last; last = r.first }) (le-leb r.first r.last le))
 
 range_spelled : (r : UidRange) → IsSendableRange r → IsRange r (range_text r)
-range_spelled r h = inr (r.first, r.last, decimal r.first, decimal r.last, refl, nonzero_text r.first (h.first, omega (arith, h.in_order, h.last)),
-    nonzero_text r.last (omega (arith, h.first, h.in_order), h.last), in_order r h.in_order)
+range_spelled r h = inr (
+  r.first,
+  r.last,
+  decimal r.first,
+  decimal r.last,
+  refl,
+  nonzero_text r.first (h.first, omega (arith, h.in_order, h.last)),
+  nonzero_text r.last (omega (arith, h.first, h.in_order), h.last),
+  in_order r h.in_order,
+)
 
 set_spelled : (r : UidRange) (rs : List UidRange) → IsSendableRange r → All IsSendableRange rs → IsSet (r ∷ rs) (range_text r ++ more_ranges_text rs)
 set_spelled r [] h all = subst (IsRange r) (sym (append-nil (range_text r))) (range_spelled r h)
@@ -43,8 +51,11 @@ range_class p r k h = each_append p (decimal r.first) (58 ∷ decimal r.last) (d
 
 more_class : (p : ℕ → Bool) (rs : List UidRange) → SetClass p → All IsSendableRange rs → Each p (more_ranges_text rs)
 more_class p [] k all = tt
-more_class p (r ∷ rs) k all = (k.comma, each_append p (range_text r) (more_ranges_text rs) (range_class p r k (All-head IsSendableRange r rs all))
-    (more_class p rs k (All-tail IsSendableRange r rs all)))
+more_class p (r ∷ rs) k all = (
+  k.comma,
+  each_append p (range_text r) (more_ranges_text rs) (range_class p r k (All-head IsSendableRange r rs all))
+      (more_class p rs k (All-tail IsSendableRange r rs all)),
+)
 
 ranges_class : (p : ℕ → Bool) (rs : List UidRange) → SetClass p → All IsSendableRange rs → Each p (ranges_text rs)
 ranges_class p [] k all = tt

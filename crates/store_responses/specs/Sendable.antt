@@ -6,7 +6,6 @@ use Rattle.imap_syntax.specs.declared.response.Response.{Response}
 use Rattle.imap_syntax.specs.declared.response.Response.TheVariants as response
 use Rattle.imap_syntax.specs.declared.response.FetchItems.{FetchItems}
 use Rattle.imap_syntax.specs.declared.response.StatusItems.{StatusItems}
-use Rattle.imap_syntax.specs.declared.response.Status.{Status}
 use Rattle.imap_syntax.specs.declared.uid_set.UidRange.{UidRange}
 use Rattle.imap_syntax.specs.Octets.{is_alnum}
 use Rattle.imap_syntax.specs.Texts.{Each, limit}

@@ -40,11 +40,7 @@ fn push_count(
 }
 
 /// Adds FLAGS, where they are told, and says whether no item was so far.
-fn push_flags(
-    out: &mut Vec<u8>,
-    flags: &Option<Names>,
-    first: bool,
-) -> Result<bool, AllocError>
+fn push_flags(out: &mut Vec<u8>, flags: &Option<Names>, first: bool) -> Result<bool, AllocError>
     ensures { IfOk result (λ none. WritesItems out.old.items out.new.items first (texts.flags_text flags.now) none) }
 {
     let Some(flags) = flags else {
@@ -57,11 +53,7 @@ fn push_flags(
 }
 
 /// Adds MODSEQ, where it is told, and says whether no item was so far.
-fn push_modseq(
-    out: &mut Vec<u8>,
-    modseq: Option<u64>,
-    first: bool,
-) -> Result<bool, AllocError>
+fn push_modseq(out: &mut Vec<u8>, modseq: Option<u64>, first: bool) -> Result<bool, AllocError>
     ensures { IfOk result (λ none. WritesItems out.old.items out.new.items first (texts.modseq_text modseq) none) }
 {
     let Some(modseq) = modseq else {
@@ -74,11 +66,7 @@ fn push_modseq(
 }
 
 /// Adds INTERNALDATE, where it is told, and says whether no item was so far.
-fn push_internal_date(
-    out: &mut Vec<u8>,
-    date: Option<i64>,
-    first: bool,
-) -> Result<bool, AllocError>
+fn push_internal_date(out: &mut Vec<u8>, date: Option<i64>, first: bool) -> Result<bool, AllocError>
     ensures { IfOk result (λ none. WritesItems out.old.items out.new.items first (texts.internal_date_text date) none) }
 {
     let Some(date) = date else {
