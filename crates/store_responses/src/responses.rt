@@ -51,7 +51,7 @@ fn push_list(
     out.extend_from_slice(b"\r\n")
 }
 
-/// Adds a STATUS (RFC 9051 section 7.3.4).
+/// Adds a STATUS (RFC 9051 section 7.3.3).
 fn push_status(out: &mut Vec<u8>, name: &[u8], items: &StatusItems) -> Result<(), AllocError>
     ensures { OnOk result (out.new.items ≡ out.old.items ++ texts.text_of_response (response.StatusItems name.now items.now)) }
 {
