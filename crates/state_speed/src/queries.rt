@@ -8,14 +8,15 @@ use serde_json::Value;
 use std::alloc::Global;
 
 /// The last Emails of INBOX first.
-const BY_DATE: &str = "\"filter\":{\"inMailbox\":\"m1\"},\"sort\":[{\"property\":\"receivedAt\",\"isAscending\":false}]";
+const BY_DATE: &str =
+    "\"filter\":{\"inMailbox\":\"m1\"},\"sort\":[{\"property\":\"receivedAt\",\"isAscending\":false}]";
 
 /// Those of INBOX by subject.
-const BY_SUBJECT: &str =
-    "\"filter\":{\"inMailbox\":\"m1\"},\"sort\":[{\"property\":\"subject\"}]";
+const BY_SUBJECT: &str = "\"filter\":{\"inMailbox\":\"m1\"},\"sort\":[{\"property\":\"subject\"}]";
 
 /// Those of INBOX from one of ten senders, the last first.
-const BY_SENDER: &str = "\"filter\":{\"inMailbox\":\"m1\",\"from\":\"dora\"},\"sort\":[{\"property\":\"receivedAt\",\"isAscending\":false}]";
+const BY_SENDER: &str =
+    "\"filter\":{\"inMailbox\":\"m1\",\"from\":\"dora\"},\"sort\":[{\"property\":\"receivedAt\",\"isAscending\":false}]";
 
 /// As many ids as clients ask at once.
 const FIRST: &str = ",\"position\":0,\"limit\":50";
@@ -63,17 +64,19 @@ pub fn say_queries(rt: &HostRuntime, state: &MailState) -> Result<(), anyhow::Er
 }
 
 /// Times a query by a filter beside one of all.
-pub fn say_filter(
-    rt: &HostRuntime,
-    state: &MailState,
-    filter: &str,
-) -> Result<(), anyhow::Error> {
+pub fn say_filter(rt: &HostRuntime, state: &MailState, filter: &str) -> Result<(), anyhow::Error> {
     let list = format!(in rt.alloc(); "\"filter\":{filter}")?;
     let whole = arguments(rt.alloc(), &list, "")?;
     let first = arguments(rt.alloc(), &list, FIRST)?;
     let all = arguments(rt.alloc(), "\"filter\":null", FIRST)?;
     println!(rt; "by FILTER, without an order; beside it 50 without a filter")?;
-    say_in_turn(rt, state, Work::Query(&whole), Work::Query(&first), Work::Query(&all))
+    say_in_turn(
+        rt,
+        state,
+        Work::Query(&whole),
+        Work::Query(&first),
+        Work::Query(&all),
+    )
 }
 
 /// Times a query, and what is answered of what changed in its list since a state.
