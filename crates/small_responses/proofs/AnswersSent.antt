@@ -20,7 +20,7 @@ use Rattle.small_answers.specs.Limits.{is_last_change, text_limit, total_length}
 use Rattle.store_responses.specs.Sendable.{IsNonZeroNumber, IsSendable, IsSendableTag}
 use Rattle.small_answers.specs.Causes.{RefusalCause, FlagsTooLong, NumberSpent, IsAtEnd, are_same_names, changes_flags, flags_of_store}
 use Rattle.small_answers.specs.ToldResponses.{body_response, change_response, changes_since, closed_responses, flags_response, folder_responses, header_response, is_from_on}
-use Rattle.small_answers.specs.ToldResponses.{known_changes, list_response, ok_response, set_of, with_uids}
+use Rattle.small_answers.specs.ToldResponses.{known_changes, list_response, set_of, with_uids}
 use Rattle.small_answers.specs.Answers.{AnswersCommand, Refused, Accepted, Reply, append_reply, expunge_reply, fetch_reply, flags_reply, move_reply, move_reply_to, ok_reply}
 use Rattle.small_answers.specs.Answers.{over_mail, reply_in, reply_with, select_reply, store_reply, told_change}
 use Rattle.small_answers.specs.SmallMail.{IsSmallFolder, IsSmallMail}

@@ -1,6 +1,5 @@
 -- Flags and attributes that are names stay so in kept form.
-use Rattle.std.proofs.Common.{◌≡◌, inl, inr, ℕ, ◌<◌, Bool, true, false, not, List, [], ◌∷◌, ◌++◌, length, map, bytes_eq, codes, refl, ap, ◌∙◌, sym, subst, arith, ◌==◌}
-use Rattle.std.proofs.Common.{length-append}
+use Rattle.std.proofs.Common.{◌≡◌, inl, inr, ℕ, Bool, true, false, not, List, [], ◌∷◌, ◌++◌, length, map, bytes_eq, codes, refl, ap, arith}
 use Rattle.std.specs.List.{AllByRecursion, list_any}
 use Rattle.imap_syntax.specs.Items.{AllNames, IsAtom, IsName, kept}
 use Rattle.imap_syntax.specs.Octets.{is_atom, lower}

@@ -9,7 +9,7 @@ use Rattle.imap_syntax.specs.Items.{AllNames, IsName}
 use Rattle.imap_syntax.specs.Lines.{joined, spaced}
 use Rattle.imap_syntax.specs.Strings.{escaped}
 use Rattle.imap_syntax.specs.Texts.{crlf}
-use Rattle.store_responses.specs.ResponseTexts.{count_text, flags_text, internal_date_text, item_texts, modseq_text, names_text, octets_text}
+use Rattle.store_responses.specs.ResponseTexts.{count_text, flags_text, internal_date_text, item_texts, modseq_text, octets_text}
 use Rattle.store_responses.specs.Sendable.{octets_of}
 use Rattle.small_answers.specs.Limits.{text_limit, total_length}
 

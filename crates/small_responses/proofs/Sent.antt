@@ -1,6 +1,6 @@
 -- Each response by which the small store tells its mail may be sent.
-use Rattle.std.proofs.Common.{◌≡◌, ◌⊎◌, inl, inr, ℕ, ◌+◌, ◌-◌, ◌*◌, ◌^◌, ◌<◌, ◌≤◌, ◌==◌, ◌&&◌, ◌||◌, nat_lt, Bool, true, false, List, [], ◌∷◌, ◌++◌, Option, Some, None, IfSome}
-use Rattle.std.proofs.Common.{length, take, count_by, map, codes, decimal, refl, sym, subst, arith, length-append, All, if◌then◌else◌}
+use Rattle.std.proofs.Common.{◌≡◌, ◌⊎◌, inl, inr, ℕ, ◌+◌, ◌-◌, ◌^◌, ◌<◌, ◌≤◌, ◌==◌, ◌&&◌, nat_lt, Bool, true, false, List, [], ◌∷◌, ◌++◌, Option, Some, None, IfSome}
+use Rattle.std.proofs.Common.{length, take, codes, decimal, refl, sym, subst, arith, length-append, if◌then◌else◌}
 use Rattle.std.specs.List.{AllByRecursion}
 use Rattle.std.proofs.lemmas.List.{length-take}
 use Rattle.std.proofs.lemmas.List.Elements.{All-from_recursion, All-take, recursion_from_All}
@@ -9,22 +9,21 @@ use Rattle.text_words.specs.LineEnds.{line_end_len}
 use Rattle.imap_syntax.specs.declared.code.Code.{Code}
 use Rattle.imap_syntax.specs.declared.code.Code.TheVariants as code
 use Rattle.imap_syntax.specs.declared.response.FetchItems.{FetchItems}
-use Rattle.imap_syntax.specs.declared.response.Response.{Response}
 use Rattle.imap_syntax.specs.declared.response.Response.TheVariants as response
 use Rattle.imap_syntax.specs.declared.response.Status.{Status}
 use Rattle.imap_syntax.specs.declared.response.Status.TheVariants as status
 use Rattle.imap_syntax.specs.declared.uid_set.UidRange.{UidRange}
-use Rattle.imap_syntax.specs.Items.{AllNames, body_limit, header_limit, kept, no_items}
+use Rattle.imap_syntax.specs.Items.{AllNames, body_limit, header_limit, no_items}
 use Rattle.imap_syntax.specs.Lines.{joined}
 use Rattle.imap_syntax.specs.Strings.{escaped, quoted}
-use Rattle.imap_syntax.specs.Texts.{crlf, limit}
+use Rattle.imap_syntax.specs.Texts.{crlf}
 use Rattle.imap_syntax.proofs.KeptLemmas.{kept_again}
 use Rattle.honest_store.specs.StoreMail.{StoreMessage, StoreFolder}
 use Rattle.honest_store.specs.WellFormed.{AscendByUid, IsModseq, IsUpTo, IsStoreFolder, IsStoreMessage, nearest_date}
 use Rattle.honest_store.specs.Headers.{begins_with_empty_line, empty_line, header_section, header_told, through_empty_line}
 use Rattle.store_responses.specs.ResponseTexts.{code_text, delimiter_text, item_texts, names_text, ranges_text, status_text, text_of_response}
-use Rattle.store_responses.specs.Sendable.{AreSendableItems, AreSendableNames, HasSendableValues, IsNonZeroNumber, IsSendable, IsSendableCode, IsSendableLiteral, IsSendableSet}
-use Rattle.store_responses.specs.Sendable.{IsSendableRange, IsSendableTag, literal_octets}
+use Rattle.store_responses.specs.Sendable.{AreSendableItems, AreSendableNames, IsNonZeroNumber, IsSendable, IsSendableCode, IsSendableLiteral, IsSendableSet}
+use Rattle.store_responses.specs.Sendable.{IsSendableRange, IsSendableTag}
 use Rattle.small_answers.specs.Limits.{text_limit, total_length}
 use Rattle.small_answers.specs.SmallMail.{IsSmallFolder}
 use Rattle.small_answers.specs.ToldResponses.{body_response, change_response, flags_response, folder_responses, header_response, list_response, ok_response, sequence_number}

@@ -1,13 +1,13 @@
 -- What is to be told of the mail stays within what may be sent, as the mail changes.
-use Rattle.std.proofs.Common.{◌≡◌, ◌⊎◌, inl, inr, ℕ, ◌+◌, ◌<◌, ◌≤◌, Bool, true, false, ◌||◌, not, List, [], ◌∷◌, ◌++◌, Option, Some, None, length, map, is_some, bytes_eq}
-use Rattle.std.proofs.Common.{codes, refl, sym, subst, arith, All, ◌==◌, if◌then◌else◌}
+use Rattle.std.proofs.Common.{◌≡◌, ◌⊎◌, inl, inr, ℕ, ◌+◌, ◌≤◌, Bool, true, false, ◌||◌, not, List, [], ◌∷◌, Option, Some, None, length, map, is_some, bytes_eq}
+use Rattle.std.proofs.Common.{codes, refl, sym, subst, arith, ◌==◌, if◌then◌else◌}
 use Rattle.std.specs.List.{AllByRecursion, flat_map}
 use Rattle.std.proofs.lemmas.List.Elements.{All-append, All-cons, All-filter, All-from_recursion, All-nil, recursion_from_All}
 use Rattle.imap_syntax.specs.Items.{AllNames}
 use Rattle.honest_store.specs.StoreMail.{StoreMessage, StoreFolder, StoreMail, message_numbered}
 use Rattle.honest_store.specs.Attributes.{subscribed}
 use Rattle.honest_store.specs.MessageChanges.{with_store_folder, folder_with, folder_without, folder_flagged}
-use Rattle.honest_store.specs.FolderChanges.{child_part, name_after_rename, renamed_child, renamed_folder, with_subscription}
+use Rattle.honest_store.specs.FolderChanges.{child_part, renamed_child, renamed_folder, with_subscription}
 use Rattle.small_answers.specs.Changes.{next_modseq, mail_with, mail_without, mail_flagged, empty_folder, mail_created, mail_deleted, mail_renamed, mail_subscribed, first_mail}
 use Rattle.small_answers.specs.Limits.{text_limit, total_length}
 use Rattle.small_answers.specs.Causes.{names_renamed}

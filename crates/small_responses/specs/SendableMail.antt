@@ -7,7 +7,6 @@ use Rattle.imap_syntax.specs.declared.response.Response.TheVariants as response
 use Rattle.imap_syntax.specs.Items.{AllNames}
 use Rattle.honest_store.specs.StoreMail.{StoreMessage, StoreFolder, StoreMail}
 use Rattle.honest_store.specs.Sessions.{StoreAnswer}
-use Rattle.store_responses.specs.Sendable.{IsSendable}
 use Rattle.small_answers.specs.Limits.{text_limit, total_length}
 
 abbrev pub AreOctets : List ℕ → Type 0
