@@ -1,5 +1,5 @@
 //! The store's language: reads rows from standard input, octets of a store and commands, and prints where responses end, what
-//! they say, and how commands are written. The legend stands at the top of the file `stdin`, and what has to come of its rows
+//! they say, and how commands are written and read. The legend stands at the top of the file `stdin`, and what has to come of its rows
 //! in the file `stdout`.
 #![tactic(auto)]
 
@@ -10,6 +10,7 @@ mod scans;
 
 // Commands.
 mod commands;
+mod requests;
 
 use std::alloc::{AllocError, Global};
 use std::io;
@@ -25,6 +26,8 @@ fn take(alloc: Global, line: &str, out: &mut String) -> Result<(), AllocError> {
         "limit" => scans::put_limit(alloc, text, out),
         "long" => responses::put_long(alloc, text, out),
         "command" => commands::put_command(alloc, text, out),
+        "asks" => requests::put_asked(alloc, text, out),
+        "back" => requests::put_back(alloc, text, out),
         _ => responses::put_row(alloc, word, text, out),
     }
 }
