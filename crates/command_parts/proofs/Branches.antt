@@ -1,7 +1,7 @@
 -- Readers of one of two languages, by the first octet, and of no octet at all.
-use Rattle.std.proofs.Common.{◌≡◌, ℕ, suc, Bool, true, false, List, [], ◌∷◌, ◌++◌, length, get_or, cond, refl, sym, ap, subst, ◌∙◌, append_assoc, inl, inr}
+use Rattle.std.proofs.Common.{◌≡◌, ℕ, Bool, true, false, List, [], ◌∷◌, ◌++◌, get_or, cond, refl, sym, ap, ◌∙◌, inl, inr}
 use Rattle.std.specs.Prelude.{◌⊎◌, ◌==◌, Result, Ok, Err}
-use Rattle.std.proofs.lemmas.Bool.{cond-true, cond-false, eq-eqb}
+use Rattle.std.proofs.lemmas.Bool.{cond-true, cond-false}
 use Rattle.imap_syntax.specs.Texts.{plain_of, plain_octets}
 use Rattle.command_parts.specs.Fields.{AreOctets}
 use Rattle.command_parts.specs.declared.no_command.NoCommand.{NoCommand}
@@ -26,6 +26,7 @@ nothing_reader {C} first x = record {
     none_after : (t more : List ℕ) → t ++ more ≡ [] → more ≡ []
     none_after [] more e = e
     none_after (c ∷ t) more e = absurd (some_cons c (t ++ more) e)
+
     no_stop : (b : List ℕ) (e : NoCommand) → ◌≡◌ {A = Result (C × List ℕ) NoCommand} (Ok (x, b)) (Err e) → ⊥
     no_stop b e h = cc
 
@@ -138,6 +139,7 @@ either_reader {T} first d L M R Q r q begin other zero = record {
         → (t : List ℕ) × Either L M v t × (b ≡ plain_octets t ++ rest)
     found b v rest are e true g = let x = r.found b v rest are (sym (either_true d R Q b g) ∙ e) in (x.0, inl x.1, x.2)
     found b v rest are e false g = let x = q.found b v rest are (sym (either_false d R Q b g) ∙ e) in (x.0, inr x.1, x.2)
+
     stopped : (b : List ℕ) (e : NoCommand) → AreOctets b → either d R Q b ≡ Err e → (a : Bool) → (get_or b 0 0 == d) ≡ a → Stopped (Either L M) (either d R Q) first b e
     stopped b e are h true g = stopped_first first d L M R Q b e g (r.stopped b e are (sym (either_true d R Q b g) ∙ h))
     stopped b e are h false g = stopped_other first d L M R Q b e g (q.stopped b e are (sym (either_false d R Q b g) ∙ h))

@@ -1,9 +1,9 @@
 -- Readers one after another, and readers whose value is made of what was read.
-use Rattle.std.proofs.Common.{◌≡◌, ℕ, suc, List, [], ◌∷◌, ◌++◌, length, refl, sym, ap, subst, ◌∙◌, append_assoc, inl, inr}
-use Rattle.std.specs.Prelude.{◌⊎◌, Result, Ok, Err}
+use Rattle.std.proofs.Common.{◌≡◌, ℕ, List, [], ◌∷◌, ◌++◌, refl, sym, ap, subst, ◌∙◌, append_assoc, inl, inr}
+use Rattle.std.specs.Prelude.{Result, Ok, Err}
 use Rattle.std.proofs.lemmas.List.{map-append}
 use Rattle.imap_syntax.proofs.EachLemmas.{each_parts}
-use Rattle.imap_syntax.specs.Texts.{Each, Then, plain_of, plain_octets}
+use Rattle.imap_syntax.specs.Texts.{Then, plain_of, plain_octets}
 use Rattle.command_parts.specs.Fields.{fits_octet, AreOctets}
 use Rattle.command_parts.specs.declared.no_command.NoCommand.{NoCommand}
 use Rattle.command_parts.specs.declared.no_command.NoCommand.TheVariants.{NeedMore, WantsLiteral, Bad}
@@ -53,10 +53,11 @@ chain_found : {A C : Type 0} (first : NoCommand) (second : A → NoCommand) (L :
 chain_found {A} {C} first second L M R Q r q b c rest are e =
     let x = bind_ok (R b) (λ x. Q x.0 x.1) (c, rest) e in
     let f = r.found b x.0.0 x.0.1 are x.1 in
-    let g = (q x.0.0).found x.0.1 c rest (octets_behind b f.0 x.0.1 are f.2) x.2 in
-    (f.0 ++ g.0,
+    let g = (q x.0.0).found x.0.1 c rest (octets_behind b f.0 x.0.1 are f.2) x.2 in (
+      f.0 ++ g.0,
       (x.0.0, record { front = f.0; back = g.0; whole = refl; first = f.1; second = g.1 }),
-      f.2 ∙ ap (λ (u : List ℕ). plain_octets f.0 ++ u) g.2 ∙ sym (plain_cut f.0 g.0 rest))
+      f.2 ∙ ap (λ (u : List ℕ). plain_octets f.0 ++ u) g.2 ∙ sym (plain_cut f.0 g.0 rest),
+    )
 
 -- the first stops, and some text of the second goes on
 first_open : {A C : Type 0} (first : NoCommand) (L : A → List ℕ → Type 0) (M : A → C → List ℕ → Type 0) → ((a : A) → (c : C) × (t : List ℕ) × M a c t)
@@ -118,8 +119,8 @@ second_wrong {A} {C} first L M R Q r a t b rest reads whole left o = record {
   whole = whole ∙ ap (λ (u : List ℕ). plain_octets t ++ u) o.whole ∙ sym (plain_cut t o.text (o.octet ∷ o.rest));
   left_is = o.left_is;
   stays = λ s. ap (chained R Q) (plain_cut t o.text (o.octet ∷ s))
-    ∙ ap (λ (q : Result (A × List ℕ) NoCommand). q >>= λ x. Q x.0 x.1) (r.whole a t (plain_octets o.text ++ o.octet ∷ s) reads)
-    ∙ o.stays s;
+      ∙ ap (λ (q : Result (A × List ℕ) NoCommand). q >>= λ x. Q x.0 x.1) (r.whole a t (plain_octets o.text ++ o.octet ∷ s) reads)
+      ∙ o.stays s;
 }
 
 lift_first : {A C : Type 0} (first : NoCommand) (L : A → List ℕ → Type 0) (M : A → C → List ℕ → Type 0) (R : List ℕ → Result (A × List ℕ) NoCommand)
@@ -216,26 +217,27 @@ pub view_reader : {A C : Type 0} (first : NoCommand) (g : A → List ℕ → C) 
     → IsReader first L R → ((a : A) (t rest : List ℕ) → L a t → g a (plain_octets t ++ rest) ≡ g a (plain_octets t)) → IsReader first (Viewed g L) (viewed g R)
 view_reader {A} {C} first g L R r alone = record {
   whole = λ c t rest h.
-    ap (λ (q : Result (A × List ℕ) NoCommand). q >>= λ x. Ok (g x.0 (plain_octets t ++ rest), x.1)) (r.whole h.0 t rest h.1)
-    ∙ ap (λ (d : C). Ok (d, rest)) (alone h.0 t rest h.1 ∙ sym h.2);
+      ap (λ (q : Result (A × List ℕ) NoCommand). q >>= λ x. Ok (g x.0 (plain_octets t ++ rest), x.1)) (r.whole h.0 t rest h.1)
+      ∙ ap (λ (d : C). Ok (d, rest)) (alone h.0 t rest h.1 ∙ sym h.2);
   short = λ c t more h proper.
-    ap (λ (q : Result (A × List ℕ) NoCommand). q >>= λ x. Ok (g x.0 (plain_octets t), x.1)) (r.short h.0 t more h.1 proper);
+      ap (λ (q : Result (A × List ℕ) NoCommand). q >>= λ x. Ok (g x.0 (plain_octets t), x.1)) (r.short h.0 t more h.1 proper);
   found = λ b c rest are e.
-    let x = bind_ok (R b) (λ x. Ok (g x.0 b, x.1)) (c, rest) e in
-    let same : g x.0.0 b ≡ c = ok_value (g x.0.0 b) c x.0.1 rest x.2 in
-    let left : x.0.1 ≡ rest = ok_rest (g x.0.0 b) c x.0.1 rest x.2 in
-    let f = r.found b x.0.0 x.0.1 are x.1 in
-    (f.0, (x.0.0, f.1, sym same ∙ ap (g x.0.0) f.2 ∙ alone x.0.0 f.0 x.0.1 f.1), f.2 ∙ ap (λ (u : List ℕ). plain_octets f.0 ++ u) left);
+      let x = bind_ok (R b) (λ x. Ok (g x.0 b, x.1)) (c, rest) e in
+      let same : g x.0.0 b ≡ c = ok_value (g x.0.0 b) c x.0.1 rest x.2 in
+      let left : x.0.1 ≡ rest = ok_rest (g x.0.0 b) c x.0.1 rest x.2 in
+      let f = r.found b x.0.0 x.0.1 are x.1 in
+      (f.0, (x.0.0, f.1, sym same ∙ ap (g x.0.0) f.2 ∙ alone x.0.0 f.0 x.0.1 f.1), f.2 ∙ ap (λ (u : List ℕ). plain_octets f.0 ++ u) left);
   stopped = λ b e are h.
-    elim (bind_err (R b) (λ x. Ok (g x.0 b, x.1)) e h) [
-      | inl f ↦ view_stopped first g L R b e (r.stopped b e are f)
-      | inr f ↦ no_stop {A = C × List ℕ} (g f.0.0 b, f.0.1) e f.2
-    ];
+      elim (bind_err (R b) (λ x. Ok (g x.0 b, x.1)) e h) [
+        | inl f ↦ view_stopped first g L R b e (r.stopped b e are f)
+        | inr f ↦ no_stop {A = C × List ℕ} (g f.0.0 b, f.0.1) e f.2
+      ];
   some = let x = r.some in (g x.0 (plain_octets x.1), x.1, (x.0, x.2, refl));
 }
   where
     ok_value : {X Y : Type 0} (x z : X) (y w : Y) → ◌≡◌ {A = Result (X × Y) NoCommand} (Ok (x, y)) (Ok (z, w)) → x ≡ z
     ok_value {X = X} {Y = Y} x z y w e = let p : ◌≡◌ {A = X × Y} (x, y) (z, w) = cc in ap (λ (q : X × Y). q.0) p
+
     ok_rest : {X Y : Type 0} (x z : X) (y w : Y) → ◌≡◌ {A = Result (X × Y) NoCommand} (Ok (x, y)) (Ok (z, w)) → y ≡ w
     ok_rest {X = X} {Y = Y} x z y w e = let p : ◌≡◌ {A = X × Y} (x, y) (z, w) = cc in ap (λ (q : X × Y). q.1) p
 

@@ -1,19 +1,18 @@
 -- One of several fixed texts, of which none begins another, is read as what it is.
-use Rattle.std.proofs.Common.{◌≡◌, ℕ, zero, suc, ◌+◌, ◌-◌, ◌<◌, ◌≤◌, max, Bool, true, false, ◌&&◌, List, [], ◌∷◌, ◌++◌, length, map, take, drop, get_or, cond, refl, sym, ap, subst, ◌∙◌, append_assoc, arith, inl, inr}
+use Rattle.std.proofs.Common.{◌≡◌, ℕ, zero, suc, ◌+◌, ◌-◌, ◌<◌, ◌≤◌, max, Bool, true, false, ◌&&◌, List, [], ◌∷◌, ◌++◌, length, map, take, drop, get_or, cond, refl, sym, ap, subst, ◌∙◌, arith, inl, inr}
 use Rattle.std.specs.Prelude.{◌⊎◌, ◌==◌, nat_lt, Result, Ok, Err}
 use Rattle.std.specs.List.{list_all}
 use Rattle.std.proofs.lemmas.Bool.{cond-true, cond-false, eqb-true, eqb-false, eq-eqb, ne_eqb, and_parts, cases_lt}
-use Rattle.std.proofs.lemmas.List.{length-append, length-map, length-take-le, take-append-drop, take_all, take_at, drop_at, drop_more, length-drop, map-append}
+use Rattle.std.proofs.lemmas.List.{length-append, length-map, length-take-le, take-append-drop, take_all, drop_at, drop_more, length-drop, map-append}
 use Rattle.imap_syntax.proofs.EachLemmas.{each_all, each_parts}
 use Rattle.imap_syntax.specs.Octets.{lower}
 use Rattle.imap_syntax.specs.Texts.{Each, IsWord, plain_octets}
 use Rattle.imap_values.proofs.Cuts.{small, small_lower, plain_small}
-use Rattle.command_parts.specs.Fields.{fits_octet, AreOctets}
 use Rattle.command_parts.specs.declared.no_command.NoCommand.{NoCommand}
 use Rattle.command_parts.specs.declared.no_command.NoCommand.TheVariants.{NeedMore, WantsLiteral, Bad}
 use Rattle.command_parts.specs.declared.fixed_text.FixedText.{FixedText}
 use Rattle.command_parts.specs.reading.FixedTexts.{fixed_text, agreeing, choose}
-use Rattle.command_parts.proofs.Readers.{ends_with_line, stop_of, IsOpen, IsWrong, Stopped, IsReader, some_cons}
+use Rattle.command_parts.proofs.Readers.{ends_with_line, stop_of, IsOpen, IsWrong, Stopped, IsReader}
 
 -- ---- tables of texts
 
@@ -483,12 +482,12 @@ wrong_here ks b left table none e k one same =
       whole = sym (take-append-drop at b) ∙ ap (λ (u : List ℕ). take at b ++ u) (drop_more b at 0 lt) ∙ ap (λ (u : List ℕ). u ++ get_or b at 0 ∷ drop (at + 1) b) (sym front);
       left_is = omega (arith, g, behind, lt);
       stays = λ r.
-        let c : List ℕ = take at b ++ get_or b at 0 ∷ r in
-        let long : length c ≡ length (take at b) + suc (length r) = length-append (take at b) (get_or b at 0 ∷ r) in
-        let count : length (take at b) ≡ at = length-take-le at b (omega (arith, lt)) in
-        let far : farthest 0 ks c ≡ at = farthest_upto ks 0 b at r none le lt in
-        let n : length c - farthest 0 ks c ≡ suc (length r) = omega (arith, long, count, far) in
-        ap (λ (u : List ℕ). choose 0 ks (u ++ get_or b at 0 ∷ r)) front ∙ choose_none ks 0 c (none_upto ks b at r none le lt) ∙ ap (λ (i : ℕ). Err (Bad i)) n;
+          let c : List ℕ = take at b ++ get_or b at 0 ∷ r in
+          let long : length c ≡ length (take at b) + suc (length r) = length-append (take at b) (get_or b at 0 ∷ r) in
+          let count : length (take at b) ≡ at = length-take-le at b (omega (arith, lt)) in
+          let far : farthest 0 ks c ≡ at = farthest_upto ks 0 b at r none le lt in
+          let n : length c - farthest 0 ks c ≡ suc (length r) = omega (arith, long, count, far) in
+          ap (λ (u : List ℕ). choose 0 ks (u ++ get_or b at 0 ∷ r)) front ∙ choose_none ks 0 c (none_upto ks b at r none le lt) ∙ ap (λ (i : ℕ). Err (Bad i)) n;
     }
 
 choose_stopped : (k : FixedText) (ks : List FixedText) (b : List ℕ) (e : NoCommand) → is_table (k ∷ ks) ≡ true → choose 0 (k ∷ ks) b ≡ Err e
@@ -505,6 +504,7 @@ choose_stopped k ks b e table h = elim (choose_why (k ∷ ks) 0 b e h) [
           wrong_here (k ∷ ks) b left table none g k (inl refl) (omega (arith, zero_far, most))
       | inr x ↦ wrong_here (k ∷ ks) b left table none g x.0 x.1 x.2
     ]
+
     by : NoneAgrees (k ∷ ks) b → (e : NoCommand) → choose 0 (k ∷ ks) b ≡ Err e → Stopped (Choices (k ∷ ks)) (choose 0 (k ∷ ks)) NeedMore b e
     by none NeedMore g = let r = sym (choose_none (k ∷ ks) 0 b none) ∙ g in absurd cc
     by none WantsLiteral g = let r = sym (choose_none (k ∷ ks) 0 b none) ∙ g in absurd cc
@@ -514,16 +514,16 @@ choose_stopped k ks b e table h = elim (choose_why (k ∷ ks) 0 b e h) [
 pub choose_reader : (k : FixedText) (ks : List FixedText) → is_table (k ∷ ks) ≡ true → IsReader NeedMore (Choices (k ∷ ks)) (choose 0 (k ∷ ks))
 choose_reader k ks table = record {
   whole = λ v t rest h.
-    ap (λ (u : List ℕ). choose 0 (k ∷ ks) (u ++ rest)) (plain_small t (word_small (fixed_text v) t (text_plain (k ∷ ks) v table h.0) h.1))
-    ∙ choose_whole (k ∷ ks) 0 v t rest table h.0 h.1;
+      ap (λ (u : List ℕ). choose 0 (k ∷ ks) (u ++ rest)) (plain_small t (word_small (fixed_text v) t (text_plain (k ∷ ks) v table h.0) h.1))
+      ∙ choose_whole (k ∷ ks) 0 v t rest table h.0 h.1;
   short = λ v t more h proper.
-    let plain = text_plain (k ∷ ks) v table h.0 in
-    ap (choose 0 (k ∷ ks)) (plain_small t (each_parts small t more (word_small (fixed_text v) (t ++ more) plain h.1)).0)
-    ∙ choose_short (k ∷ ks) 0 v t more table h.0 h.1 proper
-    ∙ ap (λ (e : NoCommand). Err e) (stop_open t (word_open (fixed_text v) t more (text_line (k ∷ ks) v table h.0) h.1 proper));
+      let plain = text_plain (k ∷ ks) v table h.0 in
+      ap (choose 0 (k ∷ ks)) (plain_small t (each_parts small t more (word_small (fixed_text v) (t ++ more) plain h.1)).0)
+      ∙ choose_short (k ∷ ks) 0 v t more table h.0 h.1 proper
+      ∙ ap (λ (e : NoCommand). Err e) (stop_open t (word_open (fixed_text v) t more (text_line (k ∷ ks) v table h.0) h.1 proper));
   found = λ b v rest are e.
-    let x = choose_found (k ∷ ks) 0 b v rest e in
-    (x.0, x.1, x.2 ∙ ap (λ (u : List ℕ). u ++ rest) (sym (plain_small x.0 (word_small (fixed_text v) x.0 (text_plain (k ∷ ks) v table x.1.0) x.1.1))));
+      let x = choose_found (k ∷ ks) 0 b v rest e in
+      (x.0, x.1, x.2 ∙ ap (λ (u : List ℕ). u ++ rest) (sym (plain_small x.0 (word_small (fixed_text v) x.0 (text_plain (k ∷ ks) v table x.1.0) x.1.1))));
   stopped = λ b e are h. choose_stopped k ks b e table h;
   some = (k, fixed_text k, (inl refl, plain_lower (fixed_text k) (text_plain (k ∷ ks) k table (inl refl))));
 }

@@ -1,14 +1,14 @@
 -- Dates are read as what they are.
-use Rattle.std.proofs.Common.{◌≡◌, ℕ, zero, suc, ◌+◌, ◌-◌, ◌<◌, ◌≤◌, Bool, true, false, ◌&&◌, ◌||◌, List, [], ◌∷◌, ◌++◌, length, map, drop, cond, refl, sym, ap, subst, ◌∙◌, append_assoc}
+use Rattle.std.proofs.Common.{◌≡◌, ℕ, zero, suc, ◌+◌, ◌-◌, ◌≤◌, Bool, true, false, ◌||◌, List, [], ◌∷◌, ◌++◌, length, map, cond, refl, sym, ap, subst, ◌∙◌, append_assoc}
 use Rattle.std.proofs.Common.{arith, inl, inr}
-use Rattle.std.specs.Prelude.{◌⊎◌, ◌==◌, nat_lt, codes, ℤ, Result, Ok, Err}
+use Rattle.std.specs.Prelude.{◌==◌, nat_lt, ℤ}
 use Rattle.std.proofs.lemmas.Bool.{ltb-true, ltb-false, lt-ltb, le-ltb, eqb-true}
 use Rattle.std.proofs.lemmas.List.{append-nil, map-append}
 use Rattle.imap_syntax.specs.Octets.{is_digit, lower}
 use Rattle.imap_syntax.specs.Texts.{Each, IsWord, plain_octets}
 use Rattle.imap_syntax.specs.Dates.{month_name}
 use Rattle.imap_syntax.specs.DateTimes.{IsMonth, IsDateTime}
-use Rattle.imap_automaton.proofs.DateForms.{starts_day, is_sign, DateOctets, octets_of, of_octets, four, two, time_of, zone_of}
+use Rattle.imap_automaton.proofs.DateForms.{starts_day, is_sign, octets_of, of_octets, four, two, time_of, zone_of}
 use Rattle.imap_syntax.specs.DateTimes.{seconds_of}
 use Rattle.imap_grammar.proofs.DateReadings.{date_read}
 use Rattle.imap_values.specs.Dates.{date_in}
@@ -29,7 +29,7 @@ use Rattle.command_parts.proofs.Parts.{stop_open}
 use Rattle.command_parts.specs.reading.Lexemes.{in_day, in_time, date_advance}
 use Rattle.command_parts.specs.reading.Steps.{read_from}
 use Rattle.command_parts.proofs.Readers.{stop_of, IsReader}
-use Rattle.command_parts.proofs.Lexing.{Accepts, AcceptsBy, IsPlain, IsAlive, is_fail, lexeme_reader}
+use Rattle.command_parts.proofs.Lexing.{Accepts, IsPlain, IsAlive, is_fail, lexeme_reader}
 use Rattle.command_parts.proofs.Stepping.{from_if, at_true, at_false, on_if, go_if}
 
 abbrev day_step : ℕ → LexemeStep DatePart
@@ -84,41 +84,49 @@ day_forth : (t : List ℕ) (at : ℕ) (v : DatePart) → at ≤ 3 → Accepts da
 day_forth [] at v le h = absurd h
 day_forth (c ∷ t) at v le h = from_if (in_day at c) (day_step at) Fail (λ p. Accepts date_advance p v t) v t
     (λ e k. from_if (nat_lt at 3) (On (part.Day (at + 1))) (End (part.Day at)) (λ p. Accepts date_advance p v t) v t
-      (λ f g. let lt = ltb-true at 3 f in let r = day_forth t (at + 1) v (omega (arith, lt)) g in ((e, r.0), omega (arith, r.1)))
-      (λ f g. last e (ltb-false at 3 f) g.1) k) (λ e k. absurd k) h
+    (λ f g. let lt = ltb-true at 3 f in let r = day_forth t (at + 1) v (omega (arith, lt)) g in ((e, r.0), omega (arith, r.1)))
+    (λ f g. last e (ltb-false at 3 f) g.1) k) (λ e k. absurd k) h
   where
     last : in_day at c ≡ true → 3 ≤ at → t ≡ [] → DayFrom at (c ∷ t) × (at + length (c ∷ t) ≡ 4)
     last e ge none = ((e, subst (DayFrom (at + 1)) (sym none) tt), (let long = ap length none in omega (arith, ge, le, long)))
 
 day_back : (t : List ℕ) (at : ℕ) → DayFrom at t → at + length t ≡ 4 → at ≤ 3 → (v : DatePart) × Accepts date_advance (part.Day at) v t
 day_back [] at h e le = absurd (omega (arith, e, le))
-day_back (c ∷ []) at h e le =
-    (part.Day at, at_true (in_day at c) (day_step at) Fail (λ p. Accepts date_advance p (part.Day at) []) (part.Day at) [] h.0
-    (at_false (nat_lt at 3) (On (part.Day (at + 1))) (End (part.Day at)) (λ p. Accepts date_advance p (part.Day at) []) (part.Day at) [] (le-ltb at 3 (omega (arith, e))) (refl, refl)))
+day_back (c ∷ []) at h e le = (
+  part.Day at,
+  at_true (in_day at c) (day_step at) Fail (λ p. Accepts date_advance p (part.Day at) []) (part.Day at) [] h.0
+      (at_false (nat_lt at 3) (On (part.Day (at + 1))) (End (part.Day at)) (λ p. Accepts date_advance p (part.Day at) []) (part.Day at) [] (le-ltb at 3 (omega (arith, e))) (refl, refl)),
+)
 day_back (c ∷ d ∷ t) at h e le =
-    let r = day_back (d ∷ t) (at + 1) h.1 (omega (arith, e)) (omega (arith, e)) in
-    (r.0, at_true (in_day at c) (day_step at) Fail (λ p. Accepts date_advance p r.0 (d ∷ t)) r.0 (d ∷ t) h.0
-    (at_true (nat_lt at 3) (On (part.Day (at + 1))) (End (part.Day at)) (λ p. Accepts date_advance p r.0 (d ∷ t)) r.0 (d ∷ t) (lt-ltb at 3 (omega (arith, e))) r.1))
+    let r = day_back (d ∷ t) (at + 1) h.1 (omega (arith, e)) (omega (arith, e)) in (
+      r.0,
+      at_true (in_day at c) (day_step at) Fail (λ p. Accepts date_advance p r.0 (d ∷ t)) r.0 (d ∷ t) h.0
+          (at_true (nat_lt at 3) (On (part.Day (at + 1))) (End (part.Day at)) (λ p. Accepts date_advance p r.0 (d ∷ t)) r.0 (d ∷ t) (lt-ltb at 3 (omega (arith, e))) r.1),
+    )
 
 time_forth : (t : List ℕ) (at : ℕ) (v : DatePart) → at ≤ 19 → Accepts date_advance (part.Time at) v t → TimeFrom at t × (at + length t ≡ 20)
 time_forth [] at v le h = absurd h
 time_forth (c ∷ t) at v le h = from_if (in_time at c) (time_step at) Fail (λ p. Accepts date_advance p v t) v t
     (λ e k. from_if (nat_lt at 19) (On (part.Time (at + 1))) (End (part.Time at)) (λ p. Accepts date_advance p v t) v t
-      (λ f g. let lt = ltb-true at 19 f in let r = time_forth t (at + 1) v (omega (arith, lt)) g in ((e, r.0), omega (arith, r.1)))
-      (λ f g. last e (ltb-false at 19 f) g.1) k) (λ e k. absurd k) h
+    (λ f g. let lt = ltb-true at 19 f in let r = time_forth t (at + 1) v (omega (arith, lt)) g in ((e, r.0), omega (arith, r.1)))
+    (λ f g. last e (ltb-false at 19 f) g.1) k) (λ e k. absurd k) h
   where
     last : in_time at c ≡ true → 19 ≤ at → t ≡ [] → TimeFrom at (c ∷ t) × (at + length (c ∷ t) ≡ 20)
     last e ge none = ((e, subst (TimeFrom (at + 1)) (sym none) tt), (let long = ap length none in omega (arith, ge, le, long)))
 
 time_back : (t : List ℕ) (at : ℕ) → TimeFrom at t → at + length t ≡ 20 → at ≤ 19 → (v : DatePart) × Accepts date_advance (part.Time at) v t
 time_back [] at h e le = absurd (omega (arith, e, le))
-time_back (c ∷ []) at h e le =
-    (part.Time at, at_true (in_time at c) (time_step at) Fail (λ p. Accepts date_advance p (part.Time at) []) (part.Time at) [] h.0
-    (at_false (nat_lt at 19) (On (part.Time (at + 1))) (End (part.Time at)) (λ p. Accepts date_advance p (part.Time at) []) (part.Time at) [] (le-ltb at 19 (omega (arith, e))) (refl, refl)))
+time_back (c ∷ []) at h e le = (
+  part.Time at,
+  at_true (in_time at c) (time_step at) Fail (λ p. Accepts date_advance p (part.Time at) []) (part.Time at) [] h.0
+      (at_false (nat_lt at 19) (On (part.Time (at + 1))) (End (part.Time at)) (λ p. Accepts date_advance p (part.Time at) []) (part.Time at) [] (le-ltb at 19 (omega (arith, e))) (refl, refl)),
+)
 time_back (c ∷ d ∷ t) at h e le =
-    let r = time_back (d ∷ t) (at + 1) h.1 (omega (arith, e)) (omega (arith, e)) in
-    (r.0, at_true (in_time at c) (time_step at) Fail (λ p. Accepts date_advance p r.0 (d ∷ t)) r.0 (d ∷ t) h.0
-    (at_true (nat_lt at 19) (On (part.Time (at + 1))) (End (part.Time at)) (λ p. Accepts date_advance p r.0 (d ∷ t)) r.0 (d ∷ t) (lt-ltb at 19 (omega (arith, e))) r.1))
+    let r = time_back (d ∷ t) (at + 1) h.1 (omega (arith, e)) (omega (arith, e)) in (
+      r.0,
+      at_true (in_time at c) (time_step at) Fail (λ p. Accepts date_advance p r.0 (d ∷ t)) r.0 (d ∷ t) h.0
+          (at_true (nat_lt at 19) (On (part.Time (at + 1))) (End (part.Time at)) (λ p. Accepts date_advance p r.0 (d ∷ t)) r.0 (d ∷ t) (lt-ltb at 19 (omega (arith, e))) r.1),
+    )
 
 -- ---- a lexeme is one from its start on
 
@@ -129,10 +137,10 @@ Fine (part.Time at) = at ≤ 19
 fine_keeps : (s p : DatePart) (c : ℕ) → Fine s → date_advance s c ≡ On p → Fine p
 fine_keeps (part.Day at) p c fine h = on_if (in_day at c) (day_step at) Fail p
     (λ e k. on_if (nat_lt at 3) (On (part.Day (at + 1))) (End (part.Day at)) p
-      (λ f g. let lt = ltb-true at 3 f in let same : part.Day (at + 1) ≡ p = cc in subst Fine same (omega (arith, lt))) (λ f g. absurd cc) k) (λ e k. absurd cc) h
+    (λ f g. let lt = ltb-true at 3 f in let same : part.Day (at + 1) ≡ p = cc in subst Fine same (omega (arith, lt))) (λ f g. absurd cc) k) (λ e k. absurd cc) h
 fine_keeps (part.Time at) p c fine h = on_if (in_time at c) (time_step at) Fail p
     (λ e k. on_if (nat_lt at 19) (On (part.Time (at + 1))) (End (part.Time at)) p
-      (λ f g. let lt = ltb-true at 19 f in let same : part.Time (at + 1) ≡ p = cc in subst Fine same (omega (arith, lt))) (λ f g. absurd cc) k) (λ e k. absurd cc) h
+    (λ f g. let lt = ltb-true at 19 f in let same : part.Time (at + 1) ≡ p = cc in subst Fine same (omega (arith, lt))) (λ f g. absurd cc) k) (λ e k. absurd cc) h
 
 -- an octet that may stand at a place
 abbrev day_octet : ℕ → ℕ
@@ -350,8 +358,8 @@ unfolding date_octets_at
 parts_reader = chain_reader NeedMore (λ d. NeedMore) Days (λ d. Chain (Choices months) (λ m. Times)) (read_from date_advance (part.Day 0))
     (λ d. chained (choice_at choice.Months) (λ m. read_from date_advance (part.Time 0))) day_reader
     (λ d. chain_reader NeedMore (λ m. NeedMore) (Choices months) (λ m. Times) (choice_at choice.Months) (λ m. read_from date_advance (part.Time 0))
-      (choose_reader word.Jan (word.Feb ∷ word.Mar ∷ word.Apr ∷ word.May ∷ word.Jun ∷ word.Jul ∷ word.Aug ∷ word.Sep ∷ word.Oct ∷ word.Nov ∷ word.Dec ∷ []) refl)
-      (λ m. time_reader) month_stop) day_stop
+    (choose_reader word.Jan (word.Feb ∷ word.Mar ∷ word.Apr ∷ word.May ∷ word.Jun ∷ word.Jul ∷ word.Aug ∷ word.Sep ∷ word.Oct ∷ word.Nov ∷ word.Dec ∷ []) refl)
+    (λ m. time_reader) month_stop) day_stop
 
 -- the parts spell a date
 parts_date : (v : DatePart) (t : List ℕ) → DateParts v t → (s : ℤ) × IsDateTime s t
@@ -364,42 +372,44 @@ parts_date v t h =
     let m = month_cut ms.0 mh.front mh.first.0 mh.first.1 in
     let c = time_forth mh.back 0 v (omega arith) mh.second in
     let p = time_octets mh.back c.0 (omega (arith, c.1)) in
-    let s : ℤ = seconds_of (four p.y1 p.y2 p.y3 p.y4) m.0 (two o.d1 o.d2) (time_of (two p.h1 p.h2) (two p.m1 p.m2) (two p.s1 p.s2)) (p.sign == 43) (zone_of (two p.z1 p.z2) (two p.z3 p.z4)) in
-    (s, of_octets s t (record {
-      d1 = o.d1;
-      d2 = o.d2;
-      month = m.0;
-      name = m.1;
-      y1 = p.y1;
-      y2 = p.y2;
-      y3 = p.y3;
-      y4 = p.y4;
-      h1 = p.h1;
-      h2 = p.h2;
-      m1 = p.m1;
-      m2 = p.m2;
-      s1 = p.s1;
-      s2 = p.s2;
-      sign = p.sign;
-      z1 = p.z1;
-      z2 = p.z2;
-      z3 = p.z3;
-      z4 = p.z4;
-      whole =
-          th.whole ∙ ap (λ (u : List ℕ). u ++ th.back) o.whole ∙ ap (λ (u : List ℕ). 34 ∷ o.d1 ∷ o.d2 ∷ 45 ∷ u) (mh.whole ∙ ap (λ (u : List ℕ). u ++ mh.back) m.3)
-          ∙ ap (λ (u : List ℕ). 34 ∷ o.d1 ∷ o.d2 ∷ 45 ∷ u) (append_assoc m.1 (45 ∷ []) mh.back) ∙ ap (λ (u : List ℕ). 34 ∷ o.d1 ∷ o.d2 ∷ 45 ∷ (m.1 ++ 45 ∷ u)) p.whole;
-      starts = o.starts;
-      digit = o.digit;
-      month_is = m.2;
-      year_digits = p.year;
-      hour_digits = p.hour;
-      minute_digits = p.minute;
-      second_digits = p.second;
-      is_signed = p.signed;
-      zone_digits = p.zone;
-      zone_more = p.more;
-      value = refl;
-    }))
+    let s : ℤ = seconds_of (four p.y1 p.y2 p.y3 p.y4) m.0 (two o.d1 o.d2) (time_of (two p.h1 p.h2) (two p.m1 p.m2) (two p.s1 p.s2)) (p.sign == 43) (zone_of (two p.z1 p.z2) (two p.z3 p.z4)) in (
+      s,
+      of_octets s t (record {
+        d1 = o.d1;
+        d2 = o.d2;
+        month = m.0;
+        name = m.1;
+        y1 = p.y1;
+        y2 = p.y2;
+        y3 = p.y3;
+        y4 = p.y4;
+        h1 = p.h1;
+        h2 = p.h2;
+        m1 = p.m1;
+        m2 = p.m2;
+        s1 = p.s1;
+        s2 = p.s2;
+        sign = p.sign;
+        z1 = p.z1;
+        z2 = p.z2;
+        z3 = p.z3;
+        z4 = p.z4;
+        whole =
+            th.whole ∙ ap (λ (u : List ℕ). u ++ th.back) o.whole ∙ ap (λ (u : List ℕ). 34 ∷ o.d1 ∷ o.d2 ∷ 45 ∷ u) (mh.whole ∙ ap (λ (u : List ℕ). u ++ mh.back) m.3)
+            ∙ ap (λ (u : List ℕ). 34 ∷ o.d1 ∷ o.d2 ∷ 45 ∷ u) (append_assoc m.1 (45 ∷ []) mh.back) ∙ ap (λ (u : List ℕ). 34 ∷ o.d1 ∷ o.d2 ∷ 45 ∷ (m.1 ++ 45 ∷ u)) p.whole;
+        starts = o.starts;
+        digit = o.digit;
+        month_is = m.2;
+        year_digits = p.year;
+        hour_digits = p.hour;
+        minute_digits = p.minute;
+        second_digits = p.second;
+        is_signed = p.signed;
+        zone_digits = p.zone;
+        zone_more = p.more;
+        value = refl;
+      }),
+    )
 
 -- a date is of the parts
 date_parts : (s : ℤ) (t : List ℕ) → IsDateTime s t → (v : DatePart) × DateParts v t
@@ -411,22 +421,70 @@ date_parts s t h =
     let time : List ℕ = o.y1 ∷ o.y2 ∷ o.y3 ∷ o.y4 ∷ 32 ∷ o.h1 ∷ o.h2 ∷ 58 ∷ o.m1 ∷ o.m2 ∷ 58 ∷ o.s1 ∷ o.s2 ∷ 32 ∷ o.sign ∷ o.z1 ∷ o.z2 ∷ o.z3 ∷ o.z4 ∷ 34 ∷ [] in
     let d = day_back day 0 (refl, (o.starts, (o.digit, (refl, tt)))) refl (omega arith) in
     let y = o.year_digits in
-    let c = time_back time 0
-      (y.0, (y.1.0, (y.1.1.0, (y.1.1.1.0, (refl, (o.hour_digits.0, (o.hour_digits.1.0, (refl, (o.minute_digits.0, (o.minute_digits.1.0, (refl, (o.second_digits.0, (o.second_digits.1.0, (refl,
-      (o.is_signed, (o.zone_digits.0, (o.zone_digits.1.0, (o.zone_more.0, (o.zone_more.1.0, (refl, tt)))))))))))))))))))) refl (omega arith) in
-    (c.0, (d.0, record {
-      front = day;
-      back = month ++ time;
-      whole = o.whole ∙ ap (λ (u : List ℕ). 34 ∷ o.d1 ∷ o.d2 ∷ 45 ∷ u) (sym (append_assoc o.name (45 ∷ []) time));
-      first = d.1;
-      second = (k.0, record {
-        front = month;
-        back = time;
-        whole = refl;
-        first = (k.1, map-append lower o.name (45 ∷ []) ∙ ap (λ (u : List ℕ). u ++ 45 ∷ []) o.month_is.2 ∙ sym k.2);
-        second = c.1;
-      });
-    }))
+    let c = time_back time 0 (
+      y.0,
+      (
+        y.1.0,
+        (
+          y.1.1.0,
+          (
+            y.1.1.1.0,
+            (
+              refl,
+              (
+                o.hour_digits.0,
+                (
+                  o.hour_digits.1.0,
+                  (
+                    refl,
+                    (
+                      o.minute_digits.0,
+                      (
+                        o.minute_digits.1.0,
+                        (
+                          refl,
+                          (
+                            o.second_digits.0,
+                            (
+                              o.second_digits.1.0,
+                              (
+                                refl,
+                                (o.is_signed, (o.zone_digits.0, (o.zone_digits.1.0, (o.zone_more.0, (o.zone_more.1.0, (refl, tt)))))),
+                              ),
+                            ),
+                          ),
+                        ),
+                      ),
+                    ),
+                  ),
+                ),
+              ),
+            ),
+          ),
+        ),
+      ),
+    ) refl (omega arith) in (
+      c.0,
+      (
+        d.0,
+        record {
+          front = day;
+          back = month ++ time;
+          whole = o.whole ∙ ap (λ (u : List ℕ). 34 ∷ o.d1 ∷ o.d2 ∷ 45 ∷ u) (sym (append_assoc o.name (45 ∷ []) time));
+          first = d.1;
+          second = (
+            k.0,
+            record {
+              front = month;
+              back = time;
+              whole = refl;
+              first = (k.1, map-append lower o.name (45 ∷ []) ∙ ap (λ (u : List ℕ). u ++ 45 ∷ []) o.month_is.2 ∙ sym k.2);
+              second = c.1;
+            },
+          );
+        },
+      ),
+    )
 
 date_alone : (s : ℤ) (t rest : List ℕ) → IsDateTime s t → date_in (plain_octets t ++ rest) ≡ s
 date_alone s t rest h = (date_read s t rest (plain_octets t ++ rest) h refl).0
@@ -443,6 +501,7 @@ date_reader = same_reader NeedMore (Viewed (λ a b. date_in b) DateParts) IsDate
   where
     forth : (s : ℤ) (t : List ℕ) → Viewed (λ a b. date_in b) DateParts s t → IsDateTime s t
     forth s t h = let d = parts_date h.0 t h.1 in subst (λ (r : ℤ). IsDateTime r t) (sym (h.2 ∙ date_whole d.0 t d.1)) d.1
+
     back : (s : ℤ) (t : List ℕ) → IsDateTime s t → Viewed (λ a b. date_in b) DateParts s t
     back s t h = let p = date_parts s t h in (p.0, p.1, sym (date_whole s t h))
 

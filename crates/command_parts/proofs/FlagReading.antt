@@ -1,6 +1,6 @@
 -- Flags are read as what they are.
-use Rattle.std.proofs.Common.{◌≡◌, ℕ, suc, ◌+◌, ◌<◌, Bool, true, false, List, [], ◌∷◌, ◌++◌, length, cond, refl, sym, ap, subst, ◌∙◌, append_assoc, arith, inl, inr}
-use Rattle.std.specs.Prelude.{◌⊎◌, ◌==◌, Result, Ok, Err}
+use Rattle.std.proofs.Common.{◌≡◌, ℕ, ◌+◌, true, false, List, [], ◌∷◌, ◌++◌, cond, refl, sym, ap, subst, ◌∙◌, append_assoc, arith, inl, inr}
+use Rattle.std.specs.Prelude.{◌==◌}
 use Rattle.std.proofs.lemmas.Bool.{eqb-true}
 use Rattle.std.proofs.lemmas.List.{append-nil}
 use Rattle.imap_syntax.specs.Octets.{is_atom}
@@ -11,7 +11,7 @@ use Rattle.imap_syntax.specs.Items.{IsName, AllNames, kept}
 use Rattle.imap_values.specs.Spans.{flags_in}
 use Rattle.imap_values.proofs.Cuts.{plain_small}
 use Rattle.imap_values.proofs.NameReadings.{flags_read}
-use Rattle.command_parts.specs.Fields.{fits_octet, AreOctets}
+use Rattle.command_parts.specs.Fields.{fits_octet}
 use Rattle.command_parts.specs.declared.no_command.NoCommand.TheVariants.{NeedMore}
 use Rattle.command_parts.specs.declared.lexeme.LexemeStep.{LexemeStep}
 use Rattle.command_parts.specs.declared.lexeme.LexemeStep.TheVariants.{Fail, On, End}
@@ -139,7 +139,7 @@ flags_step flags.Atom v c t ih h = atom_forth c v t (λ f g. atom_rest c t f (ih
 flags_step flags.Rest v c t ih h = from_if (c == 41) (End flags.Rest) (more_step c) (λ p. Accepts flags_advance p v t) v t
     (λ e k. close_rest c t (eqb-true c 41 e) k.1)
     (λ e k. from_if (c == 32) (On flags.Next) (atom_step c) (λ p. Accepts flags_advance p v t) v t
-      (λ f g. space_rest c t (eqb-true c 32 f) (ih flags.Next g)) (λ f g. atom_forth c v t (λ a b. more_rest c t a (ih flags.Rest b)) g) k) h
+    (λ f g. space_rest c t (eqb-true c 32 f) (ih flags.Next g)) (λ f g. atom_forth c v t (λ a b. more_rest c t a (ih flags.Rest b)) g) k) h
 
 flags_forth : (t : List ℕ) (s v : Flags) → Accepts flags_advance s v t → FlagsRest s t
 flags_forth [] s v h = absurd h
@@ -158,16 +158,20 @@ atom_back c t e r = (r.0, at_true (is_atom c) (On flags.Rest) Fail (λ p. Accept
 
 more_back : (c : ℕ) (t : List ℕ) → is_atom c ≡ true → Read flags.Rest t → Read flags.Rest (c ∷ t)
 more_back c t e r =
-    let a = atom_apart c e in
-    (r.0, at_false (c == 41) (End flags.Rest) (more_step c) (λ p. Accepts flags_advance p r.0 t) r.0 t a.0
-    (at_false (c == 32) (On flags.Next) (atom_step c) (λ p. Accepts flags_advance p r.0 t) r.0 t a.1
-    (at_true (is_atom c) (On flags.Rest) Fail (λ p. Accepts flags_advance p r.0 t) r.0 t e r.1)))
+    let a = atom_apart c e in (
+      r.0,
+      at_false (c == 41) (End flags.Rest) (more_step c) (λ p. Accepts flags_advance p r.0 t) r.0 t a.0
+          (at_false (c == 32) (On flags.Next) (atom_step c) (λ p. Accepts flags_advance p r.0 t) r.0 t a.1
+          (at_true (is_atom c) (On flags.Rest) Fail (λ p. Accepts flags_advance p r.0 t) r.0 t e r.1)),
+    )
 
 next_back : (c : ℕ) (t : List ℕ) → is_atom c ≡ true → Read flags.Rest t → Read flags.Next (c ∷ t)
 next_back c t e r =
-    let a = atom_apart c e in
-    (r.0, at_false (c == 92) (On flags.Atom) (atom_step c) (λ p. Accepts flags_advance p r.0 t) r.0 t a.2
-    (at_true (is_atom c) (On flags.Rest) Fail (λ p. Accepts flags_advance p r.0 t) r.0 t e r.1))
+    let a = atom_apart c e in (
+      r.0,
+      at_false (c == 92) (On flags.Atom) (atom_step c) (λ p. Accepts flags_advance p r.0 t) r.0 t a.2
+          (at_true (is_atom c) (On flags.Rest) Fail (λ p. Accepts flags_advance p r.0 t) r.0 t e r.1),
+    )
 
 first_back : (c : ℕ) (t : List ℕ) → (c == 41) ≡ false → Read flags.Next (c ∷ t) → Read flags.First (c ∷ t)
 first_back c t e r = (r.0, at_false (c == 41) (End flags.First) (next_step c) (λ p. Accepts flags_advance p r.0 t) r.0 t e r.1)
@@ -211,7 +215,7 @@ kept_of : (v : Flags) (t rest : List ℕ) (h : Accepts flags_advance flags.First
 kept_of v t rest h =
     let r = flags_forth t flags.First v h in
     let e : plain_octets t ++ rest ≡ joined r.0 ++ 41 ∷ rest =
-      ap (λ (u : List ℕ). u ++ rest) (plain_small t (accepted_octets flags_advance flags_plain flags.First v t h) ∙ r.2) ∙ append_assoc (joined r.0) (41 ∷ []) rest in
+    ap (λ (u : List ℕ). u ++ rest) (plain_small t (accepted_octets flags_advance flags_plain flags.First v t h) ∙ r.2) ∙ append_assoc (joined r.0) (41 ∷ []) rest in
     ap (λ (q : List (List ℕ) × List ℕ). q.0) (flags_read r.0 rest (plain_octets t ++ rest) r.1 e)
 
 -- flags are read as they are kept
@@ -223,8 +227,10 @@ flags_reader = same_reader NeedMore (Viewed (λ a b. (flags_in b).0) (Accepts fl
   where
     whole_of : (v : Flags) (t : List ℕ) (h : Accepts flags_advance flags.First v t) → (flags_in (plain_octets t)).0 ≡ kept (flags_forth t flags.First v h).0
     whole_of v t h = ap (λ (u : List ℕ). (flags_in u).0) (sym (append-nil (plain_octets t))) ∙ kept_of v t [] h
+
     forth : (fs : List (List ℕ)) (t : List ℕ) → Viewed (λ a b. (flags_in b).0) (Accepts flags_advance flags.First) fs t → FlagsText fs t
     forth fs t h = let r = flags_forth t flags.First h.0 h.1 in (r.0, r.1, r.2, h.2 ∙ whole_of h.0 t h.1)
+
     back : (fs : List (List ℕ)) (t : List ℕ) → FlagsText fs t → Viewed (λ a b. (flags_in b).0) (Accepts flags_advance flags.First) fs t
     back fs t h =
         let r = subst (Read flags.First) (sym h.2) (flags_back h.0 h.1) in

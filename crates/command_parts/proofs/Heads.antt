@@ -1,9 +1,8 @@
 -- Where an LF stands in texts: at the end of a literal's head, and nowhere else.
-use Rattle.std.proofs.Common.{◌≡◌, ℕ, suc, ◌+◌, ◌/◌, ◌%◌, ◌<◌, ◌≤◌, Bool, true, false, not, ◌&&◌, ◌||◌, List, [], ◌∷◌, ◌++◌, length, map, cond, refl, sym, ap, subst, ◌∙◌, append_assoc, arith, inl, inr}
-use Rattle.std.specs.Prelude.{◌⊎◌, ◌==◌, nat_lt, codes, ℤ}
+use Rattle.std.proofs.Common.{◌≡◌, ℕ, ◌+◌, ◌%◌, ◌<◌, ◌≤◌, Bool, true, false, not, ◌&&◌, ◌||◌, List, [], ◌∷◌, ◌++◌, map, cond, refl, sym, ap, subst, ◌∙◌, append_assoc, arith, inl, inr}
+use Rattle.std.specs.Prelude.{◌==◌, nat_lt, codes, ℤ}
 use Rattle.std.specs.List.{list_all}
 use Rattle.std.specs.Fmt.{decimal}
-use Rattle.std.proofs.lemmas.Bool.{cond-true, cond-false}
 use Rattle.std.proofs.lemmas.Fmt.{decimal_by_steps}
 use Rattle.std.proofs.lemmas.Nat.{mod_below}
 use Rattle.std.proofs.lemmas.List.{append-nil}
@@ -11,7 +10,7 @@ use Rattle.imap_syntax.proofs.EachLemmas.{each_to, each_append, each_parts, each
 use Rattle.imap_syntax.specs.Octets.{is_digit, is_alnum, is_text, is_atom, is_inside, lower}
 use Rattle.imap_syntax.specs.Texts.{Each, Then, IsWord, crlf}
 use Rattle.imap_syntax.specs.Lines.{spaced, joined}
-use Rattle.imap_syntax.specs.Strings.{IsAtom, IsQuoted, IsCounted, escaped, quoted}
+use Rattle.imap_syntax.specs.Strings.{IsCounted, escaped, quoted}
 use Rattle.imap_syntax.specs.Items.{IsName, AllNames}
 use Rattle.imap_syntax.specs.Dates.{month_name}
 use Rattle.imap_syntax.specs.DateTimes.{IsMonth, IsDateTime}
@@ -110,10 +109,13 @@ digits_are n lt = decimal_by_steps (λ n ds. Each is_digit ds) one more n lt
   where
     digit : (n : ℕ) → n < 10 → is_digit (48 + n) ≡ true
     digit n lt = grind arith
+
     below : (n : ℕ) → n % 10 < 10
     below n = mod_below n 10 (omega arith)
+
     one : (n : ℕ) → n < 10 → Each is_digit ((48 + n) ∷ [])
     one n lt = (digit n lt, tt)
+
     more : (n : ℕ) (ds : List ℕ) → 10 ≤ n → Each is_digit ds → Each is_digit (ds ++ (48 + n % 10) ∷ [])
     more n ds ten h = each_append is_digit ds ((48 + n % 10) ∷ []) h (digit (n % 10) (below n), tt)
 
@@ -144,10 +146,13 @@ literal_headed digits octets h k t more e line = elim (seam t more head (10 ∷ 
   where
     head : List ℕ
     head = 123 ∷ digits ++ 125 ∷ 13 ∷ []
+
     regroup : 123 ∷ digits ++ 125 ∷ 13 ∷ 10 ∷ octets ≡ head ++ 10 ∷ octets
     regroup = ap (λ (u : List ℕ). 123 ∷ u) (sym (append_assoc digits (125 ∷ 13 ∷ []) (10 ∷ octets)))
+
     others : Each is_other head
     others = (refl, each_append is_other digits (125 ∷ 13 ∷ []) (each_to is_digit is_other digits digit_other h) (refl, (refl, tt)))
+
     behind : (z : List ℕ) → t ≡ head ++ z → 10 ∷ octets ≡ z ++ more → EndsWithHead t
     behind [] f g = no_end t (subst (Each is_other) (sym (f ∙ append-nil head)) others) line
     behind (c ∷ []) f g =
@@ -216,9 +221,65 @@ date_others s t h =
     let c = each_to is_digit is_other (o.s1 ∷ o.s2 ∷ []) digit_other o.second_digits in
     let z = each_to is_digit is_other (o.z1 ∷ o.z2 ∷ []) digit_other o.zone_digits in
     let w = each_to is_digit is_other (o.z3 ∷ o.z4 ∷ []) digit_other o.zone_more in
-    subst (Each is_other) (sym o.whole)
-      (refl, (start_other o.d1 o.starts, (digit_other o.d2 o.digit, (refl,
-        each_append is_other o.name (45 ∷ o.y1 ∷ o.y2 ∷ o.y3 ∷ o.y4 ∷ 32 ∷ o.h1 ∷ o.h2 ∷ 58 ∷ o.m1 ∷ o.m2 ∷ 58 ∷ o.s1 ∷ o.s2 ∷ 32 ∷ o.sign ∷ o.z1 ∷ o.z2 ∷ o.z3 ∷ o.z4 ∷ 34 ∷ [])
-          (month_others o.month o.name o.month_is)
-          (refl, (y.0, (y.1.0, (y.1.1.0, (y.1.1.1.0, (refl, (a.0, (a.1.0, (refl, (b.0, (b.1.0, (refl, (c.0, (c.1.0, (refl, (zone_other o.sign o.is_signed,
-            (z.0, (z.1.0, (w.0, (w.1.0, (refl, tt)))))))))))))))))))))))))
+    subst (Each is_other) (sym o.whole) (
+      refl,
+      (
+        start_other o.d1 o.starts,
+        (
+          digit_other o.d2 o.digit,
+          (
+            refl,
+            each_append is_other o.name (45 ∷ o.y1 ∷ o.y2 ∷ o.y3 ∷ o.y4 ∷ 32 ∷ o.h1 ∷ o.h2 ∷ 58 ∷ o.m1 ∷ o.m2 ∷ 58 ∷ o.s1 ∷ o.s2 ∷ 32 ∷ o.sign ∷ o.z1 ∷ o.z2 ∷ o.z3 ∷ o.z4 ∷ 34 ∷ [])
+                (month_others o.month o.name o.month_is) (
+                  refl,
+                  (
+                    y.0,
+                    (
+                      y.1.0,
+                      (
+                        y.1.1.0,
+                        (
+                          y.1.1.1.0,
+                          (
+                            refl,
+                            (
+                              a.0,
+                              (
+                                a.1.0,
+                                (
+                                  refl,
+                                  (
+                                    b.0,
+                                    (
+                                      b.1.0,
+                                      (
+                                        refl,
+                                        (
+                                          c.0,
+                                          (
+                                            c.1.0,
+                                            (
+                                              refl,
+                                              (
+                                                zone_other o.sign o.is_signed,
+                                                (z.0, (z.1.0, (w.0, (w.1.0, (refl, tt))))),
+                                              ),
+                                            ),
+                                          ),
+                                        ),
+                                      ),
+                                    ),
+                                  ),
+                                ),
+                              ),
+                            ),
+                          ),
+                        ),
+                      ),
+                    ),
+                  ),
+                ),
+          ),
+        ),
+      ),
+    )

@@ -1,8 +1,8 @@
 -- A lexeme that is read octet by octet reads the texts that its steps accept.
-use Rattle.std.proofs.Common.{◌≡◌, ℕ, suc, ◌+◌, ◌<◌, Bool, true, false, List, [], ◌∷◌, ◌++◌, length, cond, refl, sym, ap, subst, ◌∙◌}
+use Rattle.std.proofs.Common.{◌≡◌, ℕ, suc, ◌+◌, Bool, true, false, List, [], ◌∷◌, ◌++◌, length, cond, refl, sym, ap, subst, ◌∙◌}
 use Rattle.std.specs.Prelude.{◌==◌, Result, Ok, Err}
 use Rattle.imap_syntax.proofs.EachLemmas.{each_parts}
-use Rattle.imap_syntax.specs.Texts.{Each, plain_octets}
+use Rattle.imap_syntax.specs.Texts.{plain_octets}
 use Rattle.imap_values.proofs.Cuts.{plain_small}
 use Rattle.command_parts.specs.Fields.{fits_octet, AreOctets}
 use Rattle.command_parts.specs.declared.no_command.NoCommand.{NoCommand}
@@ -239,13 +239,13 @@ accepted_stopped f Inv plain alive s inv (c ∷ b) e h =
 pub lexeme_reader : {S : Type 0} (f : S → ℕ → LexemeStep S) (Inv : S → Type 0) → IsPlain f → IsAlive f Inv → (s : S) → Inv s → IsReader NeedMore (Accepts f s) (read_from f s)
 lexeme_reader f Inv plain alive s inv = record {
   whole = λ v t rest h.
-    ap (λ (u : List ℕ). read_from f s (u ++ rest)) (plain_small t (accepted_octets f plain s v t h)) ∙ accepted_whole f s v t rest h;
+      ap (λ (u : List ℕ). read_from f s (u ++ rest)) (plain_small t (accepted_octets f plain s v t h)) ∙ accepted_whole f s v t rest h;
   short = λ v t more h proper.
-    ap (read_from f s) (plain_small t (each_parts fits_octet t more (accepted_octets f plain s v (t ++ more) h)).0)
-    ∙ accepted_short f s v t more proper h ∙ ap (λ (e : NoCommand). Err e) (stop_open t (accepted_open f plain s v t more proper h));
+      ap (read_from f s) (plain_small t (each_parts fits_octet t more (accepted_octets f plain s v (t ++ more) h)).0)
+      ∙ accepted_short f s v t more proper h ∙ ap (λ (e : NoCommand). Err e) (stop_open t (accepted_open f plain s v t more proper h));
   found = λ b v rest are e.
-    let x = accepted_found f s v b rest e in
-    (x.0, x.1, x.2 ∙ ap (λ (u : List ℕ). u ++ rest) (sym (plain_small x.0 (accepted_octets f plain s v x.0 x.1))));
+      let x = accepted_found f s v b rest e in
+      (x.0, x.1, x.2 ∙ ap (λ (u : List ℕ). u ++ rest) (sym (plain_small x.0 (accepted_octets f plain s v x.0 x.1))));
   stopped = λ b e are h. accepted_stopped f Inv plain alive s inv b e h;
   some = alive.some s inv;
 }

@@ -1,13 +1,11 @@
 -- Literals are read as what they are, from behind their opening brace on.
 use Rattle.std.proofs.Common.{◌≡◌, ℕ, zero, suc, ◌+◌, ◌-◌, ◌*◌, ◌<◌, ◌≤◌, Bool, true, false, ◌&&◌, List, [], ◌∷◌, ◌++◌, length, cond, refl, sym, ap, subst, ◌∙◌, append_assoc, arith}
-use Rattle.std.specs.Prelude.{◌==◌, nat_lt, nat_le, Result, Ok, Err}
+use Rattle.std.specs.Prelude.{◌==◌, nat_lt, nat_le}
 use Rattle.std.proofs.lemmas.Bool.{and_parts, and_from, eqb-true, ltb-true, leb-true, lt-ltb, le-leb}
 use Rattle.imap_syntax.specs.Octets.{is_digit, is_inside}
-use Rattle.imap_syntax.specs.Texts.{Each, Then, plain_octets, literal_limit}
+use Rattle.imap_syntax.specs.Texts.{Each, plain_octets}
 use Rattle.imap_syntax.specs.Numbers.{value_from}
-use Rattle.imap_syntax.specs.Strings.{IsCounted}
 use Rattle.command_parts.specs.Fields.{fits_octet}
-use Rattle.command_parts.specs.declared.no_command.NoCommand.{NoCommand}
 use Rattle.command_parts.specs.declared.no_command.NoCommand.TheVariants.{NeedMore, WantsLiteral}
 use Rattle.command_parts.specs.declared.lexeme.LexemeStep.{LexemeStep}
 use Rattle.command_parts.specs.declared.lexeme.LexemeStep.TheVariants.{Fail, On, End}
@@ -15,13 +13,13 @@ use Rattle.command_parts.specs.declared.follow.Follow.{Follow}
 use Rattle.command_parts.specs.declared.literal.LiteralHead.{LiteralHead}
 use Rattle.command_parts.specs.declared.literal.LiteralHead.TheVariants as head
 use Rattle.command_parts.specs.reading.Steps.{read_from}
-use Rattle.command_parts.specs.reading.Lexemes.{may_follow, head_digits, head_advance, count_of}
+use Rattle.command_parts.specs.reading.Lexemes.{may_follow, head_advance, count_of}
 use Rattle.command_parts.specs.reading.Strings.{octets_at, literal_at}
 use Rattle.command_parts.proofs.Readers.{ends_with_line, stop_of, IsReader}
 use Rattle.command_parts.proofs.Chains.{Chain, chained, chain_reader, same_reader}
 use Rattle.command_parts.proofs.Lexing.{Accepts, AcceptsBy, IsPlain, IsAlive, is_fail, lexeme_reader, accepted_last}
 use Rattle.command_parts.proofs.Literals.{IsOctetsBefore, octets_reader}
-use Rattle.command_parts.proofs.Stepping.{from_if, at_true, at_false, on_if, end_if, go_if}
+use Rattle.command_parts.proofs.Stepping.{from_if, at_true, on_if, end_if, go_if}
 
 abbrev grown : ℕ → ℕ → ℕ
 grown value c = 10 * value + (c - 48)
@@ -88,19 +86,19 @@ head_step : (s v : LiteralHead) (c : ℕ) (t : List ℕ) → Fine s → ((p : Li
     → AcceptsBy (head_advance s c) (λ p. Accepts head_advance p v t) v t → HeadRest s (count_of v) (c ∷ t)
 head_step (head.Digits w n) v c t fine ih h = from_if (is_digit c) (digit_step w n c) (brace_step w n c) (λ p. Accepts head_advance p v t) v t
     (λ e k. from_if (may_grow w n c) (On (head.Digits (grown w c) (n + 1))) Fail (λ p. Accepts head_advance p v t) v t
-      (λ f g.
-        let m = and_parts (nat_lt n 8) (nat_le (grown w c) 50000000) f in
-        let few = ltb-true n 8 m.0 in
-        let le = leb-true (grown w c) 50000000 m.1 in
-        let r = ih (head.Digits (grown w c) (n + 1)) (omega (arith, few), le, λ z. absurd (omega (arith, z))) g in
-        (c ∷ r.0, (e, r.1), ap (λ (u : List ℕ). c ∷ u) r.2, omega arith, omega (arith, r.4), r.5, r.6)) (λ f g. absurd g) k)
+    (λ f g.
+    let m = and_parts (nat_lt n 8) (nat_le (grown w c) 50000000) f in
+    let few = ltb-true n 8 m.0 in
+    let le = leb-true (grown w c) 50000000 m.1 in
+    let r = ih (head.Digits (grown w c) (n + 1)) (omega (arith, few), le, λ z. absurd (omega (arith, z))) g in
+    (c ∷ r.0, (e, r.1), ap (λ (u : List ℕ). c ∷ u) r.2, omega arith, omega (arith, r.4), r.5, r.6)) (λ f g. absurd g) k)
     (λ e k. from_if (c == 125 && nat_lt 0 n) (On (head.Closed w)) Fail (λ p. Accepts head_advance p v t) v t
-      (λ f g.
-        let m = and_parts (c == 125) (nat_lt 0 n) f in
-        let some = ltb-true 0 n m.1 in
-        let r = ih (head.Closed w) fine.1 g in
-        ([], tt, ap (λ (d : ℕ). d ∷ t) (eqb-true c 125 m.0) ∙ ap (λ (u : List ℕ). 125 ∷ u) r.0, omega (arith, some), omega (arith, fine.0), r.1, omega (arith, r.1, fine.1)))
-      (λ f g. absurd g) k) h
+    (λ f g.
+    let m = and_parts (c == 125) (nat_lt 0 n) f in
+    let some = ltb-true 0 n m.1 in
+    let r = ih (head.Closed w) fine.1 g in
+    ([], tt, ap (λ (d : ℕ). d ∷ t) (eqb-true c 125 m.0) ∙ ap (λ (u : List ℕ). 125 ∷ u) r.0, omega (arith, some), omega (arith, fine.0), r.1, omega (arith, r.1, fine.1)))
+    (λ f g. absurd g) k) h
 head_step (head.Closed w) v c t fine ih h = from_if (c == 13) (On (head.Line w)) Fail (λ p. Accepts head_advance p v t) v t
     (λ e k. let r = ih (head.Line w) fine k in (ap (λ (d : ℕ). d ∷ t) (eqb-true c 13 e) ∙ ap (λ (u : List ℕ). 13 ∷ u) r.0, r.1)) (λ e k. absurd k) h
 head_step (head.Line w) v c t fine ih h = from_if (c == 10) (End (head.Line w)) Fail (λ p. Accepts head_advance p v t) v t
@@ -136,12 +134,12 @@ head_back (c ∷ ds) v count each some few le =
 head_keeps : (s p : LiteralHead) (c : ℕ) → Fine s → head_advance s c ≡ On p → Fine p
 head_keeps (head.Digits v n) p c fine h = on_if (is_digit c) (digit_step v n c) (brace_step v n c) p
     (λ e k. on_if (may_grow v n c) (On (head.Digits (grown v c) (n + 1))) Fail p
-      (λ f g.
-        let m = and_parts (nat_lt n 8) (nat_le (grown v c) 50000000) f in
-        let few = ltb-true n 8 m.0 in
-        let le = leb-true (grown v c) 50000000 m.1 in
-        let same : head.Digits (grown v c) (n + 1) ≡ p = cc in
-        subst Fine same (omega (arith, few), le, λ z. absurd (omega (arith, z)))) (λ f g. absurd cc) k)
+    (λ f g.
+    let m = and_parts (nat_lt n 8) (nat_le (grown v c) 50000000) f in
+    let few = ltb-true n 8 m.0 in
+    let le = leb-true (grown v c) 50000000 m.1 in
+    let same : head.Digits (grown v c) (n + 1) ≡ p = cc in
+    subst Fine same (omega (arith, few), le, λ z. absurd (omega (arith, z)))) (λ f g. absurd cc) k)
     (λ e k. on_if (c == 125 && nat_lt 0 n) (On (head.Closed v)) Fail p (λ f g. let same : head.Closed v ≡ p = cc in subst Fine same fine.1) (λ f g. absurd cc) k) h
 head_keeps (head.Closed v) p c fine h = on_if (c == 13) (On (head.Line v)) Fail p (λ e k. let same : head.Line v ≡ p = cc in subst Fine same fine) (λ e k. absurd cc) h
 head_keeps (head.Line v) p c fine h = on_if (c == 10) (End (head.Line v)) Fail p (λ e k. absurd cc) (λ e k. absurd cc) h
@@ -206,21 +204,24 @@ literal_forth f s t h =
     }
 
 literal_back : (f : Follow) (s t : List ℕ) → LiteralText f s t → Chain Heads (Octets f) s t
-literal_back f s t h = (head.Line (value_from 0 h.digits), record {
-  front = h.digits ++ 125 ∷ 13 ∷ 10 ∷ [];
-  back = h.octets ++ h.stop ∷ [];
-  whole = h.whole ∙ sym (append_assoc h.digits (125 ∷ 13 ∷ 10 ∷ []) (h.octets ++ h.stop ∷ []));
-  first = head_back h.digits 0 0 h.are_digits (omega (arith, h.some)) (omega (arith, h.few)) (omega (arith, h.counted, h.most));
-  second = record {
-    octets = h.octets;
-    stop = h.stop;
-    whole = refl;
-    inside = h.inside;
-    counted = h.counted;
-    value = h.string;
-    may = h.may;
-  };
-})
+literal_back f s t h = (
+  head.Line (value_from 0 h.digits),
+  record {
+    front = h.digits ++ 125 ∷ 13 ∷ 10 ∷ [];
+    back = h.octets ++ h.stop ∷ [];
+    whole = h.whole ∙ sym (append_assoc h.digits (125 ∷ 13 ∷ 10 ∷ []) (h.octets ++ h.stop ∷ []));
+    first = head_back h.digits 0 0 h.are_digits (omega (arith, h.some)) (omega (arith, h.few)) (omega (arith, h.counted, h.most));
+    second = record {
+      octets = h.octets;
+      stop = h.stop;
+      whole = refl;
+      inside = h.inside;
+      counted = h.counted;
+      value = h.string;
+      may = h.may;
+    };
+  },
+)
 
 -- a literal is read with the octet that follows it
 pub literal_reader : (f : Follow) → IsReader NeedMore (LiteralText f) (literal_at f)

@@ -1,8 +1,8 @@
 -- The octets of a literal and the one that follows them are read as what they are.
 use Rattle.std.proofs.Common.{◌≡◌, ℕ, zero, suc, ◌+◌, ◌-◌, ◌<◌, ◌≤◌, Bool, true, false, List, [], ◌∷◌, ◌++◌, length, map, take, drop, get_or, cond, refl, sym, ap, subst, ◌∙◌, append_assoc, arith, inl, inr, replicate}
-use Rattle.std.specs.Prelude.{◌⊎◌, ◌==◌, nat_le, Result, Ok, Err}
-use Rattle.std.proofs.lemmas.Bool.{cond-true, cond-false, ne_eqb, le-leb, lt-leb, cases_lt, both_ways}
-use Rattle.std.proofs.lemmas.List.{length-append, length-map, length-drop, length-replicate, length-take-le, take-append-drop, take_at, drop_at, get_or_at, drop_more, append-nil}
+use Rattle.std.specs.Prelude.{◌==◌, nat_le, Result, Ok, Err}
+use Rattle.std.proofs.lemmas.Bool.{cond-true, cond-false, ne_eqb, le-leb, lt-leb, cases_lt}
+use Rattle.std.proofs.lemmas.List.{length-append, length-map, length-replicate, length-take-le, take-append-drop, take_at, drop_at, get_or_at, drop_more, append-nil}
 use Rattle.imap_syntax.proofs.EachLemmas.{each_parts}
 use Rattle.imap_syntax.specs.Octets.{is_inside}
 use Rattle.imap_syntax.specs.Texts.{Each, plain_of, plain_octets}
@@ -14,7 +14,7 @@ use Rattle.command_parts.specs.declared.follow.Follow.{Follow}
 use Rattle.command_parts.specs.declared.follow.Follow.TheVariants as follow
 use Rattle.command_parts.specs.reading.Lexemes.{may_follow}
 use Rattle.command_parts.specs.reading.Strings.{octets_at}
-use Rattle.command_parts.proofs.Readers.{ends_with_line, stop_of, IsOpen, IsWrong, Stopped, IsReader, some_cons, more_before, plain_cut, seam}
+use Rattle.command_parts.proofs.Readers.{ends_with_line, stop_of, IsOpen, Stopped, IsReader, some_cons, more_before, plain_cut, seam}
 
 -- ---- what follows
 
@@ -119,7 +119,7 @@ reads_octets count f x rest c same may =
     let b : List ℕ = x ++ c ∷ rest in
     let at : get_or b count 0 ≡ c = get_or_at x c rest 0 count same in
     let behind : drop (count + 1) b ≡ rest =
-      ap (drop (count + 1)) (sym (append_assoc x (c ∷ []) rest)) ∙ drop_at (x ++ c ∷ []) rest (count + 1) (length-append x (c ∷ []) ∙ omega (arith, same)) in
+    ap (drop (count + 1)) (sym (append_assoc x (c ∷ []) rest)) ∙ drop_at (x ++ c ∷ []) rest (count + 1) (length-append x (c ∷ []) ∙ omega (arith, same)) in
     at_more count f b (longer count x rest c same)
     ∙ cond-true (may_follow f (get_or b count 0)) (Ok (take count b, drop (count + 1) b)) (Err (Bad (length b - count))) (ap (may_follow f) at ∙ may)
     ∙ ap (λ (u : List ℕ). Ok (u, drop (count + 1) b)) (take_at x (c ∷ rest) count same) ∙ ap (λ (u : List ℕ). Ok (x, u)) behind
@@ -181,11 +181,13 @@ octets_found count f b v rest are e = elim (cases_lt count (length b)) [
     empty_stop : (b : List ℕ) → length b ≡ 0 → octets_at count f b ≡ Ok (v, rest) → ⊥
     empty_stop [] z g = cc
     empty_stop (c ∷ b) z g = cc
+
     without : length b ≤ count → ⊥
     without le = elim (cases_lt 0 (length b)) [
       | inl some ↦ let g = sym (at_few count f b some le) ∙ e in cc
       | inr none ↦ empty_stop b (omega (arith, none)) e
     ]
+
     within : count < length b → (may : Bool) → may_follow f (get_or b count 0) ≡ may → (t : List ℕ) × IsOctetsBefore count f v t × (b ≡ plain_octets t ++ rest)
     within lt true may =
         let c : ℕ = get_or b count 0 in
@@ -196,8 +198,8 @@ octets_found count f b v rest are e = elim (cases_lt count (length b)) [
         let g : ◌≡◌ {A = Result (List ℕ × List ℕ) NoCommand} (Ok (front, drop (count + 1) b)) (Ok (v, rest)) = sym (ap (octets_at count f) cut ∙ reads_octets count f front (drop (count + 1) b) c counted may) ∙ e in
         let p : ◌≡◌ {A = List ℕ × List ℕ} (front, drop (count + 1) b) (v, rest) = cc in
         let value : front ≡ v = ap (λ (q : List ℕ × List ℕ). q.0) p in
-        let left : drop (count + 1) b ≡ rest = ap (λ (q : List ℕ × List ℕ). q.1) p in
-        (marked front ++ c ∷ [],
+        let left : drop (count + 1) b ≡ rest = ap (λ (q : List ℕ × List ℕ). q.1) p in (
+          marked front ++ c ∷ [],
           record {
             octets = marked front;
             stop = c;
@@ -208,8 +210,9 @@ octets_found count f b v rest are e = elim (cases_lt count (length b)) [
             may = may;
           },
           cut ∙ ap (λ (u : List ℕ). front ++ c ∷ u) left
-          ∙ sym (plain_cut (marked front) (c ∷ []) rest ∙ ap (λ (u : List ℕ). u ++ (plain_octets (c ∷ []) ++ rest)) (plain_marked front)
-          ∙ ap (λ (u : List ℕ). front ++ (u ++ rest)) (octet_alone c (follow_small f c may))))
+              ∙ sym (plain_cut (marked front) (c ∷ []) rest ∙ ap (λ (u : List ℕ). u ++ (plain_octets (c ∷ []) ++ rest)) (plain_marked front)
+              ∙ ap (λ (u : List ℕ). front ++ (u ++ rest)) (octet_alone c (follow_small f c may))),
+        )
     within lt false may =
         let c : ℕ = get_or b count 0 in
         let front : List ℕ = take count b in
@@ -260,6 +263,7 @@ octets_stopped count f b e are h = elim (cases_lt count (length b)) [
         (ap (λ (l : Bool). cond l WantsLiteral NeedMore) (sym (inside_open (marked (c ∷ b)) (marked_inside (c ∷ b) are))))
     before (c ∷ b) are le WantsLiteral h = let g = sym (at_few count f (c ∷ b) (omega arith) le) ∙ h in absurd cc
     before (c ∷ b) are le (Bad left) h = let g = sym (at_few count f (c ∷ b) (omega arith) le) ∙ h in absurd cc
+
     no_other : count < length b → may_follow f (get_or b count 0) ≡ false → (e : NoCommand) → octets_at count f b ≡ Err e → ((left : ℕ) → Bad left ≡ e → ⊥) → ⊥
     no_other lt may e h k =
         let c : ℕ = get_or b count 0 in
@@ -269,6 +273,7 @@ octets_stopped count f b e are h = elim (cases_lt count (length b)) [
         let counted : length front ≡ count = length-take-le count b (omega (arith, lt)) in
         let g : ◌≡◌ {A = Result (List ℕ × List ℕ) NoCommand} (Err (Bad (suc (length rest)))) (Err e) = sym (ap (octets_at count f) cut ∙ wrong_octets count f front rest c counted may) ∙ h in
         k (suc (length rest)) cc
+
     within : count < length b → (may : Bool) → may_follow f (get_or b count 0) ≡ may → (e : NoCommand) → octets_at count f b ≡ Err e
         → Stopped (IsOctetsBefore count f) (octets_at count f) WantsLiteral b e
     within lt true may e h =
@@ -317,14 +322,17 @@ octets_reader count f = record {
   found = octets_found count f;
   stopped = octets_stopped count f;
   some =
-    let zeros : List ℕ = marked (replicate count 0) in
-    (plain_octets zeros, zeros ++ follow_octet f ∷ [], record {
-      octets = zeros;
-      stop = follow_octet f;
-      whole = refl;
-      inside = marked_inside (replicate count 0) (zeros_octets count);
-      counted = length-map (replicate count 0) (λ c. c + 256) ∙ length-replicate count 0;
-      value = refl;
-      may = follows f;
-    });
+      let zeros : List ℕ = marked (replicate count 0) in (
+        plain_octets zeros,
+        zeros ++ follow_octet f ∷ [],
+        record {
+          octets = zeros;
+          stop = follow_octet f;
+          whole = refl;
+          inside = marked_inside (replicate count 0) (zeros_octets count);
+          counted = length-map (replicate count 0) (λ c. c + 256) ∙ length-replicate count 0;
+          value = refl;
+          may = follows f;
+        },
+      );
 }

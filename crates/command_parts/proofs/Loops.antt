@@ -1,10 +1,9 @@
 -- What loops over octets keep.
-use Rattle.std.proofs.Common.{◌≡◌, ℕ, suc, ◌+◌, ◌-◌, ◌<◌, ◌≤◌, max, Bool, List, [], ◌∷◌, length, drop, get_or, cond, refl, sym, ap, ◌∙◌, arith, length-drop}
-use Rattle.std.specs.Prelude.{◌==◌, Result, Ok, Err}
+use Rattle.std.proofs.Common.{◌≡◌, ℕ, suc, ◌+◌, ◌-◌, ◌<◌, ◌≤◌, max, List, [], ◌∷◌, length, drop, get_or, cond, refl, sym, ap, ◌∙◌, arith, length-drop}
+use Rattle.std.specs.Prelude.{◌==◌, Ok, Err}
 use Rattle.std.proofs.lemmas.Bool.{cond-true, cond-false, eq-eqb, ne_eqb}
 use Rattle.std.proofs.lemmas.List.{drop_all, drop_more}
 use Rattle.imap_keywords.proofs.Texts.{drop_at}
-use Rattle.command_parts.specs.declared.no_command.NoCommand.{NoCommand}
 use Rattle.command_parts.specs.declared.no_command.NoCommand.TheVariants.{NeedMore, Bad}
 use Rattle.command_parts.specs.declared.lexeme.LexemeStep.{LexemeStep}
 use Rattle.command_parts.specs.declared.lexeme.LexemeStep.TheVariants as step
@@ -97,7 +96,7 @@ choose_found far count ks b i lt agree all =
     let n = agreeing (fixed_text k) b in
     choose_at far ks b i lt
     ∙ cond-true (n == length (fixed_text k)) (Ok (k, drop n b)) (cond (n == length b) (Err NeedMore) (choose (max far n) (drop (i + 1) ks) b))
-      (eq-eqb n (length (fixed_text k)) (sym agree ∙ all))
+    (eq-eqb n (length (fixed_text k)) (sym agree ∙ all))
     ∙ ap (λ (m : ℕ). Ok (k, drop m b)) (sym agree)
 
 -- the octets end before a text does
@@ -109,7 +108,7 @@ choose_short far count ks b i lt agree part all =
     let n = agreeing (fixed_text k) b in
     choose_at far ks b i lt
     ∙ cond-false (n == length (fixed_text k)) (Ok (k, drop n b)) (cond (n == length b) (Err NeedMore) (choose (max far n) (drop (i + 1) ks) b))
-      (ne_eqb n (length (fixed_text k)) (λ e. part (agree ∙ e)))
+    (ne_eqb n (length (fixed_text k)) (λ e. part (agree ∙ e)))
     ∙ cond-true (n == length b) (Err NeedMore) (choose (max far n) (drop (i + 1) ks) b) (eq-eqb n (length b) (sym agree ∙ all))
 
 -- they differ within the text
@@ -121,7 +120,7 @@ choose_on far count ks b i lt agree part some =
     let n = agreeing (fixed_text k) b in
     choose_at far ks b i lt
     ∙ cond-false (n == length (fixed_text k)) (Ok (k, drop n b)) (cond (n == length b) (Err NeedMore) (choose (max far n) (drop (i + 1) ks) b))
-      (ne_eqb n (length (fixed_text k)) (λ e. part (agree ∙ e)))
+    (ne_eqb n (length (fixed_text k)) (λ e. part (agree ∙ e)))
     ∙ cond-false (n == length b) (Err NeedMore) (choose (max far n) (drop (i + 1) ks) b) (ne_eqb n (length b) (λ e. some (agree ∙ e)))
     ∙ ap (λ (m : ℕ). choose (max far m) (drop (i + 1) ks) b) (sym agree)
 

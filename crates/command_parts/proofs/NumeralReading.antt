@@ -1,16 +1,14 @@
 -- Numbers are read as what they are.
-use Rattle.std.proofs.Common.{◌≡◌, ℕ, zero, suc, ◌+◌, ◌-◌, ◌*◌, ◌/◌, ◌%◌, ◌<◌, ◌≤◌, min, Bool, true, false, ◌&&◌, List, [], ◌∷◌, ◌++◌, length, cond, Option, Some, None, refl, sym, ap, subst, ◌∙◌, append_assoc, arith}
-use Rattle.std.specs.Prelude.{◌==◌, nat_le, Result, Ok, Err}
+use Rattle.std.proofs.Common.{◌≡◌, ℕ, ◌+◌, ◌-◌, ◌*◌, ◌/◌, ◌%◌, ◌<◌, ◌≤◌, min, Bool, true, false, ◌&&◌, List, [], ◌∷◌, ◌++◌, cond, Option, Some, None, refl, sym, ap, subst, ◌∙◌, append_assoc, arith}
+use Rattle.std.specs.Prelude.{◌==◌, nat_le}
 use Rattle.std.specs.Fmt.{decimal}
 use Rattle.std.proofs.lemmas.Bool.{leb-true, le-leb, eqb-false, ne_eqb}
 use Rattle.std.proofs.lemmas.List.{append-nil}
 use Rattle.std.proofs.lemmas.Nat.{div-mul-add, mod-mul-add, div-add-mod', mod_below}
 use Rattle.std.proofs.lemmas.Fmt.{decimal_digit, decimal_step, decimal_by_steps}
 use Rattle.imap_syntax.specs.Octets.{is_digit}
-use Rattle.imap_syntax.specs.Texts.{plain_octets}
 use Rattle.command_parts.specs.Fields.{fits_octet}
 use Rattle.command_parts.specs.declared.no_command.NoCommand.TheVariants.{NeedMore}
-use Rattle.command_parts.specs.declared.lexeme.LexemeStep.{LexemeStep}
 use Rattle.command_parts.specs.declared.lexeme.LexemeStep.TheVariants.{Fail, On, End}
 use Rattle.command_parts.specs.declared.follow.Follow.{Follow}
 use Rattle.command_parts.specs.declared.follow.Follow.TheVariants as follow
@@ -20,7 +18,7 @@ use Rattle.command_parts.specs.reading.Lexemes.{may_follow, within, with_digit, 
 use Rattle.command_parts.proofs.Readers.{IsReader}
 use Rattle.command_parts.proofs.Chains.{Viewed, viewed, view_reader, same_reader}
 use Rattle.command_parts.proofs.Lexing.{Accepts, AcceptsBy, IsPlain, IsAlive, is_fail, lexeme_reader}
-use Rattle.command_parts.proofs.Literals.{follow_octet, follows, follow_small, follow_no_line}
+use Rattle.command_parts.proofs.Literals.{follow_octet, follows, follow_small}
 use Rattle.command_parts.proofs.Stepping.{from_if, at_true, at_false, on_if, go_if}
 
 abbrev num : ℕ → Follow → Option ℕ → ℕ → Numeral
@@ -96,7 +94,7 @@ numeral_plain : IsPlain numeral_advance
 numeral_plain = record {
   small = λ n c h. go_if (is_digit c) (numeral_on n (with_digit n.value (c - 48) n.most)) (numeral_ended n c) (λ e k. digit_fits c e) (λ e k. ended_go n c k) h;
   on_line = λ n p c h. on_if (is_digit c) (numeral_on n (with_digit n.value (c - 48) n.most)) (numeral_ended n c) p (λ e k. digit_no_line c e)
-    (λ e k. on_if (is_begun n.value && may_follow n.follow c) (End (record n { end = c })) Fail p (λ f g. absurd cc) (λ f g. absurd cc) k) h;
+      (λ e k. on_if (is_begun n.value && may_follow n.follow c) (End (record n { end = c })) Fail p (λ f g. absurd cc) (λ f g. absurd cc) k) h;
 }
 
 -- ---- how a number ends
@@ -114,12 +112,21 @@ numeral_some n = by n.value refl
   where
     c : ℕ
     c = follow_octet n.follow
+
     by : (o : Option ℕ) → n.value ≡ o → (v : Numeral) × (t : List ℕ) × Accepts numeral_advance n v t
-    by (Some k) e = (num n.most n.follow (Some k) c, c ∷ [], subst (λ (o : Option ℕ). Accepts numeral_advance (num n.most n.follow o n.end) (num n.most n.follow (Some k) c) (c ∷ [])) (sym e)
-        (ends_number n.most n.follow k n.end c (follows n.follow)))
-    by None e = (num n.most n.follow (Some 0) c, 48 ∷ c ∷ [], subst (λ (o : Option ℕ). Accepts numeral_advance (num n.most n.follow o n.end) (num n.most n.follow (Some 0) c) (48 ∷ c ∷ [])) (sym e)
-        (subst (λ (o : Option ℕ). AcceptsBy (numeral_on (num n.most n.follow None n.end) o) (λ p. Accepts numeral_advance p (num n.most n.follow (Some 0) c) (c ∷ [])) (num n.most n.follow (Some 0) c) (c ∷ []))
-        (sym (zero_fits n.most)) (ends_number n.most n.follow 0 n.end c (follows n.follow))))
+    by (Some k) e = (
+      num n.most n.follow (Some k) c,
+      c ∷ [],
+      subst (λ (o : Option ℕ). Accepts numeral_advance (num n.most n.follow o n.end) (num n.most n.follow (Some k) c) (c ∷ [])) (sym e)
+          (ends_number n.most n.follow k n.end c (follows n.follow)),
+    )
+    by None e = (
+      num n.most n.follow (Some 0) c,
+      48 ∷ c ∷ [],
+      subst (λ (o : Option ℕ). Accepts numeral_advance (num n.most n.follow o n.end) (num n.most n.follow (Some 0) c) (48 ∷ c ∷ [])) (sym e)
+          (subst (λ (o : Option ℕ). AcceptsBy (numeral_on (num n.most n.follow None n.end) o) (λ p. Accepts numeral_advance p (num n.most n.follow (Some 0) c) (c ∷ [])) (num n.most n.follow (Some 0) c) (c ∷ []))
+          (sym (zero_fits n.most)) (ends_number n.most n.follow 0 n.end c (follows n.follow))),
+    )
 
 numeral_alive : IsAlive numeral_advance (λ s. Unit {0})
 numeral_alive = record { keeps = λ s p c inv e. tt; some = λ s inv. numeral_some s }
@@ -155,7 +162,7 @@ digit_rest most f k c w v t small digit e r =
     let m = more_some k (c - 48) most w e in
     let d = digit_value c digit in
     let grown : decimal w ≡ decimal k ++ c ∷ [] =
-      ap decimal m.1 ∙ grow_one k (c - 48) m.0 d.0 (omega (arith, m.1, m.2, small)) ∙ ap (λ (i : ℕ). decimal k ++ i ∷ []) d.1 in
+    ap decimal m.1 ∙ grow_one k (c - 48) m.0 d.0 (omega (arith, m.1, m.2, small)) ∙ ap (λ (i : ℕ). decimal k ++ i ∷ []) d.1 in
     record {
       front = c ∷ r.front;
       number = r.number;
@@ -217,6 +224,7 @@ decimal_leads most f n small = decimal_by_steps (λ n ds. n ≤ most → Leads (
   where
     one : (n : ℕ) → n < 10 → n ≤ most → Leads (num most f None 0) ((48 + n) ∷ []) (num most f (Some n) 0)
     one n lt le = leads_digit most f None n n lt (within_is n most le)
+
     more : (n : ℕ) (ds : List ℕ) → 10 ≤ n → (n / 10 ≤ most → Leads (num most f None 0) ds (num most f (Some (n / 10)) 0)) → n ≤ most
         → Leads (num most f None 0) (ds ++ (48 + n % 10) ∷ []) (num most f (Some n) 0)
     more n ds ten ih le v t h =
@@ -224,7 +232,7 @@ decimal_leads most f n small = decimal_by_steps (λ n ds. n ≤ most → Leads (
         let digit : n % 10 < 10 = mod_below n 10 (omega arith) in
         let value : 10 * (n / 10) + n % 10 ≡ n = omega (arith, whole) in
         let next : with_digit (Some (n / 10)) (n % 10) most ≡ Some n =
-          more_is (n / 10) (n % 10) most (omega (arith, whole, digit, ten)) (omega (arith, value, le)) ∙ ap (λ (i : ℕ). Some i) value in
+        more_is (n / 10) (n % 10) most (omega (arith, whole, digit, ten)) (omega (arith, value, le)) ∙ ap (λ (i : ℕ). Some i) value in
         subst (Accepts numeral_advance (num most f None 0) v) (sym (append_assoc ds ((48 + n % 10) ∷ []) t))
         (ih (omega (arith, whole, le)) v ((48 + n % 10) ∷ t) (leads_digit most f (Some (n / 10)) (n % 10) n digit next v t h))
 
@@ -247,6 +255,7 @@ numeral_reader most f small = same_reader NeedMore (Viewed told (Accepts numeral
   where
     forth : (v : ℕ × ℕ) (t : List ℕ) → Viewed told (Accepts numeral_advance (num most f None 0)) v t → NumeralText most f v t
     forth v t h = subst (λ (w : ℕ × ℕ). NumeralText most f w t) (sym h.2) (number_forth t most f h.0 small h.1)
+
     back : (v : ℕ × ℕ) (t : List ℕ) → NumeralText most f v t → Viewed told (Accepts numeral_advance (num most f None 0)) v t
     back v t h = (num most f (Some v.0) v.1, subst (Accepts numeral_advance (num most f None 0) (num most f (Some v.0) v.1)) (sym h.0) (number_back most f v.0 v.1 small h.1 h.2), refl)
 
@@ -261,7 +270,9 @@ number_reader f = same_reader NeedMore (Viewed at_most (NumeralText 4294967295 f
   where
     least : (n : ℕ) → n ≤ 4294967295 → min n 4294967295 ≡ n
     least n le = omega (arith, le)
+
     forth : (v : ℕ × ℕ) (t : List ℕ) → Viewed at_most (NumeralText 4294967295 f) v t → NumeralText 4294967295 f v t
     forth v t h = subst (λ (w : ℕ × ℕ). NumeralText 4294967295 f w t) (sym (h.2 ∙ ap (λ (n : ℕ). (n, h.0.1)) (least h.0.0 h.1.1))) h.1
+
     back : (v : ℕ × ℕ) (t : List ℕ) → NumeralText 4294967295 f v t → Viewed at_most (NumeralText 4294967295 f) v t
     back v t h = (v, h, ap (λ (n : ℕ). (n, v.1)) (sym (least v.0 h.1)))

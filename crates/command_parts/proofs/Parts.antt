@@ -1,24 +1,23 @@
 -- Parts of commands that several commands have.
-use Rattle.std.proofs.Common.{◌≡◌, ℕ, suc, ◌+◌, ◌-◌, ◌<◌, ◌≤◌, Bool, true, false, List, [], ◌∷◌, ◌++◌, length, map, cond, refl, sym, ap, subst, ◌∙◌, append_assoc, arith, inl, inr}
-use Rattle.std.specs.Prelude.{◌⊎◌, ◌==◌, Result, Ok, Err}
+use Rattle.std.proofs.Common.{◌≡◌, ℕ, ◌+◌, Bool, true, false, List, [], ◌∷◌, ◌++◌, map, cond, refl, sym, ap, subst, ◌∙◌, append_assoc, arith, inl, inr}
+use Rattle.std.specs.Prelude.{◌==◌}
 use Rattle.imap_syntax.specs.Octets.{is_atom, lower}
-use Rattle.imap_syntax.specs.Texts.{Each, Then, IsWord, crlf, plain_of, plain_octets}
-use Rattle.imap_syntax.specs.Strings.{IsAtom, IsQuoted, IsCounted, escaped}
+use Rattle.imap_syntax.specs.Texts.{IsWord, crlf, plain_of}
+use Rattle.imap_syntax.specs.Strings.{escaped}
 use Rattle.command_parts.specs.Fields.{IsFolderName, IsCredential}
-use Rattle.command_parts.specs.declared.no_command.NoCommand.{NoCommand}
 use Rattle.command_parts.specs.declared.no_command.NoCommand.TheVariants.{NeedMore, WantsLiteral}
 use Rattle.command_parts.specs.declared.follow.Follow.{Follow}
 use Rattle.command_parts.specs.declared.follow.Follow.TheVariants as follow
 use Rattle.command_parts.specs.declared.fixed_text.FixedText.{FixedText}
 use Rattle.command_parts.specs.declared.fixed_text.FixedText.TheVariants as word
 use Rattle.command_parts.specs.reading.Lexemes.{may_follow}
-use Rattle.command_parts.specs.reading.FixedTexts.{fixed_text, choose, fixed_at}
+use Rattle.command_parts.specs.reading.FixedTexts.{fixed_text, fixed_at}
 use Rattle.command_parts.specs.reading.Strings.{name_at, last_name_at, literal_at, credential_at, credential_text_at, credential_literal_at}
 use Rattle.command_parts.proofs.Readers.{ends_with_line, stop_of, IsReader, ends_append}
 use Rattle.command_parts.proofs.Chains.{Chain, chained, chain_reader, Viewed, viewed, view_reader, same_reader}
 use Rattle.command_parts.proofs.Branches.{Either, either, BeginsBy, either_reader}
-use Rattle.command_parts.proofs.Choosing.{OneOf, Choices, is_table, choose_reader}
-use Rattle.command_parts.proofs.Literals.{follow_no_line, follow_small}
+use Rattle.command_parts.proofs.Choosing.{Choices, is_table, choose_reader}
+use Rattle.command_parts.proofs.Literals.{follow_no_line}
 use Rattle.std.specs.Fmt.{decimal}
 use Rattle.imap_syntax.specs.Lines.{joined}
 use Rattle.command_parts.proofs.NumeralReading.{NumeralText}
@@ -180,26 +179,29 @@ credential_back f s t h = by h.is
   where
     by : IsCredential s h.string → Either (Braced f) (Bare f) s t
     by (inl name) = inr ((s, h.stop), (h.string, h.whole, name, h.may), refl)
-    by (inr l) = inl (word.Brace, record {
-      front = 123 ∷ [];
-      back = l.digits ++ 125 ∷ 13 ∷ 10 ∷ (l.octets ++ h.stop ∷ []);
-      whole = h.whole ∙ ap (λ (u : List ℕ). u ++ h.stop ∷ []) l.whole ∙ ap (λ (u : List ℕ). 123 ∷ u) (append_assoc l.digits (125 ∷ 13 ∷ 10 ∷ l.octets) (h.stop ∷ []));
-      first = (inl refl, refl);
-      second = record {
-        digits = l.digits;
-        octets = l.octets;
-        stop = h.stop;
-        whole = refl;
-        are_digits = l.are_digits;
-        some = l.some;
-        few = l.few;
-        counted = l.counted;
-        most = l.most;
-        inside = l.inside;
-        string = l.string;
-        may = h.may;
-      };
-    })
+    by (inr l) = inl (
+      word.Brace,
+      record {
+        front = 123 ∷ [];
+        back = l.digits ++ 125 ∷ 13 ∷ 10 ∷ (l.octets ++ h.stop ∷ []);
+        whole = h.whole ∙ ap (λ (u : List ℕ). u ++ h.stop ∷ []) l.whole ∙ ap (λ (u : List ℕ). 123 ∷ u) (append_assoc l.digits (125 ∷ 13 ∷ 10 ∷ l.octets) (h.stop ∷ []));
+        first = (inl refl, refl);
+        second = record {
+          digits = l.digits;
+          octets = l.octets;
+          stop = h.stop;
+          whole = refl;
+          are_digits = l.are_digits;
+          some = l.some;
+          few = l.few;
+          counted = l.counted;
+          most = l.most;
+          inside = l.inside;
+          string = l.string;
+          may = h.may;
+        };
+      },
+    )
 
 -- a user or a password is read with the octet that follows it
 pub credential_reader : (f : Follow) → IsOutside f → IsReader NeedMore (CredentialText f) (credential_at f)
@@ -237,19 +239,23 @@ last_forth s t h =
     let th = h.1 in
     let n = th.first in
     let feed = line_feed th.back (fixed_word word.LineFeed th.second.0 th.back th.second.1) in
-    let cr : h.0.1 ≡ 13 = carriage h.0.1 n.3 in
-    (n.0,
+    let cr : h.0.1 ≡ 13 = carriage h.0.1 n.3 in (
+      n.0,
       th.whole ∙ ap (λ (u : List ℕ). u ++ th.back) (n.1 ∙ ap (λ (c : ℕ). n.0 ++ c ∷ []) cr) ∙ ap (λ (u : List ℕ). (n.0 ++ 13 ∷ []) ++ u) feed ∙ append_assoc n.0 (13 ∷ []) (10 ∷ []),
-      subst (λ (u : List ℕ). IsFolderName u n.0) (sym th.second.2) n.2)
+      subst (λ (u : List ℕ). IsFolderName u n.0) (sym th.second.2) n.2,
+    )
 
 last_back : (s t : List ℕ) → LastName s t → NameLine s t
-last_back s t h = ((s, 13), record {
-  front = h.0 ++ 13 ∷ [];
-  back = 10 ∷ [];
-  whole = h.1 ∙ sym (append_assoc h.0 (13 ∷ []) (10 ∷ []));
-  first = (h.0, refl, h.2, refl);
-  second = (word.LineFeed, (inl refl, refl), refl);
-})
+last_back s t h = (
+  (s, 13),
+  record {
+    front = h.0 ++ 13 ∷ [];
+    back = 10 ∷ [];
+    whole = h.1 ∙ sym (append_assoc h.0 (13 ∷ []) (10 ∷ []));
+    first = (h.0, refl, h.2, refl);
+    second = (word.LineFeed, (inl refl, refl), refl);
+  },
+)
 
 pub last_name_reader : IsReader NeedMore LastName last_name_at
 unfolding last_name_at

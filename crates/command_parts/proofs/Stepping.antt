@@ -1,5 +1,5 @@
 -- Steps of lexemes by tests.
-use Rattle.std.proofs.Common.{◌≡◌, ℕ, Bool, true, false, ◌&&◌, List, [], ◌∷◌, ◌++◌, cond, refl, sym, ap, ◌∙◌}
+use Rattle.std.proofs.Common.{◌≡◌, ℕ, Bool, true, false, List, cond, refl}
 use Rattle.command_parts.specs.declared.lexeme.LexemeStep.{LexemeStep}
 use Rattle.command_parts.specs.declared.lexeme.LexemeStep.TheVariants as step
 use Rattle.command_parts.proofs.Lexing.{AcceptsBy, is_fail}

@@ -1,12 +1,12 @@
 -- Tags are read as what they are.
-use Rattle.std.proofs.Common.{◌≡◌, ℕ, zero, suc, ◌+◌, ◌-◌, ◌<◌, ◌≤◌, Bool, true, false, ◌&&◌, List, [], ◌∷◌, ◌++◌, length, take, cond, refl, sym, ap, subst, ◌∙◌, arith}
-use Rattle.std.specs.Prelude.{◌==◌, nat_lt, Result, Ok, Err}
-use Rattle.std.proofs.lemmas.Bool.{and_parts, and_from, eqb-true, ltb-true, lt-ltb}
+use Rattle.std.proofs.Common.{◌≡◌, ℕ, zero, suc, ◌+◌, ◌-◌, ◌<◌, ◌≤◌, true, false, ◌&&◌, List, [], ◌∷◌, ◌++◌, length, take, cond, refl, sym, ap, subst, ◌∙◌, arith}
+use Rattle.std.specs.Prelude.{◌==◌, nat_lt}
+use Rattle.std.proofs.lemmas.Bool.{and_parts, eqb-true, ltb-true, lt-ltb}
 use Rattle.std.proofs.lemmas.List.{length-append, take_at, take-append-le}
 use Rattle.imap_syntax.specs.Octets.{is_alnum}
 use Rattle.imap_syntax.specs.Texts.{Each, plain_octets}
 use Rattle.imap_values.proofs.Cuts.{plain_small}
-use Rattle.command_parts.specs.Fields.{fits_octet, AreOctets, IsTag}
+use Rattle.command_parts.specs.Fields.{fits_octet, IsTag}
 use Rattle.command_parts.specs.declared.no_command.NoCommand.TheVariants.{NeedMore}
 use Rattle.command_parts.specs.declared.lexeme.LexemeStep.{LexemeStep}
 use Rattle.command_parts.specs.declared.lexeme.LexemeStep.TheVariants.{Fail, On, End}
@@ -15,8 +15,8 @@ use Rattle.command_parts.specs.reading.Steps.{read_from}
 use Rattle.command_parts.specs.reading.Lexemes.{tag_advance, tag_at}
 use Rattle.command_parts.proofs.Readers.{IsReader}
 use Rattle.command_parts.proofs.Chains.{Viewed, viewed, view_reader, same_reader}
-use Rattle.command_parts.proofs.Lexing.{Accepts, AcceptsBy, IsPlain, IsAlive, is_fail, accepted_octets, lexeme_reader}
-use Rattle.command_parts.proofs.Stepping.{from_if, at_true, at_false, on_if, go_if}
+use Rattle.command_parts.proofs.Lexing.{Accepts, IsPlain, IsAlive, accepted_octets, lexeme_reader}
+use Rattle.command_parts.proofs.Stepping.{from_if, at_true, on_if, go_if}
 
 abbrev tag : ℕ → TagOctets
 tag n = record { count = n }
@@ -42,9 +42,9 @@ alnum_no_space = refl
 tag_plain : IsPlain tag_advance
 tag_plain = record {
   small = λ s c h. go_if (is_alnum c) (in_tag s.count) (behind_tag s.count c) (λ e k. alnum_small c e)
-    (λ e k. go_if (c == 32 && nat_lt 0 s.count) (End (tag s.count)) Fail (λ f g. space_small c (and_parts (c == 32) (nat_lt 0 s.count) f).0) (λ f g. absurd (g refl)) k) h;
+      (λ e k. go_if (c == 32 && nat_lt 0 s.count) (End (tag s.count)) Fail (λ f g. space_small c (and_parts (c == 32) (nat_lt 0 s.count) f).0) (λ f g. absurd (g refl)) k) h;
   on_line = λ s p c h. on_if (is_alnum c) (in_tag s.count) (behind_tag s.count c) p (λ e k. alnum_no_line c e)
-    (λ e k. on_if (c == 32 && nat_lt 0 s.count) (End (tag s.count)) Fail p (λ f g. absurd cc) (λ f g. absurd cc) k) h;
+      (λ e k. on_if (c == 32 && nat_lt 0 s.count) (End (tag s.count)) Fail p (λ f g. absurd cc) (λ f g. absurd cc) k) h;
 }
 
 -- a space ends a tag that has an octet
@@ -74,9 +74,9 @@ tag_forth : (t : List ℕ) (n : ℕ) (v : TagOctets) → n ≤ 32 → Accepts ta
 tag_forth [] n v le h = absurd h
 tag_forth (c ∷ t) n v le h = from_if (is_alnum c) (in_tag n) (behind_tag n c) (λ p. Accepts tag_advance p v t) v t
     (λ e k. from_if (nat_lt n 32) (On (tag (n + 1))) Fail (λ p. Accepts tag_advance p v t) v t
-      (λ f g. more e (tag_forth t (n + 1) v (let lt = ltb-true n 32 f in omega (arith, lt)) g)) (λ f g. absurd g) k)
+    (λ f g. more e (tag_forth t (n + 1) v (let lt = ltb-true n 32 f in omega (arith, lt)) g)) (λ f g. absurd g) k)
     (λ e k. from_if (c == 32 && nat_lt 0 n) (End (tag n)) Fail (λ p. Accepts tag_advance p v t) v t
-      (λ f g. last (and_parts (c == 32) (nat_lt 0 n) f) g.0 g.1) (λ f g. absurd g) k) h
+    (λ f g. last (and_parts (c == 32) (nat_lt 0 n) f) g.0 g.1) (λ f g. absurd g) k) h
   where
     more : is_alnum c ≡ true → TagRest (n + 1) v t → TagRest n v (c ∷ t)
     more e r = record {
@@ -87,6 +87,7 @@ tag_forth (c ∷ t) n v le h = from_if (is_alnum c) (in_tag n) (behind_tag n c) 
       some = omega arith;
       few = omega (arith, r.few);
     }
+
     last : ((c == 32) ≡ true) × (nat_lt 0 n ≡ true) → v ≡ tag n → t ≡ [] → TagRest n v (c ∷ t)
     last e same none = record {
       front = [];
@@ -128,13 +129,17 @@ tag_reader = same_reader NeedMore (Viewed (λ a b. take a.count b) (Accepts tag_
     cut_is : (t : List ℕ) (a : TagOctets) (h : Accepts tag_advance (tag 0) a t) (r : TagRest 0 a t) → take a.count (plain_octets t) ≡ r.front
     cut_is t a h r =
         ap (take a.count) (plain_small t (accepted_octets tag_advance tag_plain (tag 0) a t h) ∙ r.whole) ∙ take_at r.front (32 ∷ []) a.count (omega (arith, r.counted))
+
     forth : (s t : List ℕ) → Viewed (λ a b. take a.count b) (Accepts tag_advance (tag 0)) s t → TagText s t
     forth s t h =
         let r = tag_forth t 0 h.0 (omega arith) h.1 in
         let same : s ≡ r.front = h.2 ∙ cut_is t h.0 h.1 r in
         (r.whole ∙ ap (λ (u : List ℕ). u ++ 32 ∷ []) (sym same), subst IsTag (sym same) (r.alnum, omega (arith, r.some), omega (arith, r.few)))
+
     back : (s t : List ℕ) → TagText s t → Viewed (λ a b. take a.count b) (Accepts tag_advance (tag 0)) s t
     back s t h =
-        let k : Accepts tag_advance (tag 0) (tag (0 + length s)) t = subst (Accepts tag_advance (tag 0) (tag (0 + length s))) (sym h.0) (tag_back s 0 h.1.0 (omega (arith, h.1.1)) (omega (arith, h.1.2))) in
-        (tag (0 + length s), k,
-          sym (ap (take (0 + length s)) (plain_small t (accepted_octets tag_advance tag_plain (tag 0) (tag (0 + length s)) t k) ∙ h.0) ∙ take_at s (32 ∷ []) (0 + length s) (omega arith)))
+        let k : Accepts tag_advance (tag 0) (tag (0 + length s)) t = subst (Accepts tag_advance (tag 0) (tag (0 + length s))) (sym h.0) (tag_back s 0 h.1.0 (omega (arith, h.1.1)) (omega (arith, h.1.2))) in (
+          tag (0 + length s),
+          k,
+          sym (ap (take (0 + length s)) (plain_small t (accepted_octets tag_advance tag_plain (tag 0) (tag (0 + length s)) t k) ∙ h.0) ∙ take_at s (32 ∷ []) (0 + length s) (omega arith)),
+        )

@@ -5,7 +5,7 @@ ghost use Rattle.command_parts.specs.reading.Strings as strings;
 ghost use Rattle.command_parts.specs.reading.Steps.{ReadingGives};
 
 use crate::fixed_text::{Choice, read_choice};
-use crate::lexeme::{LexemeStep, Lexeme, read_lexeme};
+use crate::lexeme::{Lexeme, LexemeStep, read_lexeme};
 use crate::no_command::NoCommand;
 use imap_keywords::is_digit;
 use imap_values::date_in;

@@ -249,7 +249,10 @@ fn agreeing(text: &[u8], bytes: &[u8]) -> usize
 }
 
 /// The one of the texts that stands at the front, and what follows it.
-fn choose<'a>(fixed_texts: &[FixedText], bytes: &'a [u8]) -> Result<(FixedText, &'a [u8]), NoCommand>
+fn choose<'a>(
+    fixed_texts: &[FixedText],
+    bytes: &'a [u8],
+) -> Result<(FixedText, &'a [u8]), NoCommand>
     ensures { ReadingGives (λ x. (x.0, x.1.now)) result (reading.choose 0 fixed_texts.now bytes.now) }
 {
     let mut farthest: usize = 0;

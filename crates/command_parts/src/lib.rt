@@ -3,18 +3,18 @@
 #![tactic(auto)]
 
 // How parts are read.
-mod no_command;
-mod lexeme;
-mod follow;
 mod fixed_text;
+mod follow;
+mod lexeme;
+mod no_command;
 
 // Parts.
-mod tag;
-mod numeral;
-mod literal;
-mod string;
-mod flags;
 mod date;
+mod flags;
+mod literal;
+mod numeral;
+mod string;
+mod tag;
 
 pub use date::read_date;
 pub use fixed_text::{Choice, FixedText, read_choice, read_fixed};

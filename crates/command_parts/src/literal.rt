@@ -5,7 +5,7 @@ ghost use Rattle.command_parts.specs.reading.Strings as strings;
 ghost use Rattle.command_parts.specs.reading.Steps.{ReadingGives};
 
 use crate::follow::{Follow, may_follow};
-use crate::lexeme::{LexemeStep, Lexeme, read_lexeme};
+use crate::lexeme::{Lexeme, LexemeStep, read_lexeme};
 use crate::no_command::NoCommand;
 use imap_keywords::{COUNT_DIGITS, LITERAL_LIMIT, is_digit};
 use imap_values::{before, behind};

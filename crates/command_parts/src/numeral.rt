@@ -4,7 +4,7 @@ ghost use Rattle.command_parts.specs.reading.Lexemes as reading;
 ghost use Rattle.command_parts.specs.reading.Steps.{ReadingGives};
 
 use crate::follow::{Follow, may_follow};
-use crate::lexeme::{LexemeStep, Lexeme, read_lexeme};
+use crate::lexeme::{Lexeme, LexemeStep, read_lexeme};
 use crate::no_command::NoCommand;
 use imap_keywords::is_digit;
 
@@ -79,7 +79,11 @@ impl Lexeme for Numeral {
 /// The number at the front, with the octet that follows it, and what stands behind that: ("0" / digit-nz *DIGIT), at most
 /// `most`.
 #[tactic(auto, unfolding(crate::specs::reading::Lexemes::numeral_at))]
-pub fn read_numeral(bytes: &[u8], most: u64, follow: Follow) -> Result<((u64, u8), &[u8]), NoCommand>
+pub fn read_numeral(
+    bytes: &[u8],
+    most: u64,
+    follow: Follow,
+) -> Result<((u64, u8), &[u8]), NoCommand>
     ensures { ReadingGives (λ x. (x.0, x.1.now)) result (reading.numeral_at most follow bytes.now) }
 {
     let start = Numeral {

@@ -7,7 +7,7 @@ ghost use Rattle.command_parts.specs.reading.Steps.{ReadingGives};
 
 use crate::fixed_text::{FixedText, read_fixed};
 use crate::follow::{Follow, may_follow};
-use crate::lexeme::{LexemeStep, Lexeme, read_lexeme};
+use crate::lexeme::{Lexeme, LexemeStep, read_lexeme};
 use crate::literal::read_literal;
 use crate::no_command::NoCommand;
 use imap_keywords::{is_atom, is_text};

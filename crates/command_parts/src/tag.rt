@@ -3,7 +3,7 @@ ghost use Rattle.std.specs.Prelude.{◌≡◌};
 ghost use Rattle.command_parts.specs.reading.Lexemes as reading;
 ghost use Rattle.command_parts.specs.reading.Steps.{ReadingGives};
 
-use crate::lexeme::{LexemeStep, Lexeme, read_lexeme};
+use crate::lexeme::{Lexeme, LexemeStep, read_lexeme};
 use crate::no_command::NoCommand;
 use imap_keywords::is_alnum;
 use imap_values::before;
@@ -23,7 +23,9 @@ fn advance(tag: TagOctets, c: u8) -> LexemeStep<TagOctets>
 {
     if is_alnum(c as u16) {
         if tag.count < MAX_TAG_OCTETS {
-            LexemeStep::On(TagOctets { count: tag.count + 1 })
+            LexemeStep::On(TagOctets {
+                count: tag.count + 1,
+            })
         } else {
             LexemeStep::Fail
         }

@@ -1,13 +1,13 @@
 -- A reader of commands answers what octets are, and no octets have two answers.
 use Rattle.std.proofs.Common.{◌≡◌, ℕ, suc, ◌+◌, ◌-◌, ◌<◌, ◌≤◌, Bool, true, false, List, [], ◌∷◌, ◌++◌, length, take, drop, cond, refl, sym, ap, subst, ◌∙◌, append_assoc, arith, inl, inr}
-use Rattle.std.specs.Prelude.{◌⊎◌, Result, Ok, Err}
+use Rattle.std.specs.Prelude.{Result, Ok, Err, IfOk, MatchResult}
 use Rattle.std.proofs.lemmas.List.{length-append, length-drop, take-append-drop, take-take, take-map, take_at, take-append-le, append-nil}
 use Rattle.std.proofs.lemmas.Bool.{cases_lt, cases_order}
 use Rattle.imap_syntax.specs.declared.command.Command.{Command}
 use Rattle.imap_syntax.specs.Texts.{plain_of, plain_octets}
 use Rattle.command_parts.specs.Fields.{AreOctets}
 use Rattle.store_commands.specs.Requests.{IsCommandText}
-use Rattle.store_commands.specs.Answers.{IsCommand, IsCommandPrefix, IsProperCommandPrefix, IsReadAs, IsFinal}
+use Rattle.store_commands.specs.Answers.{IsCommand, IsCommandPrefix, IsProperCommandPrefix, IsReadAs, IsFinal, BeginsWithCommand}
 use Rattle.store_commands.specs.declared.command_read.CommandRead.{CommandRead}
 use Rattle.store_commands.specs.declared.command_read.CommandRead.TheVariants.{Whole, NeedMore, WantsLiteral, Bad}
 use Rattle.command_parts.specs.declared.no_command.NoCommand.{NoCommand}
@@ -76,12 +76,14 @@ whole_answer : (R : Reading) → IsReader none.NeedMore Commands R → (b : List
 whole_answer R r b v rest are e =
     let x = r.found b v rest are e in
     let long : length b ≡ length (plain_octets x.0) + length rest = ap length x.2 ∙ length-append (plain_octets x.0) rest in
-    let count : length (plain_octets x.0) ≡ length b - length rest = omega (arith, long) in
-    (omega (arith, long), record {
-      text = x.0;
-      reads = x.1;
-      octets = sym (ap (take (length b - length rest)) x.2 ∙ take_at (plain_octets x.0) rest (length b - length rest) count);
-    })
+    let count : length (plain_octets x.0) ≡ length b - length rest = omega (arith, long) in (
+      omega (arith, long),
+      record {
+        text = x.0;
+        reads = x.1;
+        octets = sym (ap (take (length b - length rest)) x.2 ∙ take_at (plain_octets x.0) rest (length b - length rest) count);
+      },
+    )
 
 -- octets that are wrong at their last one begin no command
 no_front : (R : Reading) → IsReader none.NeedMore Commands R → (c : List ℕ) → R c ≡ Err (none.Bad 1) → IsCommandPrefix c → ⊥
@@ -91,11 +93,11 @@ no_front R r c bad p = by p.more refl
     by [] e =
         let text : p.text ++ p.more ≡ p.text = ap (λ (u : List ℕ). p.text ++ u) e ∙ append-nil p.text in
         let g : R c ≡ Ok ((p.tag, p.command), []) =
-          ap R (sym p.octets ∙ sym (append-nil (plain_octets p.text))) ∙ r.whole (p.tag, p.command) p.text [] (subst (Commands (p.tag, p.command)) text p.reads) in
+        ap R (sym p.octets ∙ sym (append-nil (plain_octets p.text))) ∙ r.whole (p.tag, p.command) p.text [] (subst (Commands (p.tag, p.command)) text p.reads) in
         let h = sym g ∙ bad in cc
     by (d ∷ m) e =
         let g : R c ≡ Err (stop_of none.NeedMore p.text) =
-          ap R (sym p.octets) ∙ r.short (p.tag, p.command) p.text p.more p.reads (λ z. let q : d ∷ m ≡ [] = sym e ∙ z in cc) in
+        ap R (sym p.octets) ∙ r.short (p.tag, p.command) p.text p.more p.reads (λ z. let q : d ∷ m ≡ [] = sym e ∙ z in cc) in
         no_bad p.text 1 (sym g ∙ bad)
 
 -- the octets before the wrong one begin a command, and none with it
@@ -108,16 +110,19 @@ bad_answer R r b left o =
     let upto : take at b ≡ front = ap (take at) o.whole ∙ take_at front (o.octet ∷ o.rest) at place in
     let longer : length (front ++ o.octet ∷ []) ≡ at + 1 = length-append front (o.octet ∷ []) ∙ omega (arith, place) in
     let beyond : take (at + 1) b ≡ front ++ o.octet ∷ [] =
-      ap (take (at + 1)) (o.whole ∙ sym (append_assoc front (o.octet ∷ []) o.rest)) ∙ take_at (front ++ o.octet ∷ []) o.rest (at + 1) longer in
-    (omega (arith, long, o.left_is), no_front R r (take (at + 1) b) (ap R beyond ∙ o.stays []), record {
-      tag = o.value.0;
-      command = o.value.1;
-      text = o.text;
-      more = o.more;
-      reads = o.reads;
-      octets = sym upto;
-      proper = o.proper;
-    })
+    ap (take (at + 1)) (o.whole ∙ sym (append_assoc front (o.octet ∷ []) o.rest)) ∙ take_at (front ++ o.octet ∷ []) o.rest (at + 1) longer in (
+      omega (arith, long, o.left_is),
+      no_front R r (take (at + 1) b) (ap R beyond ∙ o.stays []),
+      record {
+        tag = o.value.0;
+        command = o.value.1;
+        text = o.text;
+        more = o.more;
+        reads = o.reads;
+        octets = sym upto;
+        proper = o.proper;
+      },
+    )
 
 stopped_answer : (R : Reading) → IsReader none.NeedMore Commands R → (b : List ℕ) (e : NoCommand) → Stopped Commands R none.NeedMore b e → IsReadAs b (answer_without e (length b))
 stopped_answer R r b none.NeedMore o = needs_answer b o
@@ -136,7 +141,7 @@ whole_given : (R : Reading) → IsReader none.NeedMore Commands R → (b : List 
     → Whole count tag command ≡ answer_to b (R b)
 whole_given R r b count tag command le h =
     let e : R b ≡ Ok ((tag, command), drop count b) =
-      ap R (sym (take-append-drop count b) ∙ ap (λ (u : List ℕ). u ++ drop count b) (sym h.octets)) ∙ r.whole (tag, command) h.text (drop count b) h.reads in
+    ap R (sym (take-append-drop count b) ∙ ap (λ (u : List ℕ). u ++ drop count b) (sym h.octets)) ∙ r.whole (tag, command) h.text (drop count b) h.reads in
     let left : length (drop count b) ≡ length b - count = length-drop count b in
     let same : count ≡ length b - length (drop count b) = omega (arith, left, le) in
     ap (λ (n : ℕ). Whole n tag command) same ∙ sym (ap (answer_to b) e)
@@ -149,6 +154,7 @@ needs_given R r b k = proper_given R r b p ∙ ap (λ (e : NoCommand). Err e) (s
   where
     p : IsProperCommandPrefix b
     p = k.0
+
     by : (line : Bool) → ends_with_line p.text ≡ line → ends_with_line p.text ≡ false
     by true e = absurd (k.1 (front_headed p.tag p.command p.text p.more p.reads p.proper e))
     by false e = e
@@ -194,7 +200,7 @@ whole_bad R r b count at tag command le h s = elim (cases_lt at count) [
       (front_of tag command h.text [] (take count b) (at + 1) (subst (IsCommandText tag command) (sym (append-nil h.text)) h.reads) h.octets))
   | inr le ↦
       let front : take at b ≡ plain_octets h.text ++ drop count (take at b) =
-        sym (take-append-drop count (take at b)) ∙ ap (λ (u : List ℕ). u ++ drop count (take at b)) (take-take count at b le ∙ sym h.octets) in
+      sym (take-append-drop count (take at b)) ∙ ap (λ (u : List ℕ). u ++ drop count (take at b)) (take-take count at b le ∙ sym h.octets) in
       let g : R (take at b) ≡ Ok ((tag, command), drop count (take at b)) = ap R front ∙ r.whole (tag, command) h.text (drop count (take at b)) h.reads in
       let k = sym g ∙ proper_given R r (take at b) s.before in
       cc
@@ -231,9 +237,11 @@ whole_stays b more count tag command h =
 
 bad_stays : (b more : List ℕ) (at : ℕ) → IsReadAs b (Bad at) → IsReadAs (b ++ more) (Bad at)
 bad_stays b more at h =
-    let long = length-append b more in
-    (omega (arith, h.0, long), λ k. h.1 (subst IsCommandPrefix (take-append-le (at + 1) b more (omega (arith, h.0))) k),
-      subst IsProperCommandPrefix (sym (take-append-le at b more (omega (arith, h.0)))) h.2)
+    let long = length-append b more in (
+      omega (arith, h.0, long),
+      λ k. h.1 (subst IsCommandPrefix (take-append-le (at + 1) b more (omega (arith, h.0))) k),
+      subst IsProperCommandPrefix (sym (take-append-le at b more (omega (arith, h.0)))) h.2,
+    )
 
 -- a command and a wrong octet stay what they are, whatever comes behind
 pub final_stays : (b more : List ℕ) (answer : CommandRead) → IsFinal answer → IsReadAs b answer → IsReadAs (b ++ more) answer
@@ -241,3 +249,11 @@ final_stays b more (Whole count tag command) f h = whole_stays b more count tag 
 final_stays b more NeedMore f h = absurd f
 final_stays b more WantsLiteral f h = absurd f
 final_stays b more (Bad at) f h = bad_stays b more at h
+
+-- ---- what is returned
+
+-- a command that stands there is given, or memory was wanting for it
+pub whole_matches : {E : Type 0} (b : List ℕ) (count : ℕ) (tag : List ℕ) (command : Command) (r : Result CommandRead E) → IsReadAs b (Whole count tag command)
+    → IfOk r (λ read. read ≡ Whole count tag command) → MatchResult r (λ read. IsReadAs b read) (λ e. BeginsWithCommand b)
+whole_matches b count tag command (Ok read) right same = subst (IsReadAs b) (sym same) right
+whole_matches b count tag command (Err e) right same = (count, tag, command, right)

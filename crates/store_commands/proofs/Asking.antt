@@ -1,7 +1,6 @@
 -- What is read may be asked: names have no octet 0, CR or LF, flags are names in kept form, numbers and dates are in their range.
-use Rattle.std.proofs.Common.{◌≡◌, ℕ, suc, ◌+◌, ◌-◌, ◌≤◌, min, Bool, true, false, ℤ, pos, negsuc, ◌-ℤ◌, List, [], ◌∷◌, ◌++◌, length, map, cond, Option, Some, None, refl, sym, ap, subst, ◌∙◌, arith, inl, inr}
+use Rattle.std.proofs.Common.{◌≡◌, ℕ, ◌+◌, ◌-◌, ◌≤◌, min, Bool, true, false, ℤ, pos, negsuc, ◌-ℤ◌, List, [], ◌∷◌, length, map, cond, Option, Some, None, sym, ap, subst, ◌∙◌, arith, inl, inr}
 use Rattle.std.proofs.Common.{nat_cmp, bytes_eq, codes}
-use Rattle.std.specs.Prelude.{◌⊎◌, ◌==◌}
 use Rattle.std.proofs.lemmas.List.{length-map}
 use Rattle.std.specs.BTreeSet.{insert_key}
 use Rattle.std.specs.Cmp.Lexicographic.{slice_cmp}
@@ -15,7 +14,7 @@ use Rattle.imap_syntax.specs.declared.command.Command.TheVariants as command
 use Rattle.imap_syntax.specs.Octets.{is_text, is_atom, is_inside, lower}
 use Rattle.imap_syntax.specs.Texts.{Each, plain_of, plain_octets}
 use Rattle.imap_syntax.specs.Strings.{IsAtom, IsCounted}
-use Rattle.imap_syntax.specs.Items.{IsName, AllNames, add_name, kept_from, kept}
+use Rattle.imap_syntax.specs.Items.{IsName, AllNames, add_name, kept_from}
 use Rattle.imap_syntax.specs.Dates.{seconds_from}
 use Rattle.imap_syntax.specs.DateTimes.{days_to, seconds_of, IsDateTime}
 use Rattle.store_commands.specs.Written.{nearest_date}
@@ -109,6 +108,7 @@ date_nearest s t h = by h.east h.value
   where
     days : ℕ
     days = 86400 * (days_to h.year h.month + h.day)
+
     by : (east : Bool) → s ≡ seconds_of h.year h.month h.day h.time east h.zone → nearest_date s ≡ s
     by true e = within_nearest (days + h.time - (86400 + h.zone)) s e
     by false e = within_nearest (days + h.time + h.zone - 86400) s e

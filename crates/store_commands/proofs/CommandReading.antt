@@ -1,6 +1,5 @@
 -- A command with its tag is read as what it is.
-use Rattle.std.proofs.Common.{◌≡◌, ℕ, suc, Bool, true, false, List, [], ◌∷◌, ◌++◌, refl, sym, ap, subst, ◌∙◌, append_assoc, inl, inr}
-use Rattle.std.specs.Prelude.{Result, Ok, Err}
+use Rattle.std.proofs.Common.{◌≡◌, ℕ, true, false, List, [], ◌∷◌, refl, sym, ap, ◌∙◌, inl, inr}
 use Rattle.imap_syntax.specs.declared.command.Command.{Command}
 use Rattle.imap_syntax.specs.declared.command.Command.TheVariants as command
 use Rattle.command_parts.specs.declared.no_command.NoCommand.{NoCommand}
@@ -14,7 +13,7 @@ use Rattle.store_commands.specs.reading.Commands.{folder_arguments_at, message_a
 use Rattle.command_parts.proofs.Readers.{stop_of, IsReader}
 use Rattle.command_parts.proofs.Chains.{Chain, chained, chain_reader, Viewed, viewed, view_reader}
 use Rattle.command_parts.proofs.Branches.{Nothing, nothing_reader}
-use Rattle.command_parts.proofs.Choosing.{OneOf, Choices, choose_reader}
+use Rattle.command_parts.proofs.Choosing.{Choices, choose_reader}
 use Rattle.command_parts.proofs.TagReading.{TagText, tag_reader}
 use Rattle.command_parts.proofs.Parts.{stop_open, word_stop}
 use Rattle.store_commands.proofs.FolderCommands.{LoginArguments, login_reader, SelectArguments, select_reader, AppendArguments, append_reader, Named, create_reader, delete_reader}
@@ -102,12 +101,13 @@ unfolding command_at
 parts_reader = chain_reader NeedMore (λ tag. NeedMore) TagText (λ tag. Chain (Choices commands) (λ w. Viewed (λ c b. (tag, c)) (Arguments w))) tag_at
     (λ tag. chained (choice_at choice.Commands) (λ w. viewed (λ c b. (tag, c)) (arguments_at w))) tag_reader
     (λ tag. chain_reader NeedMore behind (Choices commands) (λ w. Viewed (λ c b. (tag, c)) (Arguments w)) (choice_at choice.Commands) (λ w. viewed (λ c b. (tag, c)) (arguments_at w))
-      (choose_reader word.Capability more refl) (λ w. view_reader (behind w) (λ c b. (tag, c)) (Arguments w) (arguments_at w) (arguments_reader w) (λ a t rest h. refl))
-      (word_behind commands all)) tag_stop
+    (choose_reader word.Capability more refl) (λ w. view_reader (behind w) (λ c b. (tag, c)) (Arguments w) (arguments_at w) (arguments_reader w) (λ a t rest h. refl))
+    (word_behind commands all)) tag_stop
   where
     more : List FixedText
     more =
         word.Login ∷ word.Enable ∷ word.List ∷ word.ListAtom ∷ word.ListSubscribed ∷ word.ListAtomSubscribed ∷ word.Select ∷ word.Unselect ∷ word.Fetch ∷ word.Store ∷ word.Move
         ∷ word.Expunge ∷ word.Append ∷ word.Create ∷ word.Delete ∷ word.Rename ∷ word.Subscribe ∷ word.Unsubscribe ∷ []
+
     all : AllStop commands
     all = (refl, (refl, (refl, (refl, (refl, (refl, (refl, (refl, (refl, (refl, (refl, (refl, (refl, (refl, (refl, (refl, (refl, (refl, (refl, tt)))))))))))))))))))

@@ -1,15 +1,14 @@
 -- The date of an APPEND as it is written is a date-time of its nearest second.
-use Rattle.std.proofs.Common.{◌≡◌, ℕ, zero, suc, ◌+◌, ◌-◌, ◌*◌, ◌/◌, ◌%◌, ◌<◌, ◌≤◌, min, Bool, true, false, ℤ, pos, negsuc, ◌-ℤ◌, List, [], ◌∷◌, ◌++◌, length, map, cond, refl, sym, ap, ◌∙◌, append_assoc, arith, inl, inr}
-use Rattle.std.specs.Prelude.{◌⊎◌, nat_lt, codes}
+use Rattle.std.proofs.Common.{◌≡◌, ℕ, zero, suc, ◌+◌, ◌-◌, ◌*◌, ◌/◌, ◌%◌, ◌<◌, ◌≤◌, min, Bool, true, false, ℤ, pos, negsuc, ◌-ℤ◌, [], ◌∷◌, ◌++◌, cond, refl, sym, ap, append_assoc, arith, inl}
+use Rattle.std.specs.Prelude.{nat_lt}
 use Rattle.std.proofs.lemmas.Bool.{ltb-true, ltb-false}
 use Rattle.jiff_core.specs.Calendar.{days_in_month, day_count}
 use Rattle.jiff_core.proofs.CalendarLemmas.{day_count-day, day_count-next_month, day_count-next_year, day_count-last_of_year, days_in_month_bounds}
 use Rattle.jiff_core.proofs.MarchLemmas.{day_count-early}
 use Rattle.jiff_core.proofs.SignedLemmas.{signed_arith}
 use Rattle.imap_syntax.specs.Octets.{is_digit}
-use Rattle.imap_syntax.specs.Texts.{Each}
 use Rattle.imap_syntax.specs.Dates.{Day, next_day, day_at, seconds_from, two_digits, four_digits, month_name, day_text, clock_text, day_text_of, date_text}
-use Rattle.imap_syntax.specs.DateTimes.{days_to, kept_within, seconds_of, IsDigits, IsDate, IsTime, IsZone, IsDateTime}
+use Rattle.imap_syntax.specs.DateTimes.{days_to, seconds_of, IsDigits, IsDate, IsTime, IsZone, IsDateTime}
 use Rattle.imap_values.proofs.DateLemmas.{year_small}
 use Rattle.store_commands.specs.Written.{nearest_date}
 
@@ -45,7 +44,7 @@ after_next n d h = by (nat_lt d.day (days_in_month (pos d.year) d.month)) (nat_l
   where
     by : (p q : Bool) → nat_lt d.day (days_in_month (pos d.year) d.month) ≡ p → nat_lt d.month 12 ≡ q
         → IsAfter (suc n) (cond p (record { year = d.year; month = d.month; day = d.day + 1 })
-          (cond q (record { year = d.year; month = d.month + 1; day = 1 }) (record { year = d.year + 1; month = 1; day = 1 })))
+        (cond q (record { year = d.year; month = d.month + 1; day = 1 }) (record { year = d.year + 1; month = 1; day = 1 })))
     by true q e f = record {
       low_month = h.low_month;
       high_month = h.high_month;

@@ -1,23 +1,20 @@
 -- The parts of UID FETCH are what the grammar says of them.
-use Rattle.std.proofs.Common.{◌≡◌, ℕ, suc, ◌+◌, ◌≤◌, Bool, true, false, ◌||◌, List, [], ◌∷◌, ◌++◌, map, cond, refl, sym, ap, subst, ◌∙◌, append_assoc, inl, inr}
-use Rattle.std.specs.Prelude.{◌⊎◌, ◌==◌, codes}
+use Rattle.std.proofs.Common.{◌≡◌, ℕ, ◌+◌, ◌≤◌, Bool, true, false, ◌||◌, List, [], ◌∷◌, ◌++◌, cond, refl, sym, ap, subst, ◌∙◌, append_assoc, inl, inr}
+use Rattle.std.specs.Prelude.{◌==◌, codes}
 use Rattle.std.specs.Fmt.{decimal}
 use Rattle.std.proofs.lemmas.Fmt.{decimal_digit}
 use Rattle.std.proofs.Common.{arith}
 use Rattle.std.proofs.lemmas.Bool.{eqb-true, or_cases, both_ways}
 use Rattle.imap_syntax.specs.declared.command.Command.{Command}
 use Rattle.imap_syntax.specs.declared.command.Command.TheVariants as command
-use Rattle.imap_syntax.specs.Texts.{Then, IsWord, crlf, IsCrlf}
-use Rattle.command_parts.specs.Fields.{◌▷◌, IsPlainNumber, IsUnsigned}
-use Rattle.store_commands.specs.Requests.{IsHeaderItems, IsRequest}
-use Rattle.command_parts.specs.declared.follow.Follow.TheVariants as follow
+use Rattle.imap_syntax.specs.Texts.{IsWord, crlf}
+use Rattle.store_commands.specs.Requests.{IsHeaderItems}
 use Rattle.command_parts.specs.declared.fixed_text.FixedText.{FixedText}
 use Rattle.command_parts.specs.declared.fixed_text.FixedText.TheVariants as word
 use Rattle.command_parts.specs.declared.fixed_text.Choice.TheVariants as choice
 use Rattle.command_parts.specs.reading.FixedTexts.{fixed_text, fixed_texts}
-use Rattle.command_parts.specs.reading.Lexemes.{may_follow}
 use Rattle.store_commands.specs.reading.Arguments.{fetched_from, fetched_slice, items_from}
-use Rattle.command_parts.proofs.Choosing.{OneOf, Choices}
+use Rattle.command_parts.proofs.Choosing.{OneOf}
 use Rattle.command_parts.proofs.Parts.{fixed_word}
 use Rattle.store_commands.proofs.FolderSpelling.{then_of, word_join, word_split, sign_word, space_of, line_of, Asks, Spelled}
 use Rattle.store_commands.proofs.MessageCommands.{FetchArguments, OpenRange, ClosedRange, Fetched}
@@ -45,8 +42,10 @@ fetches uid w t one h = by (uid == 1) refl one
   where
     with_modseq : w ≡ word.ItemsWithModseq → Fetches uid (fetched_from uid w) t
     with_modseq e = let s = items_cut (header_text true) t (h ∙ ap fixed_text e) in headers true s.0 (ap (fetched_from uid) e) s.1 s.2
+
     without : w ≡ word.ItemsWithoutModseq → Fetches uid (fetched_from uid w) t
     without e = let s = items_cut (header_text false) t (h ∙ ap fixed_text e) in headers false s.0 (ap (fetched_from uid) e) s.1 s.2
+
     by : (a : Bool) → (uid == 1) ≡ a → OneOf w (fixed_texts (cond a choice.AllItems choice.Items)) → Fetches uid (fetched_from uid w) t
     by true f (inl e) = with_modseq e
     by true f (inr (inl e)) = without e
@@ -140,10 +139,13 @@ fetch_forth c r h = by (u.0.1 == 58) refl u.1.second
   where
     u : FetchArguments c h.1
     u = h.4
+
     all : (d : ℕ) → u.0.1 ≡ d → r ≡ h.0 ++ ((decimal u.0.0 ++ d ∷ []) ++ u.1.back)
     all d e = h.2 ∙ ap (λ (v : List ℕ). h.0 ++ v) (u.1.whole ∙ ap (λ (v : List ℕ). v ++ u.1.back) (u.1.first.0 ∙ ap (λ (i : ℕ). decimal u.0.0 ++ i ∷ []) e))
+
     space : (c : ℕ) → (c == 58 || c == 32) ≡ true → (c == 58) ≡ false → c ≡ 32
     space c e f = elim (or_cases (c == 58) (c == 32) e) [ inl g ↦ absurd (both_ways (c == 58) f g) | inr g ↦ eqb-true c 32 g ]
+
     by : (a : Bool) → (u.0.1 == 58) ≡ a → Fetched a u.0.0 c u.1.back → Asks c r
     by true e (inl s) = open_asks u.0.0 c h.0 u.1.back r h.3 u.1.first.1 s (all 58 (eqb-true u.0.1 58 e))
     by true e (inr s) = closed_asks u.0.0 c h.0 u.1.back r h.3 u.1.first.1 s (all 58 (eqb-true u.0.1 58 e))
@@ -157,19 +159,31 @@ fetch_forth c r h = by (u.0.1 == 58) refl u.1.second
 -- a range without an end
 open_spelled : (uid : ℕ) (c : Command) (w : FixedText) (y t r : List ℕ) → IsWord (codes "uid fetch ") y → uid ≤ 4294967295 → OneOf w (fixed_texts (items_from uid)) → IsWord (fixed_text w) t
     → c ≡ fetched_from uid w → r ≡ y ++ ((decimal uid ++ 58 ∷ []) ++ (42 ∷ 32 ∷ [] ++ t)) → Spelled word.Fetch FetchArguments c r
-open_spelled uid c w y t r h le one item same e = (y, (decimal uid ++ 58 ∷ []) ++ (42 ∷ 32 ∷ [] ++ t), e, h, ((uid, 58), record {
-  front = decimal uid ++ 58 ∷ [];
-  back = 42 ∷ 32 ∷ [] ++ t;
-  whole = refl;
-  first = (refl, le, refl);
-  second = inl (word.LastUid, record {
-    front = 42 ∷ 32 ∷ [];
-    back = t;
-    whole = refl;
-    first = (inl refl, refl);
-    second = (w, (one, item), same);
-  });
-}))
+open_spelled uid c w y t r h le one item same e = (
+  y,
+  (decimal uid ++ 58 ∷ []) ++ (42 ∷ 32 ∷ [] ++ t),
+  e,
+  h,
+  (
+    (uid, 58),
+    record {
+      front = decimal uid ++ 58 ∷ [];
+      back = 42 ∷ 32 ∷ [] ++ t;
+      whole = refl;
+      first = (refl, le, refl);
+      second = inl (
+        word.LastUid,
+        record {
+          front = 42 ∷ 32 ∷ [];
+          back = t;
+          whole = refl;
+          first = (inl refl, refl);
+          second = (w, (one, item), same);
+        },
+      );
+    },
+  ),
+)
 
 one_item : (modseq : Bool) → (w : FixedText) × (fixed_text w ≡ header_text modseq ++ crlf) × ((a : Bool) → OneOf w (fixed_texts (cond a choice.AllItems choice.Items)))
     × ((uid : ℕ) → command.FetchNew uid modseq ≡ fetched_from uid w) × ((from to : ℕ) → command.FetchSlice from to modseq ≡ fetched_slice from to w)
@@ -189,9 +203,9 @@ new_back uid modseq r h =
     let k = one_item modseq in
     let star : s.front ≡ 58 ∷ 42 ∷ [] = sign_word (58 ∷ 42 ∷ []) s.front refl s.first in
     let all : r ≡ (w.front ++ (decimal uid ++ (58 ∷ 42 ∷ [] ++ (32 ∷ i.0)))) ++ crlf =
-      h.whole ∙ ap (λ (v : List ℕ). v ++ h.back) (w.whole ∙ ap (λ (v : List ℕ). w.front ++ v) (n.whole ∙ ap (λ (v : List ℕ). v ++ n.back) n.first.0 ∙ ap (λ (v : List ℕ). decimal uid ++ v)
-      (s.whole ∙ ap (λ (v : List ℕ). v ++ s.back) star ∙ ap (λ (v : List ℕ). 58 ∷ 42 ∷ [] ++ v) i.1)))
-      ∙ ap (λ (v : List ℕ). (w.front ++ (decimal uid ++ (58 ∷ 42 ∷ [] ++ (32 ∷ i.0)))) ++ v) h.second in
+    h.whole ∙ ap (λ (v : List ℕ). v ++ h.back) (w.whole ∙ ap (λ (v : List ℕ). w.front ++ v) (n.whole ∙ ap (λ (v : List ℕ). v ++ n.back) n.first.0 ∙ ap (λ (v : List ℕ). decimal uid ++ v)
+    (s.whole ∙ ap (λ (v : List ℕ). v ++ s.back) star ∙ ap (λ (v : List ℕ). 58 ∷ 42 ∷ [] ++ v) i.1)))
+    ∙ ap (λ (v : List ℕ). (w.front ++ (decimal uid ++ (58 ∷ 42 ∷ [] ++ (32 ∷ i.0)))) ++ v) h.second in
     open_spelled uid (command.FetchNew uid modseq) k.0 w.front (i.0 ++ crlf) r w.first n.first.1 (k.2 (uid == 1)) (word_join (header_text modseq) crlf i.0 crlf i.2 refl ∙ sym k.1) (k.3 uid)
     (all ∙ regroup w.front (decimal uid) i.0)
   where
@@ -204,8 +218,8 @@ flags_back r h =
     let i = word_split (codes "1:* ") (codes "(uid flags)") s.1 s.4 in
     let one : i.0 ≡ 49 ∷ 58 ∷ 42 ∷ 32 ∷ [] = sign_word (49 ∷ 58 ∷ 42 ∷ 32 ∷ []) i.0 refl i.3 in
     let all : r ≡ (s.0 ++ (49 ∷ 58 ∷ 42 ∷ 32 ∷ [] ++ i.1)) ++ crlf =
-      h.whole ∙ ap (λ (v : List ℕ). v ++ h.back) (s.2 ∙ ap (λ (v : List ℕ). s.0 ++ v) (i.2 ∙ ap (λ (v : List ℕ). v ++ i.1) one))
-      ∙ ap (λ (v : List ℕ). (s.0 ++ (49 ∷ 58 ∷ 42 ∷ 32 ∷ [] ++ i.1)) ++ v) h.second in
+    h.whole ∙ ap (λ (v : List ℕ). v ++ h.back) (s.2 ∙ ap (λ (v : List ℕ). s.0 ++ v) (i.2 ∙ ap (λ (v : List ℕ). v ++ i.1) one))
+    ∙ ap (λ (v : List ℕ). (s.0 ++ (49 ∷ 58 ∷ 42 ∷ 32 ∷ [] ++ i.1)) ++ v) h.second in
     open_spelled 1 command.FetchFlags word.FlagsOnly s.0 (i.1 ++ crlf) r s.3 (omega arith) (inr (inr (inl refl))) (word_join (codes "(uid flags)") crlf i.1 crlf i.4 refl) refl
     (all ∙ regroup s.0 i.1 ∙ ap (λ (v : List ℕ). s.0 ++ ((v ++ 58 ∷ []) ++ (42 ∷ 32 ∷ [] ++ (i.1 ++ crlf)))) (sym (decimal_digit 1 (omega arith))))
   where
@@ -224,23 +238,33 @@ slice_back from to modseq r h =
     let b = decimal to in
     let colon : s.front ≡ 58 ∷ [] = sign_word (58 ∷ []) s.front refl s.first in
     let all : r ≡ (w.front ++ (a ++ (58 ∷ [] ++ (b ++ (32 ∷ i.0))))) ++ crlf =
-      h.whole ∙ ap (λ (v : List ℕ). v ++ h.back) (w.whole ∙ ap (λ (v : List ℕ). w.front ++ v) (n.whole ∙ ap (λ (v : List ℕ). v ++ n.back) n.first.0 ∙ ap (λ (v : List ℕ). a ++ v)
-      (s.whole ∙ ap (λ (v : List ℕ). v ++ s.back) colon ∙ ap (λ (v : List ℕ). 58 ∷ [] ++ v) (m.whole ∙ ap (λ (v : List ℕ). v ++ m.back) m.first.0 ∙ ap (λ (v : List ℕ). b ++ v) i.1))))
-      ∙ ap (λ (v : List ℕ). (w.front ++ (a ++ (58 ∷ [] ++ (b ++ (32 ∷ i.0))))) ++ v) h.second in
-    (w.front, (a ++ 58 ∷ []) ++ ((b ++ 32 ∷ []) ++ (i.0 ++ crlf)), all ∙ regroup w.front a b i.0, w.first,
-      ((from, 58), record {
-        front = a ++ 58 ∷ [];
-        back = (b ++ 32 ∷ []) ++ (i.0 ++ crlf);
-        whole = refl;
-        first = (refl, n.first.1, refl);
-        second = inr ((to, 32), record {
-          front = b ++ 32 ∷ [];
-          back = i.0 ++ crlf;
+    h.whole ∙ ap (λ (v : List ℕ). v ++ h.back) (w.whole ∙ ap (λ (v : List ℕ). w.front ++ v) (n.whole ∙ ap (λ (v : List ℕ). v ++ n.back) n.first.0 ∙ ap (λ (v : List ℕ). a ++ v)
+    (s.whole ∙ ap (λ (v : List ℕ). v ++ s.back) colon ∙ ap (λ (v : List ℕ). 58 ∷ [] ++ v) (m.whole ∙ ap (λ (v : List ℕ). v ++ m.back) m.first.0 ∙ ap (λ (v : List ℕ). b ++ v) i.1))))
+    ∙ ap (λ (v : List ℕ). (w.front ++ (a ++ (58 ∷ [] ++ (b ++ (32 ∷ i.0))))) ++ v) h.second in (
+      w.front,
+      (a ++ 58 ∷ []) ++ ((b ++ 32 ∷ []) ++ (i.0 ++ crlf)),
+      all ∙ regroup w.front a b i.0,
+      w.first,
+      (
+        (from, 58),
+        record {
+          front = a ++ 58 ∷ [];
+          back = (b ++ 32 ∷ []) ++ (i.0 ++ crlf);
           whole = refl;
-          first = (refl, m.first.1, refl);
-          second = (k.0, (k.2 false, word_join (header_text modseq) crlf i.0 crlf i.2 refl ∙ sym k.1), k.4 from to);
-        });
-      }))
+          first = (refl, n.first.1, refl);
+          second = inr (
+            (to, 32),
+            record {
+              front = b ++ 32 ∷ [];
+              back = i.0 ++ crlf;
+              whole = refl;
+              first = (refl, m.first.1, refl);
+              second = (k.0, (k.2 false, word_join (header_text modseq) crlf i.0 crlf i.2 refl ∙ sym k.1), k.4 from to);
+            },
+          );
+        },
+      ),
+    )
   where
     regroup : (y a b q : List ℕ) → (y ++ (a ++ (58 ∷ [] ++ (b ++ (32 ∷ q))))) ++ crlf ≡ y ++ ((a ++ 58 ∷ []) ++ ((b ++ 32 ∷ []) ++ (q ++ crlf)))
     regroup y a b q = simp append_assoc
@@ -253,16 +277,23 @@ body_back uid r h =
     let i = word_split (32 ∷ []) (codes "(uid body.peek[]<0.50000000>)") n.back n.second in
     let items : n.back ≡ 32 ∷ i.1 = i.2 ∙ ap (λ (v : List ℕ). v ++ i.1) (sign_word (32 ∷ []) i.0 refl i.3) in
     let all : r ≡ (w.front ++ (a ++ (32 ∷ i.1))) ++ crlf =
-      h.whole ∙ ap (λ (v : List ℕ). v ++ h.back) (w.whole ∙ ap (λ (v : List ℕ). w.front ++ v) (n.whole ∙ ap (λ (v : List ℕ). v ++ n.back) n.first.0 ∙ ap (λ (v : List ℕ). a ++ v) items))
-      ∙ ap (λ (v : List ℕ). (w.front ++ (a ++ (32 ∷ i.1))) ++ v) h.second in
-    (w.front, (a ++ 32 ∷ []) ++ (i.1 ++ crlf), all ∙ regroup w.front a i.1, w.first,
-      ((uid, 32), record {
-        front = a ++ 32 ∷ [];
-        back = i.1 ++ crlf;
-        whole = refl;
-        first = (refl, n.first.1, refl);
-        second = (word.Body, (inl refl, word_join (codes "(uid body.peek[]<0.50000000>)") crlf i.1 crlf i.4 refl), refl);
-      }))
+    h.whole ∙ ap (λ (v : List ℕ). v ++ h.back) (w.whole ∙ ap (λ (v : List ℕ). w.front ++ v) (n.whole ∙ ap (λ (v : List ℕ). v ++ n.back) n.first.0 ∙ ap (λ (v : List ℕ). a ++ v) items))
+    ∙ ap (λ (v : List ℕ). (w.front ++ (a ++ (32 ∷ i.1))) ++ v) h.second in (
+      w.front,
+      (a ++ 32 ∷ []) ++ (i.1 ++ crlf),
+      all ∙ regroup w.front a i.1,
+      w.first,
+      (
+        (uid, 32),
+        record {
+          front = a ++ 32 ∷ [];
+          back = i.1 ++ crlf;
+          whole = refl;
+          first = (refl, n.first.1, refl);
+          second = (word.Body, (inl refl, word_join (codes "(uid body.peek[]<0.50000000>)") crlf i.1 crlf i.4 refl), refl);
+        },
+      ),
+    )
   where
     regroup : (y a q : List ℕ) → (y ++ (a ++ (32 ∷ q))) ++ crlf ≡ y ++ ((a ++ 32 ∷ []) ++ (q ++ crlf))
     regroup y a q = simp append_assoc

@@ -1,10 +1,10 @@
 -- Flags as they are written are the flags that were given.
-use Rattle.std.proofs.Common.{◌≡◌, ℕ, suc, ◌<◌, Bool, true, false, List, [], ◌∷◌, ◌++◌, length, map, cond, refl, sym, ap, subst, ◌∙◌, arith, inl, inr}
-use Rattle.std.specs.Prelude.{◌⊎◌, codes, bytes_eq}
+use Rattle.std.proofs.Common.{◌≡◌, ℕ, Bool, true, false, List, [], ◌∷◌, ◌++◌, map, cond, refl, sym, ap, ◌∙◌, arith, inr}
+use Rattle.std.specs.Prelude.{codes, bytes_eq}
 use Rattle.imap_keywords.proofs.KeyLemmas.{same_text}
 use Rattle.imap_syntax.specs.Octets.{lower}
 use Rattle.imap_syntax.specs.Lines.{spaced, joined}
-use Rattle.imap_syntax.specs.Items.{IsName, AllNames, IsNames, add_name, kept_from, kept}
+use Rattle.imap_syntax.specs.Items.{IsName, AllNames, add_name, kept_from}
 use Rattle.imap_syntax.specs.Commands.{flag_text, more_flags, flags_inside, flags_text}
 use Rattle.command_parts.specs.Fields.{IsFlagList}
 use Rattle.store_commands.specs.Written.{AreKeptFlags}

@@ -1,22 +1,21 @@
 -- Commands on users and folders are read as what they are.
 use Rattle.std.proofs.Common.{arith}
-use Rattle.std.proofs.Common.{◌≡◌, ℕ, suc, Bool, true, false, List, [], ◌∷◌, ◌++◌, cond, Option, Some, None, refl, sym, ap, subst, ◌∙◌, append_assoc, inl, inr}
-use Rattle.std.specs.Prelude.{◌==◌, ℤ, Result, Ok, Err}
+use Rattle.std.proofs.Common.{◌≡◌, ℕ, Bool, true, false, List, [], ◌∷◌, ◌++◌, cond, Some, None, refl, sym, ◌∙◌, append_assoc}
+use Rattle.std.specs.Prelude.{◌==◌, ℤ, Result}
 use Rattle.imap_syntax.specs.declared.command.Command.{Command}
 use Rattle.imap_syntax.specs.declared.command.Command.TheVariants as command
 use Rattle.command_parts.specs.declared.no_command.NoCommand.{NoCommand}
 use Rattle.command_parts.specs.declared.no_command.NoCommand.TheVariants.{NeedMore}
 use Rattle.command_parts.specs.declared.follow.Follow.{Follow}
 use Rattle.command_parts.specs.declared.follow.Follow.TheVariants as follow
-use Rattle.command_parts.specs.declared.fixed_text.FixedText.{FixedText}
 use Rattle.command_parts.specs.declared.fixed_text.FixedText.TheVariants as word
-use Rattle.command_parts.specs.reading.FixedTexts.{fixed_text, fixed_at}
+use Rattle.command_parts.specs.reading.FixedTexts.{fixed_at}
 use Rattle.imap_syntax.specs.DateTimes.{IsDateTime}
 use Rattle.command_parts.specs.reading.Lexemes.{numeral_at, number_at}
 use Rattle.command_parts.specs.reading.Strings.{last_name_at, name_at, literal_at, flags_at, date_at, credential_at}
 use Rattle.store_commands.specs.reading.Arguments.{login_at, known_at, known_folder_at, new_folder_at, selected_at, select_at, append_at, create_at, delete_at, rename_at, subscribe_at}
 use Rattle.command_parts.proofs.Readers.{stop_of, IsReader}
-use Rattle.command_parts.proofs.Chains.{Chain, chained, chain_reader, Viewed, viewed, view_reader, same_reader}
+use Rattle.command_parts.proofs.Chains.{Chain, chained, chain_reader, Viewed, viewed, view_reader}
 use Rattle.command_parts.proofs.Choosing.{Choices}
 use Rattle.command_parts.proofs.Literals.{follow_no_line}
 use Rattle.command_parts.proofs.NumeralReading.{NumeralText, numeral_reader, number_reader}
@@ -49,7 +48,7 @@ unfolding login_at
 login_reader = chain_reader NeedMore (λ u. NeedMore) (CredentialText follow.Space) (λ u. Chain (CredentialText follow.Line) (λ p. Ended (command.Login u p)))
     (credential_at follow.Space) (λ u. chained (credential_at follow.Line) (λ p. ended (command.Login u p))) (credential_reader follow.Space space_outside)
     (λ u. chain_reader NeedMore (λ p. NeedMore) (CredentialText follow.Line) (λ p. Ended (command.Login u p)) (credential_at follow.Line) (λ p. ended (command.Login u p))
-      (credential_reader follow.Line line_outside) (λ p. ended_reader (command.Login u p)) (λ p t h. credential_stop follow.Line p t h)) (λ u t h. credential_stop follow.Space u t h)
+    (credential_reader follow.Line line_outside) (λ p. ended_reader (command.Login u p)) (λ p t h. credential_stop follow.Line p t h)) (λ u t h. credential_stop follow.Space u t h)
 
 -- ---- commands of one name
 
@@ -95,12 +94,12 @@ known_reader = chain_reader NeedMore (λ k. NeedMore) (Choices (word.Qresync ∷
     (λ k. chained (number_at follow.Space) (λ v. chained (numeral_at 18446744073709551615 follow.Close) (λ m. viewed (λ e b. (v.0, m.0)) (fixed_at word.KnownEnd))))
     (fixed_reader word.Qresync refl)
     (λ k. chain_reader NeedMore (λ v. NeedMore) (NumeralText 4294967295 follow.Space)
-      (λ v. Chain (NumeralText 18446744073709551615 follow.Close) (λ m. Viewed (λ e b. (v.0, m.0)) (Choices (word.KnownEnd ∷ [])))) (number_at follow.Space)
-      (λ v. chained (numeral_at 18446744073709551615 follow.Close) (λ m. viewed (λ e b. (v.0, m.0)) (fixed_at word.KnownEnd))) (number_reader follow.Space)
-      (λ v. chain_reader NeedMore (λ m. NeedMore) (NumeralText 18446744073709551615 follow.Close) (λ m. Viewed (λ e b. (v.0, m.0)) (Choices (word.KnownEnd ∷ [])))
-        (numeral_at 18446744073709551615 follow.Close) (λ m. viewed (λ e b. (v.0, m.0)) (fixed_at word.KnownEnd)) (numeral_reader 18446744073709551615 follow.Close (omega arith))
-        (λ m. view_reader NeedMore (λ e b. (v.0, m.0)) (Choices (word.KnownEnd ∷ [])) (fixed_at word.KnownEnd) (fixed_reader word.KnownEnd refl) (λ a t rest h. refl))
-        (λ m t h. number_stop 18446744073709551615 follow.Close m t h)) (λ v t h. number_stop 4294967295 follow.Space v t h)) (λ k t h. fixed_stop word.Qresync k t h)
+    (λ v. Chain (NumeralText 18446744073709551615 follow.Close) (λ m. Viewed (λ e b. (v.0, m.0)) (Choices (word.KnownEnd ∷ [])))) (number_at follow.Space)
+    (λ v. chained (numeral_at 18446744073709551615 follow.Close) (λ m. viewed (λ e b. (v.0, m.0)) (fixed_at word.KnownEnd))) (number_reader follow.Space)
+    (λ v. chain_reader NeedMore (λ m. NeedMore) (NumeralText 18446744073709551615 follow.Close) (λ m. Viewed (λ e b. (v.0, m.0)) (Choices (word.KnownEnd ∷ [])))
+    (numeral_at 18446744073709551615 follow.Close) (λ m. viewed (λ e b. (v.0, m.0)) (fixed_at word.KnownEnd)) (numeral_reader 18446744073709551615 follow.Close (omega arith))
+    (λ m. view_reader NeedMore (λ e b. (v.0, m.0)) (Choices (word.KnownEnd ∷ [])) (fixed_at word.KnownEnd) (fixed_reader word.KnownEnd refl) (λ a t rest h. refl))
+    (λ m t h. number_stop 18446744073709551615 follow.Close m t h)) (λ v t h. number_stop 4294967295 follow.Space v t h)) (λ k t h. fixed_stop word.Qresync k t h)
 
 -- by the octet behind the name
 abbrev pub Selected : Bool → List ℕ → Command → List ℕ → Type 0
@@ -138,7 +137,7 @@ message_reader : (g : List ℕ → Command) → IsReader NeedMore (Message g) (m
 message_reader g = chain_reader NeedMore (λ k. NeedMore) (Choices (word.LiteralOpen ∷ [])) (λ k. Chain (LiteralText follow.Line) (λ s. Ended (g s))) (fixed_at word.LiteralOpen)
     (λ k. chained (literal_at follow.Line) (λ s. ended (g s))) (fixed_reader word.LiteralOpen refl)
     (λ k. chain_reader NeedMore (λ s. NeedMore) (LiteralText follow.Line) (λ s. Ended (g s)) (literal_at follow.Line) (λ s. ended (g s)) (literal_reader follow.Line) (λ s. ended_reader (g s))
-      (λ s t h. literal_stop follow.Line s t h)) (λ k t h. fixed_stop word.LiteralOpen k t h)
+    (λ s t h. literal_stop follow.Line s t h)) (λ k t h. fixed_stop word.LiteralOpen k t h)
 
 abbrev pub Dated : (ℤ → List ℕ → Command) → Command → List ℕ → Type 0
 Dated g = Chain (Choices (word.Space ∷ [])) (λ k. Chain IsDateTime (λ d. Message (g d)))

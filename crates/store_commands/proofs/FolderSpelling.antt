@@ -1,27 +1,23 @@
 -- The parts of commands on users and folders are what the grammar says of them.
-use Rattle.std.proofs.Common.{◌≡◌, ℕ, suc, ◌+◌, Bool, true, false, ◌&&◌, not, List, [], ◌∷◌, ◌++◌, map, cond, Option, Some, None, refl, sym, ap, subst, ◌∙◌, append_assoc, inl, inr}
-use Rattle.std.specs.Prelude.{◌⊎◌, ◌==◌, nat_le, codes}
+use Rattle.std.proofs.Common.{◌≡◌, ℕ, ◌+◌, Bool, true, false, ◌&&◌, not, List, [], ◌∷◌, ◌++◌, map, refl, sym, ap, subst, ◌∙◌, append_assoc, inl, inr}
+use Rattle.std.specs.Prelude.{◌⊎◌, nat_le, codes}
 use Rattle.std.specs.List.{list_all}
-use Rattle.std.specs.Fmt.{decimal}
 use Rattle.std.proofs.lemmas.Bool.{eqb-true, and_parts}
 use Rattle.std.proofs.lemmas.List.{map-append, append-nil}
 use Rattle.imap_syntax.specs.declared.command.Command.{Command}
 use Rattle.imap_syntax.specs.declared.command.Command.TheVariants as command
 use Rattle.imap_syntax.specs.Octets.{lower}
 use Rattle.imap_syntax.specs.Texts.{Then, IsWord, crlf, IsCrlf}
-use Rattle.command_parts.specs.Fields.{◌▷◌, IsSpace, IsPlainNumber, IsUnsigned, IsFolderName, IsCredential, IsFlagList}
-use Rattle.store_commands.specs.Requests.{IsAnyName, IsReturn, IsSelectParameter, IsRequest}
+use Rattle.command_parts.specs.Fields.{◌▷◌, IsFolderName}
+use Rattle.store_commands.specs.Requests.{IsAnyName, IsReturn, IsRequest}
 use Rattle.command_parts.specs.declared.follow.Follow.TheVariants as follow
 use Rattle.command_parts.specs.declared.fixed_text.FixedText.{FixedText}
 use Rattle.command_parts.specs.declared.fixed_text.FixedText.TheVariants as word
 use Rattle.command_parts.specs.reading.FixedTexts.{fixed_text}
 use Rattle.command_parts.specs.reading.Lexemes.{may_follow}
-use Rattle.command_parts.proofs.Chains.{Chain, Viewed}
 use Rattle.command_parts.proofs.Branches.{Nothing}
-use Rattle.command_parts.proofs.Choosing.{OneOf, Choices}
-use Rattle.command_parts.proofs.NameReading.{NameText}
-use Rattle.command_parts.proofs.Parts.{fixed_word, line_feed, CredentialText, LastName}
-use Rattle.store_commands.proofs.FolderCommands.{Ended, LoginArguments, Named, RenameArguments}
+use Rattle.command_parts.proofs.Parts.{fixed_word, line_feed}
+use Rattle.store_commands.proofs.FolderCommands.{LoginArguments, Named, RenameArguments}
 
 -- ---- words
 
@@ -99,9 +95,9 @@ login_forth c r h =
     let front : u.1.front ≡ a.string ++ 32 ∷ [] = a.whole ∙ ap (λ (n : ℕ). a.string ++ n ∷ []) (space_of a.stop a.may) in
     let middle : p.1.front ≡ b.string ++ 13 ∷ [] = b.whole ∙ ap (λ (n : ℕ). b.string ++ n ∷ []) (carriage_of b.stop b.may) in
     let all : r ≡ y ++ ((a.string ++ 32 ∷ []) ++ ((b.string ++ 13 ∷ []) ++ 10 ∷ [])) =
-      h.2 ∙ ap (λ (v : List ℕ). y ++ v)
-      (u.1.whole ∙ ap (λ (v : List ℕ). v ++ u.1.back) front ∙ ap (λ (v : List ℕ). (a.string ++ 32 ∷ []) ++ v)
-      (p.1.whole ∙ ap (λ (v : List ℕ). v ++ p.1.back) middle ∙ ap (λ (v : List ℕ). (b.string ++ 13 ∷ []) ++ v) feed)) in
+    h.2 ∙ ap (λ (v : List ℕ). y ++ v)
+    (u.1.whole ∙ ap (λ (v : List ℕ). v ++ u.1.back) front ∙ ap (λ (v : List ℕ). (a.string ++ 32 ∷ []) ++ v)
+    (p.1.whole ∙ ap (λ (v : List ℕ). v ++ p.1.back) middle ∙ ap (λ (v : List ℕ). (b.string ++ 13 ∷ []) ++ v) feed)) in
     let text : List ℕ = y ++ (a.string ++ (32 ∷ [] ++ b.string)) in
     subst (λ (x : Command). Asks x r) (sym k.2)
     (then_of text crlf r (all ∙ regroup y a.string b.string)
@@ -119,22 +115,32 @@ login_back u p r h =
     let x = a.front in
     let y = s.back in
     let all : r ≡ (w.front ++ (x ++ (32 ∷ [] ++ y))) ++ crlf =
-      h.whole ∙ ap (λ (v : List ℕ). v ++ h.back) (w.whole ∙ ap (λ (v : List ℕ). w.front ++ v) (a.whole ∙ ap (λ (v : List ℕ). x ++ v) (s.whole ∙ ap (λ (v : List ℕ). v ++ y) s.first)))
-      ∙ ap (λ (v : List ℕ). (w.front ++ (x ++ (32 ∷ [] ++ y))) ++ v) h.second in
-    (w.front, (x ++ 32 ∷ []) ++ ((y ++ 13 ∷ []) ++ 10 ∷ []), all ∙ regroup w.front x y, w.first,
-      (u, record {
-        front = x ++ 32 ∷ [];
-        back = (y ++ 13 ∷ []) ++ 10 ∷ [];
-        whole = refl;
-        first = record { string = x; stop = 32; whole = refl; is = a.first; may = refl };
-        second = (p, record {
-          front = y ++ 13 ∷ [];
-          back = 10 ∷ [];
+    h.whole ∙ ap (λ (v : List ℕ). v ++ h.back) (w.whole ∙ ap (λ (v : List ℕ). w.front ++ v) (a.whole ∙ ap (λ (v : List ℕ). x ++ v) (s.whole ∙ ap (λ (v : List ℕ). v ++ y) s.first)))
+    ∙ ap (λ (v : List ℕ). (w.front ++ (x ++ (32 ∷ [] ++ y))) ++ v) h.second in (
+      w.front,
+      (x ++ 32 ∷ []) ++ ((y ++ 13 ∷ []) ++ 10 ∷ []),
+      all ∙ regroup w.front x y,
+      w.first,
+      (
+        u,
+        record {
+          front = x ++ 32 ∷ [];
+          back = (y ++ 13 ∷ []) ++ 10 ∷ [];
           whole = refl;
-          first = record { string = y; stop = 13; whole = refl; is = s.second; may = refl };
-          second = (word.LineFeed, (inl refl, refl), refl);
-        });
-      }))
+          first = record { string = x; stop = 32; whole = refl; is = a.first; may = refl };
+          second = (
+            p,
+            record {
+              front = y ++ 13 ∷ [];
+              back = 10 ∷ [];
+              whole = refl;
+              first = record { string = y; stop = 13; whole = refl; is = s.second; may = refl };
+              second = (word.LineFeed, (inl refl, refl), refl);
+            },
+          );
+        },
+      ),
+    )
   where
     regroup : (w x y : List ℕ) → (w ++ (x ++ (32 ∷ [] ++ y))) ++ crlf ≡ w ++ ((x ++ 32 ∷ []) ++ ((y ++ 13 ∷ []) ++ 10 ∷ []))
     regroup w x y = simp append_assoc
@@ -189,7 +195,7 @@ rename_forth c r h =
     let front : u.1.front ≡ a.0 ++ 32 ∷ [] = a.1 ∙ ap (λ (d : ℕ). a.0 ++ d ∷ []) (space_of u.0.1 a.3) in
     let text : List ℕ = y ++ (a.0 ++ (32 ∷ [] ++ n.0)) in
     let all : r ≡ y ++ ((a.0 ++ 32 ∷ []) ++ (n.0 ++ crlf)) =
-      h.2 ∙ ap (λ (v : List ℕ). y ++ v) (u.1.whole ∙ ap (λ (v : List ℕ). v ++ u.1.back) front ∙ ap (λ (v : List ℕ). (a.0 ++ 32 ∷ []) ++ v) n.1) in
+    h.2 ∙ ap (λ (v : List ℕ). y ++ v) (u.1.whole ∙ ap (λ (v : List ℕ). v ++ u.1.back) front ∙ ap (λ (v : List ℕ). (a.0 ++ 32 ∷ []) ++ v) n.1) in
     subst (λ (x : Command). Asks x r) (sym u.1.second.2)
     (then_of text crlf r (all ∙ regroup y a.0 n.0)
     (then_of y (a.0 ++ (32 ∷ [] ++ n.0)) text refl h.3
@@ -206,16 +212,23 @@ rename_back from to r h =
     let x = a.front in
     let y = s.back in
     let all : r ≡ (w.front ++ (x ++ (32 ∷ [] ++ y))) ++ crlf =
-      h.whole ∙ ap (λ (v : List ℕ). v ++ h.back) (w.whole ∙ ap (λ (v : List ℕ). w.front ++ v) (a.whole ∙ ap (λ (v : List ℕ). x ++ v) (s.whole ∙ ap (λ (v : List ℕ). v ++ y) s.first)))
-      ∙ ap (λ (v : List ℕ). (w.front ++ (x ++ (32 ∷ [] ++ y))) ++ v) h.second in
-    (w.front, (x ++ 32 ∷ []) ++ (y ++ crlf), all ∙ regroup w.front x y, w.first,
-      ((from, 32), record {
-        front = x ++ 32 ∷ [];
-        back = y ++ crlf;
-        whole = refl;
-        first = (x, refl, a.first, refl);
-        second = (to, (y, refl, s.second), refl);
-      }))
+    h.whole ∙ ap (λ (v : List ℕ). v ++ h.back) (w.whole ∙ ap (λ (v : List ℕ). w.front ++ v) (a.whole ∙ ap (λ (v : List ℕ). x ++ v) (s.whole ∙ ap (λ (v : List ℕ). v ++ y) s.first)))
+    ∙ ap (λ (v : List ℕ). (w.front ++ (x ++ (32 ∷ [] ++ y))) ++ v) h.second in (
+      w.front,
+      (x ++ 32 ∷ []) ++ (y ++ crlf),
+      all ∙ regroup w.front x y,
+      w.first,
+      (
+        (from, 32),
+        record {
+          front = x ++ 32 ∷ [];
+          back = y ++ crlf;
+          whole = refl;
+          first = (x, refl, a.first, refl);
+          second = (to, (y, refl, s.second), refl);
+        },
+      ),
+    )
   where
     regroup : (w x y : List ℕ) → (w ++ (x ++ (32 ∷ [] ++ y))) ++ crlf ≡ w ++ ((x ++ 32 ∷ []) ++ (y ++ crlf))
     regroup w x y = simp append_assoc
@@ -277,8 +290,10 @@ list_back r h = by w.second.front w.second.back w.second.first w.second.second (
   where
     w : Then (IsWord (codes "list \"\" ")) (IsAnyName ▷ IsReturn) h.front
     w = h.first
+
     text : (x : List ℕ) → r ≡ x ++ h.back → r ≡ x ++ crlf
     text x e = e ∙ ap (λ (u : List ℕ). x ++ u) h.second
+
     by : (name options : List ℕ) → IsAnyName name → IsReturn options → r ≡ (w.front ++ (name ++ options)) ++ h.back → ListSpelled r
     by name options (inl n) (inl o) e =
         inl (fixed_back (codes "list \"\" \"*\"") word.List command.List (w.front ++ (name ++ options)) r refl (text (w.front ++ (name ++ options)) e)

@@ -1,19 +1,18 @@
 -- Commands on messages are read as what they are.
-use Rattle.std.proofs.Common.{◌≡◌, ℕ, suc, ◌+◌, ◌%◌, ◌<◌, ◌≤◌, Bool, true, false, List, [], ◌∷◌, ◌++◌, map, get_or, cond, refl, sym, ap, subst, ◌∙◌, append_assoc, arith, inl, inr}
-use Rattle.std.specs.Prelude.{◌==◌, Result, Ok, Err}
+use Rattle.std.proofs.Common.{◌≡◌, ℕ, ◌+◌, ◌%◌, ◌<◌, ◌≤◌, Bool, true, false, List, [], ◌∷◌, ◌++◌, map, cond, refl, ap, ◌∙◌, arith, inl, inr}
+use Rattle.std.specs.Prelude.{◌==◌, Result}
 use Rattle.std.specs.Fmt.{decimal}
 use Rattle.std.proofs.lemmas.Fmt.{decimal_by_steps}
 use Rattle.imap_syntax.specs.declared.command.Command.{Command}
 use Rattle.imap_syntax.specs.declared.command.Command.TheVariants as command
-use Rattle.imap_syntax.specs.Texts.{plain_of, plain_octets}
+use Rattle.imap_syntax.specs.Texts.{plain_of}
 use Rattle.imap_syntax.specs.Octets.{is_digit, lower}
 use Rattle.command_parts.specs.declared.no_command.NoCommand.{NoCommand}
-use Rattle.command_parts.specs.declared.no_command.NoCommand.TheVariants.{NeedMore, WantsLiteral}
+use Rattle.command_parts.specs.declared.no_command.NoCommand.TheVariants.{NeedMore}
 use Rattle.command_parts.specs.declared.follow.Follow.{Follow}
 use Rattle.command_parts.specs.declared.follow.Follow.TheVariants as follow
 use Rattle.command_parts.specs.declared.fixed_text.FixedText.{FixedText}
 use Rattle.command_parts.specs.declared.fixed_text.FixedText.TheVariants as word
-use Rattle.command_parts.specs.declared.fixed_text.Choice.{Choice}
 use Rattle.command_parts.specs.declared.fixed_text.Choice.TheVariants as choice
 use Rattle.command_parts.specs.reading.FixedTexts.{fixed_text, fixed_texts, fixed_at, choice_at}
 use Rattle.command_parts.specs.reading.Lexemes.{number_at}
@@ -21,10 +20,9 @@ use Rattle.command_parts.specs.reading.Strings.{last_name_at, flags_at}
 use Rattle.store_commands.specs.reading.Arguments.{fetched_from, fetched_slice, items_from, open_range_at, closed_range_at, range_at, body_at, fetched_at}
 use Rattle.store_commands.specs.reading.Arguments.{fetch_at, is_add, store_at, move_at, expunge_at}
 use Rattle.command_parts.proofs.Readers.{stop_of, IsReader}
-use Rattle.command_parts.proofs.Chains.{Chain, chained, chain_reader, Viewed, viewed, view_reader, same_reader}
-use Rattle.command_parts.proofs.Branches.{Either, either, BeginsBy, either_reader}
-use Rattle.command_parts.proofs.Choosing.{OneOf, Choices, choose_reader}
-use Rattle.command_parts.proofs.Literals.{follow_no_line}
+use Rattle.command_parts.proofs.Chains.{Chain, chained, chain_reader, Viewed, viewed, view_reader}
+use Rattle.command_parts.proofs.Branches.{Either, BeginsBy, either_reader}
+use Rattle.command_parts.proofs.Choosing.{Choices, choose_reader}
 use Rattle.command_parts.proofs.NumeralReading.{NumeralText, number_reader}
 use Rattle.command_parts.proofs.FlagReading.{FlagsText, flags_reader}
 use Rattle.command_parts.proofs.Parts.{fixed_reader, fixed_word, fixed_stop, word_stop, number_stop, flags_stop, LastName, last_name_reader}
@@ -85,7 +83,7 @@ unfolding store_at
 store_reader = chain_reader NeedMore (λ v. NeedMore) (Number follow.Space) (λ v. Chain (Choices (word.Add ∷ word.Remove ∷ [])) (λ k. Flagged v.0 k)) (number_at follow.Space)
     (λ v. chained (choice_at choice.Changes) (λ k. flagged v.0 k)) (number_reader follow.Space)
     (λ v. chain_reader NeedMore (λ k. NeedMore) (Choices (word.Add ∷ word.Remove ∷ [])) (λ k. Flagged v.0 k) (choice_at choice.Changes) (λ k. flagged v.0 k)
-      (choose_reader word.Add (word.Remove ∷ []) refl) (λ k. flagged_reader v.0 k) change_stop) (λ v t h. number_stop 4294967295 follow.Space v t h)
+    (choose_reader word.Add (word.Remove ∷ []) refl) (λ k. flagged_reader v.0 k) change_stop) (λ v t h. number_stop 4294967295 follow.Space v t h)
 
 -- ---- FETCH
 
@@ -95,8 +93,10 @@ begins_digit n small = decimal_by_steps (λ n ds. (d : ℕ) × (y : List ℕ) ×
   where
     digit : (n : ℕ) → n < 10 → is_digit (48 + n) ≡ true
     digit n lt = grind arith
+
     one : (n : ℕ) → n < 10 → (d : ℕ) × (y : List ℕ) × ((48 + n) ∷ [] ≡ d ∷ y) × (is_digit d ≡ true)
     one n lt = (48 + n, [], refl, digit n lt)
+
     more : (n : ℕ) (ds : List ℕ) → 10 ≤ n → (d : ℕ) × (y : List ℕ) × (ds ≡ d ∷ y) × (is_digit d ≡ true)
         → (d : ℕ) × (y : List ℕ) × (ds ++ (48 + n % 10) ∷ [] ≡ d ∷ y) × (is_digit d ≡ true)
     more n ds ten h = (h.0, h.1 ++ (48 + n % 10) ∷ [], ap (λ (u : List ℕ). u ++ (48 + n % 10) ∷ []) h.2, h.3)
@@ -142,9 +142,12 @@ closed_begins : (uid : ℕ) → BeginsBy 42 false (ClosedRange uid)
 closed_begins uid v t h =
     let th = h.1 in
     let n = th.first in
-    let d = begins_digit h.0.0 (omega (arith, n.1)) in
-    (d.0, (d.1 ++ h.0.1 ∷ []) ++ th.back,
-      th.whole ∙ ap (λ (u : List ℕ). u ++ th.back) (n.0 ∙ ap (λ (u : List ℕ). u ++ h.0.1 ∷ []) d.2), no_star d.0 d.3)
+    let d = begins_digit h.0.0 (omega (arith, n.1)) in (
+      d.0,
+      (d.1 ++ h.0.1 ∷ []) ++ th.back,
+      th.whole ∙ ap (λ (u : List ℕ). u ++ th.back) (n.0 ∙ ap (λ (u : List ℕ). u ++ h.0.1 ∷ []) d.2),
+      no_star d.0 d.3,
+    )
 
 range_reader : (uid : ℕ) → IsReader NeedMore (Either (OpenRange uid) (ClosedRange uid)) (range_at uid)
 unfolding range_at

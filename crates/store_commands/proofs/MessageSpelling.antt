@@ -1,27 +1,20 @@
 -- The parts of commands on messages are what the grammar says of them.
-use Rattle.std.proofs.Common.{◌≡◌, ℕ, suc, ◌+◌, ◌≤◌, Bool, true, false, ◌||◌, List, [], ◌∷◌, ◌++◌, map, cond, refl, sym, ap, subst, ◌∙◌, append_assoc, inl, inr}
-use Rattle.std.specs.Prelude.{◌⊎◌, ◌==◌, codes}
+use Rattle.std.proofs.Common.{◌≡◌, ℕ, ◌+◌, ◌≤◌, Bool, true, false, List, [], ◌∷◌, ◌++◌, cond, refl, sym, ap, subst, ◌∙◌, append_assoc, inl, inr}
+use Rattle.std.specs.Prelude.{codes}
 use Rattle.std.specs.Fmt.{decimal}
-use Rattle.std.proofs.lemmas.Bool.{eqb-true, or_cases, both_ways}
-use Rattle.std.proofs.lemmas.List.{append-nil}
 use Rattle.imap_syntax.specs.declared.command.Command.{Command}
 use Rattle.imap_syntax.specs.declared.command.Command.TheVariants as command
-use Rattle.imap_syntax.specs.Octets.{lower}
-use Rattle.imap_syntax.specs.Texts.{Then, IsWord, crlf, IsCrlf}
+use Rattle.imap_syntax.specs.Texts.{IsWord, crlf}
 use Rattle.imap_syntax.specs.Lines.{joined}
-use Rattle.command_parts.specs.Fields.{◌▷◌, IsSpace, IsPlainNumber, IsUnsigned, IsFolderName, IsFlagList}
-use Rattle.store_commands.specs.Requests.{IsHeaderItems, IsRequest}
-use Rattle.command_parts.specs.declared.follow.Follow.TheVariants as follow
+use Rattle.command_parts.specs.Fields.{IsFlagList}
 use Rattle.command_parts.specs.declared.fixed_text.FixedText.{FixedText}
 use Rattle.command_parts.specs.declared.fixed_text.FixedText.TheVariants as word
-use Rattle.command_parts.specs.declared.fixed_text.Choice.TheVariants as choice
-use Rattle.command_parts.specs.reading.FixedTexts.{fixed_text, fixed_texts}
-use Rattle.command_parts.specs.reading.Lexemes.{may_follow}
-use Rattle.store_commands.specs.reading.Arguments.{fetched_from, fetched_slice, items_from, is_add}
+use Rattle.command_parts.specs.reading.FixedTexts.{fixed_text}
+use Rattle.store_commands.specs.reading.Arguments.{is_add}
 use Rattle.command_parts.proofs.Choosing.{OneOf, Choices}
 use Rattle.command_parts.proofs.Parts.{fixed_word, line_feed}
 use Rattle.store_commands.proofs.FolderSpelling.{then_of, word_join, word_split, sign_word, space_of, carriage_of, line_of, Asks, Spelled}
-use Rattle.store_commands.proofs.MessageCommands.{ExpungeArguments, MoveArguments, StoreArguments, FetchArguments, Flagged, OpenRange, ClosedRange, Fetched}
+use Rattle.store_commands.proofs.MessageCommands.{ExpungeArguments, MoveArguments, StoreArguments}
 
 -- ---- EXPUNGE
 
@@ -33,8 +26,8 @@ expunge_forth c r h =
     let a = decimal u.0.0 in
     let front : u.1.front ≡ a ++ 13 ∷ [] = n.0 ∙ ap (λ (d : ℕ). a ++ d ∷ []) (carriage_of u.0.1 n.2) in
     let all : r ≡ h.0 ++ ((a ++ 13 ∷ []) ++ 10 ∷ []) =
-      h.2 ∙ ap (λ (v : List ℕ). h.0 ++ v) (u.1.whole ∙ ap (λ (v : List ℕ). v ++ u.1.back) front
-      ∙ ap (λ (v : List ℕ). (a ++ 13 ∷ []) ++ v) (line_feed u.1.back (fixed_word word.LineFeed e.0 u.1.back e.1))) in
+    h.2 ∙ ap (λ (v : List ℕ). h.0 ++ v) (u.1.whole ∙ ap (λ (v : List ℕ). v ++ u.1.back) front
+    ∙ ap (λ (v : List ℕ). (a ++ 13 ∷ []) ++ v) (line_feed u.1.back (fixed_word word.LineFeed e.0 u.1.back e.1))) in
     subst (λ (x : Command). Asks x r) (sym e.2)
     (then_of (h.0 ++ a) crlf r (all ∙ regroup h.0 a) (then_of h.0 a (h.0 ++ a) refl h.3 (refl, n.1)) refl)
   where
@@ -46,15 +39,22 @@ expunge_back uid r h =
     let w = h.first in
     let a = decimal uid in
     let all : r ≡ (w.front ++ a) ++ crlf =
-      h.whole ∙ ap (λ (v : List ℕ). v ++ h.back) (w.whole ∙ ap (λ (v : List ℕ). w.front ++ v) w.second.0) ∙ ap (λ (v : List ℕ). (w.front ++ a) ++ v) h.second in
-    (w.front, (a ++ 13 ∷ []) ++ 10 ∷ [], all ∙ regroup w.front a, w.first,
-      ((uid, 13), record {
-        front = a ++ 13 ∷ [];
-        back = 10 ∷ [];
-        whole = refl;
-        first = (refl, w.second.1, refl);
-        second = (word.LineFeed, (inl refl, refl), refl);
-      }))
+    h.whole ∙ ap (λ (v : List ℕ). v ++ h.back) (w.whole ∙ ap (λ (v : List ℕ). w.front ++ v) w.second.0) ∙ ap (λ (v : List ℕ). (w.front ++ a) ++ v) h.second in (
+      w.front,
+      (a ++ 13 ∷ []) ++ 10 ∷ [],
+      all ∙ regroup w.front a,
+      w.first,
+      (
+        (uid, 13),
+        record {
+          front = a ++ 13 ∷ [];
+          back = 10 ∷ [];
+          whole = refl;
+          first = (refl, w.second.1, refl);
+          second = (word.LineFeed, (inl refl, refl), refl);
+        },
+      ),
+    )
   where
     regroup : (y a : List ℕ) → (y ++ a) ++ crlf ≡ y ++ ((a ++ 13 ∷ []) ++ 10 ∷ [])
     regroup y a = simp append_assoc
@@ -69,7 +69,7 @@ move_forth c r h =
     let a = decimal u.0.0 in
     let front : u.1.front ≡ a ++ 32 ∷ [] = n.0 ∙ ap (λ (d : ℕ). a ++ d ∷ []) (space_of u.0.1 n.2) in
     let all : r ≡ h.0 ++ ((a ++ 32 ∷ []) ++ (s.0 ++ crlf)) =
-      h.2 ∙ ap (λ (v : List ℕ). h.0 ++ v) (u.1.whole ∙ ap (λ (v : List ℕ). v ++ u.1.back) front ∙ ap (λ (v : List ℕ). (a ++ 32 ∷ []) ++ v) s.1) in
+    h.2 ∙ ap (λ (v : List ℕ). h.0 ++ v) (u.1.whole ∙ ap (λ (v : List ℕ). v ++ u.1.back) front ∙ ap (λ (v : List ℕ). (a ++ 32 ∷ []) ++ v) s.1) in
     subst (λ (x : Command). Asks x r) (sym u.1.second.2)
     (then_of (h.0 ++ (a ++ (32 ∷ [] ++ s.0))) crlf r (all ∙ regroup h.0 a s.0)
     (then_of h.0 (a ++ (32 ∷ [] ++ s.0)) (h.0 ++ (a ++ (32 ∷ [] ++ s.0))) refl h.3
@@ -85,17 +85,24 @@ move_back uid name r h =
     let s = n.second in
     let a = decimal uid in
     let all : r ≡ (w.front ++ (a ++ (32 ∷ [] ++ s.back))) ++ crlf =
-      h.whole ∙ ap (λ (v : List ℕ). v ++ h.back) (w.whole ∙ ap (λ (v : List ℕ). w.front ++ v)
-      (n.whole ∙ ap (λ (v : List ℕ). v ++ n.back) n.first.0 ∙ ap (λ (v : List ℕ). a ++ v) (s.whole ∙ ap (λ (v : List ℕ). v ++ s.back) s.first)))
-      ∙ ap (λ (v : List ℕ). (w.front ++ (a ++ (32 ∷ [] ++ s.back))) ++ v) h.second in
-    (w.front, (a ++ 32 ∷ []) ++ (s.back ++ crlf), all ∙ regroup w.front a s.back, w.first,
-      ((uid, 32), record {
-        front = a ++ 32 ∷ [];
-        back = s.back ++ crlf;
-        whole = refl;
-        first = (refl, n.first.1, refl);
-        second = (name, (s.back, refl, s.second), refl);
-      }))
+    h.whole ∙ ap (λ (v : List ℕ). v ++ h.back) (w.whole ∙ ap (λ (v : List ℕ). w.front ++ v)
+    (n.whole ∙ ap (λ (v : List ℕ). v ++ n.back) n.first.0 ∙ ap (λ (v : List ℕ). a ++ v) (s.whole ∙ ap (λ (v : List ℕ). v ++ s.back) s.first)))
+    ∙ ap (λ (v : List ℕ). (w.front ++ (a ++ (32 ∷ [] ++ s.back))) ++ v) h.second in (
+      w.front,
+      (a ++ 32 ∷ []) ++ (s.back ++ crlf),
+      all ∙ regroup w.front a s.back,
+      w.first,
+      (
+        (uid, 32),
+        record {
+          front = a ++ 32 ∷ [];
+          back = s.back ++ crlf;
+          whole = refl;
+          first = (refl, n.first.1, refl);
+          second = (name, (s.back, refl, s.second), refl);
+        },
+      ),
+    )
   where
     regroup : (y a s : List ℕ) → (y ++ (a ++ (32 ∷ [] ++ s))) ++ crlf ≡ y ++ ((a ++ 32 ∷ []) ++ (s ++ crlf))
     regroup y a s = simp append_assoc
@@ -110,10 +117,13 @@ store_asks uid add flags ns y q r w le k f e = by add k
   where
     a : List ℕ
     a = decimal uid
+
     p : List ℕ
     p = 40 ∷ joined ns ++ 41 ∷ []
+
     regroup : (y a q n : List ℕ) → y ++ ((a ++ 32 ∷ []) ++ ((q ++ 40 ∷ []) ++ ((n ++ 41 ∷ []) ++ crlf))) ≡ (y ++ (a ++ ((32 ∷ q) ++ (40 ∷ n ++ 41 ∷ [])))) ++ crlf
     regroup y a q n = simp append_assoc
+
     by : (add : Bool) → IsWord (cond add (codes "+flags ") (codes "-flags ")) q → Asks (command.Store uid add flags) r
     by true k = then_of (y ++ (a ++ ((32 ∷ q) ++ p))) crlf r (e ∙ regroup y a q (joined ns))
         (then_of y (a ++ ((32 ∷ q) ++ p)) (y ++ (a ++ ((32 ∷ q) ++ p))) refl w
@@ -144,9 +154,9 @@ store_forth c r h =
     let a = decimal u.0.0 in
     let front : u.1.front ≡ a ++ 32 ∷ [] = n.0 ∙ ap (λ (d : ℕ). a ++ d ∷ []) (space_of u.0.1 n.2) in
     let all : r ≡ h.0 ++ ((a ++ 32 ∷ []) ++ ((q.0 ++ 40 ∷ []) ++ ((joined fs.0 ++ 41 ∷ []) ++ crlf))) =
-      h.2 ∙ ap (λ (v : List ℕ). h.0 ++ v) (u.1.whole ∙ ap (λ (v : List ℕ). v ++ u.1.back) front ∙ ap (λ (v : List ℕ). (a ++ 32 ∷ []) ++ v)
-      (k.1.whole ∙ ap (λ (v : List ℕ). v ++ k.1.back) q.1 ∙ ap (λ (v : List ℕ). (q.0 ++ 40 ∷ []) ++ v)
-      (f.1.whole ∙ ap (λ (v : List ℕ). v ++ f.1.back) fs.2 ∙ ap (λ (v : List ℕ). (joined fs.0 ++ 41 ∷ []) ++ v) (line_of f.1.back (fixed_word word.LineEnd e.0 f.1.back e.1))))) in
+    h.2 ∙ ap (λ (v : List ℕ). h.0 ++ v) (u.1.whole ∙ ap (λ (v : List ℕ). v ++ u.1.back) front ∙ ap (λ (v : List ℕ). (a ++ 32 ∷ []) ++ v)
+    (k.1.whole ∙ ap (λ (v : List ℕ). v ++ k.1.back) q.1 ∙ ap (λ (v : List ℕ). (q.0 ++ 40 ∷ []) ++ v)
+    (f.1.whole ∙ ap (λ (v : List ℕ). v ++ f.1.back) fs.2 ∙ ap (λ (v : List ℕ). (joined fs.0 ++ 41 ∷ []) ++ v) (line_of f.1.back (fixed_word word.LineEnd e.0 f.1.back e.1))))) in
     subst (λ (x : Command). Asks x r) (sym e.2)
     (store_asks u.0.0 (is_add k.0) f.0 fs.0 h.0 q.0 r h.3 n.1 q.2 (fs.0, (fs.1, refl), fs.3) all)
 
@@ -156,27 +166,40 @@ store_parts : (uid : ℕ) (k : FixedText) (add : Bool) (flags : List (List ℕ))
 store_parts uid k add flags y q f r one same w le h ns e =
     let a = decimal uid in
     let n = joined ns.0 in
-    let tail : List ℕ = (n ++ 41 ∷ []) ++ crlf in
-    (y, (a ++ 32 ∷ []) ++ ((q ++ 40 ∷ []) ++ tail), e ∙ ap (λ (v : List ℕ). (y ++ (a ++ ((32 ∷ q) ++ v))) ++ crlf) ns.1.1 ∙ regroup y a q n, w,
-      ((uid, 32), record {
-        front = a ++ 32 ∷ [];
-        back = (q ++ 40 ∷ []) ++ tail;
-        whole = refl;
-        first = (refl, le, refl);
-        second = (k, record {
-          front = q ++ 40 ∷ [];
-          back = tail;
+    let tail : List ℕ = (n ++ 41 ∷ []) ++ crlf in (
+      y,
+      (a ++ 32 ∷ []) ++ ((q ++ 40 ∷ []) ++ tail),
+      e ∙ ap (λ (v : List ℕ). (y ++ (a ++ ((32 ∷ q) ++ v))) ++ crlf) ns.1.1 ∙ regroup y a q n,
+      w,
+      (
+        (uid, 32),
+        record {
+          front = a ++ 32 ∷ [];
+          back = (q ++ 40 ∷ []) ++ tail;
           whole = refl;
-          first = (one, h);
-          second = (flags, record {
-            front = n ++ 41 ∷ [];
-            back = crlf;
-            whole = refl;
-            first = (ns.0, ns.1.0, refl, ns.2);
-            second = (word.LineEnd, (inl refl, refl), ap (λ (b : Bool). command.Store uid b flags) (sym same));
-          });
-        });
-      }))
+          first = (refl, le, refl);
+          second = (
+            k,
+            record {
+              front = q ++ 40 ∷ [];
+              back = tail;
+              whole = refl;
+              first = (one, h);
+              second = (
+                flags,
+                record {
+                  front = n ++ 41 ∷ [];
+                  back = crlf;
+                  whole = refl;
+                  first = (ns.0, ns.1.0, refl, ns.2);
+                  second = (word.LineEnd, (inl refl, refl), ap (λ (b : Bool). command.Store uid b flags) (sym same));
+                },
+              );
+            },
+          );
+        },
+      ),
+    )
   where
     regroup : (y a q n : List ℕ) → (y ++ (a ++ ((32 ∷ q) ++ (40 ∷ n ++ 41 ∷ [])))) ++ crlf ≡ y ++ ((a ++ 32 ∷ []) ++ ((q ++ 40 ∷ []) ++ ((n ++ 41 ∷ []) ++ crlf)))
     regroup y a q n = simp append_assoc

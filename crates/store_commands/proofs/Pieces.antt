@@ -1,10 +1,10 @@
 -- The pieces in which a command is sent, as texts in which literals show.
-use Rattle.std.proofs.Common.{◌≡◌, ℕ, suc, ◌+◌, ◌<◌, ◌≤◌, List, [], ◌∷◌, ◌++◌, length, map, refl, sym, ap, subst, ◌∙◌, append_assoc, arith}
+use Rattle.std.proofs.Common.{◌≡◌, ℕ, ◌+◌, ◌≤◌, List, [], ◌∷◌, ◌++◌, length, refl, sym, ap, ◌∙◌, append_assoc, arith}
 use Rattle.std.specs.Fmt.{decimal}
 use Rattle.std.proofs.lemmas.List.{append-nil, map-append}
 use Rattle.imap_syntax.proofs.EachLemmas.{each_to, each_append}
 use Rattle.imap_syntax.specs.Octets.{is_digit}
-use Rattle.imap_syntax.specs.Texts.{Each, crlf, plain_of, plain_octets, literal_limit}
+use Rattle.imap_syntax.specs.Texts.{crlf, plain_of, plain_octets, literal_limit}
 use Rattle.imap_syntax.specs.Commands.{Part, Plain, Literal, literal_head, put_before, pieces_of, joined_pieces}
 use Rattle.imap_values.proofs.Cuts.{plain_small, digit_small}
 use Rattle.command_parts.specs.Fields.{fits_octet, AreOctets, EndsWithHead}
@@ -135,6 +135,6 @@ cut_at (Literal t ∷ ps) s (r ∷ sent) left h e some =
     let rest : put_before t (pieces_of ps) ≡ (r ∷ sent) ++ left = cc in
     let k = taken t (pieces_of ps) r sent left rest some in
     let same : joined_pieces (s ∷ r ∷ sent) ≡ (literal_head t ++ t) ++ joined_pieces (k.first ∷ k.rest) =
-      ap (λ (u : List ℕ). u ++ joined_pieces (r ∷ sent)) (sym first) ∙ ap (λ (u : List ℕ). literal_head t ++ u) k.same
-      ∙ sym (append_assoc (literal_head t) t (joined_pieces (k.first ∷ k.rest))) in
+    ap (λ (u : List ℕ). u ++ joined_pieces (r ∷ sent)) (sym first) ∙ ap (λ (u : List ℕ). literal_head t ++ u) k.same
+    ∙ sym (append_assoc (literal_head t) t (joined_pieces (k.first ∷ k.rest))) in
     cut_behind (Literal t) (literal_head t ++ t) ps (s ∷ r ∷ sent) (k.first ∷ k.rest) (plain_literal t h.0.1) same (cut_at ps k.first k.rest left h.1 k.whole some)

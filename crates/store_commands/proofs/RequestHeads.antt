@@ -1,6 +1,6 @@
 -- In a command's text an LF before the end is that of a literal's head.
-use Rattle.std.proofs.Common.{◌≡◌, ℕ, suc, Bool, true, false, List, [], ◌∷◌, ◌++◌, Option, Some, None, refl, sym, ap, subst, ◌∙◌, append_assoc, arith, inl, inr}
-use Rattle.std.specs.Prelude.{◌⊎◌, ◌==◌, codes}
+use Rattle.std.proofs.Common.{◌≡◌, ℕ, Bool, true, false, List, [], ◌∷◌, ◌++◌, Option, Some, None, refl, sym, ap, ◌∙◌, append_assoc, arith, inl, inr}
+use Rattle.std.specs.Prelude.{◌==◌, codes}
 use Rattle.std.proofs.lemmas.List.{append-nil}
 use Rattle.imap_syntax.proofs.EachLemmas.{each_to}
 use Rattle.imap_syntax.specs.declared.command.Command.{Command}
@@ -124,14 +124,17 @@ front_headed tag c t more h proper line = elim (seam t more x crlf cut) [
   where
     x : List ℕ
     x = (tag ++ 32 ∷ []) ++ h.asks.front
+
     headed : Headed x
     headed = join_headed (tag ++ 32 ∷ []) h.asks.front
         (join_headed tag (32 ∷ []) (other_headed tag (each_to is_alnum is_other tag alnum_other h.tag_is.0)) (space_headed (32 ∷ []) refl))
         (request_headed c h.asks.front h.asks.first)
+
     cut : t ++ more ≡ x ++ crlf
     cut =
         h.whole ∙ ap (λ (u : List ℕ). tag ++ 32 ∷ u) (h.asks.whole ∙ ap (λ (u : List ℕ). h.asks.front ++ u) h.asks.second)
         ∙ sym (append_assoc (tag ++ 32 ∷ []) h.asks.front crlf ∙ append_assoc tag (32 ∷ []) (h.asks.front ++ crlf))
+
     behind : (z : List ℕ) → t ≡ x ++ z → crlf ≡ z ++ more → EndsWithHead t
     behind [] f g = headed t [] (sym (append-nil x) ∙ sym f ∙ sym (append-nil t)) line
     behind (d ∷ []) f g =

@@ -1,27 +1,23 @@
 -- The parts of SELECT and APPEND are what the grammar says of them.
-use Rattle.std.proofs.Common.{◌≡◌, ℕ, suc, ◌+◌, ◌≤◌, Bool, true, false, ◌||◌, List, [], ◌∷◌, ◌++◌, map, cond, Option, Some, None, refl, sym, ap, subst, ◌∙◌, append_assoc, inl, inr}
-use Rattle.std.specs.Prelude.{◌⊎◌, ◌==◌, ℤ, codes}
+use Rattle.std.proofs.Common.{◌≡◌, ℕ, ◌+◌, ◌≤◌, Bool, true, false, ◌||◌, List, [], ◌∷◌, ◌++◌, Option, Some, None, refl, sym, ap, subst, ◌∙◌, append_assoc, inl, inr}
+use Rattle.std.specs.Prelude.{◌==◌, ℤ, codes}
 use Rattle.std.specs.Fmt.{decimal}
 use Rattle.std.proofs.lemmas.Bool.{eqb-true, or_cases, both_ways}
 use Rattle.std.proofs.lemmas.List.{append-nil}
 use Rattle.imap_syntax.specs.declared.command.Command.{Command}
 use Rattle.imap_syntax.specs.declared.command.Command.TheVariants as command
-use Rattle.imap_syntax.specs.Octets.{lower}
-use Rattle.imap_syntax.specs.Texts.{Then, IsWord, crlf, IsCrlf}
+use Rattle.imap_syntax.specs.Texts.{IsWord, crlf}
 use Rattle.imap_syntax.specs.Lines.{joined}
 use Rattle.imap_syntax.specs.Strings.{IsCounted}
 use Rattle.imap_syntax.specs.Items.{IsNames, kept}
 use Rattle.imap_syntax.specs.DateTimes.{IsDateTime}
-use Rattle.command_parts.specs.Fields.{◌▷◌, IsSpace, IsPlainNumber, IsUnsigned, IsFolderName, IsFlagList}
-use Rattle.store_commands.specs.Requests.{IsSelectParameter, IsRequest}
+use Rattle.command_parts.specs.Fields.{IsFolderName}
 use Rattle.command_parts.specs.declared.follow.Follow.TheVariants as follow
 use Rattle.command_parts.specs.declared.fixed_text.FixedText.TheVariants as word
-use Rattle.command_parts.specs.reading.FixedTexts.{fixed_text}
 use Rattle.command_parts.specs.reading.Lexemes.{may_follow}
-use Rattle.command_parts.proofs.Choosing.{OneOf, Choices}
 use Rattle.command_parts.proofs.Parts.{fixed_word, line_feed}
-use Rattle.store_commands.proofs.FolderCommands.{Known, Selected, Ended, SelectArguments, AppendArguments, Dated, Message, Marked}
-use Rattle.store_commands.proofs.FolderSpelling.{then_of, word_join, word_split, sign_word, space_of, carriage_of, line_of, Asks, Spelled}
+use Rattle.store_commands.proofs.FolderCommands.{Known, Selected, SelectArguments, AppendArguments, Marked}
+use Rattle.store_commands.proofs.FolderSpelling.{then_of, word_split, sign_word, space_of, carriage_of, Asks, Spelled}
 
 -- ---- SELECT
 
@@ -45,9 +41,9 @@ known_forth known t h =
     let second : m.1.front ≡ decimal m.0.0 ++ 41 ∷ [] = b.0 ∙ ap (λ (d : ℕ). decimal m.0.0 ++ d ∷ []) (eqb-true m.0.1 41 b.2) in
     let last : m.1.back ≡ 41 ∷ 13 ∷ 10 ∷ [] = sign_word (41 ∷ 13 ∷ 10 ∷ []) m.1.back refl (fixed_word word.KnownEnd e.0 m.1.back e.1) in
     let all : t ≡ k.front ++ ((decimal n.0.0 ++ 32 ∷ []) ++ ((decimal m.0.0 ++ 41 ∷ []) ++ 41 ∷ 13 ∷ 10 ∷ [])) =
-      k.whole ∙ ap (λ (v : List ℕ). k.front ++ v)
-      (n.1.whole ∙ ap (λ (v : List ℕ). v ++ n.1.back) first ∙ ap (λ (v : List ℕ). (decimal n.0.0 ++ 32 ∷ []) ++ v)
-      (m.1.whole ∙ ap (λ (v : List ℕ). v ++ m.1.back) second ∙ ap (λ (v : List ℕ). (decimal m.0.0 ++ 41 ∷ []) ++ v) last)) in
+    k.whole ∙ ap (λ (v : List ℕ). k.front ++ v)
+    (n.1.whole ∙ ap (λ (v : List ℕ). v ++ n.1.back) first ∙ ap (λ (v : List ℕ). (decimal n.0.0 ++ 32 ∷ []) ++ v)
+    (m.1.whole ∙ ap (λ (v : List ℕ). v ++ m.1.back) second ∙ ap (λ (v : List ℕ). (decimal m.0.0 ++ 41 ∷ []) ++ v) last)) in
     subst (λ (w : ℕ × ℕ). KnownText w t) (sym e.2) (record {
       start = k.front;
       whole = all ∙ regroup k.front (decimal n.0.0) (decimal m.0.0);
@@ -60,25 +56,34 @@ known_forth known t h =
     regroup q a b = simp append_assoc
 
 known_back : (known : ℕ × ℕ) (t : List ℕ) → KnownText known t → Known known t
-known_back known t h = (word.Qresync, record {
-  front = h.start;
-  back = (decimal known.0 ++ 32 ∷ []) ++ ((decimal known.1 ++ 41 ∷ []) ++ 41 ∷ 13 ∷ 10 ∷ []);
-  whole = h.whole ∙ regroup h.start (decimal known.0) (decimal known.1);
-  first = (inl refl, h.word_is);
-  second = ((known.0, 32), record {
-    front = decimal known.0 ++ 32 ∷ [];
-    back = (decimal known.1 ++ 41 ∷ []) ++ 41 ∷ 13 ∷ 10 ∷ [];
-    whole = refl;
-    first = (refl, h.validity, refl);
-    second = ((known.1, 41), record {
-      front = decimal known.1 ++ 41 ∷ [];
-      back = 41 ∷ 13 ∷ 10 ∷ [];
-      whole = refl;
-      first = (refl, h.modseq, refl);
-      second = (word.KnownEnd, (inl refl, refl), refl);
-    });
-  });
-})
+known_back known t h = (
+  word.Qresync,
+  record {
+    front = h.start;
+    back = (decimal known.0 ++ 32 ∷ []) ++ ((decimal known.1 ++ 41 ∷ []) ++ 41 ∷ 13 ∷ 10 ∷ []);
+    whole = h.whole ∙ regroup h.start (decimal known.0) (decimal known.1);
+    first = (inl refl, h.word_is);
+    second = (
+      (known.0, 32),
+      record {
+        front = decimal known.0 ++ 32 ∷ [];
+        back = (decimal known.1 ++ 41 ∷ []) ++ 41 ∷ 13 ∷ 10 ∷ [];
+        whole = refl;
+        first = (refl, h.validity, refl);
+        second = (
+          (known.1, 41),
+          record {
+            front = decimal known.1 ++ 41 ∷ [];
+            back = 41 ∷ 13 ∷ 10 ∷ [];
+            whole = refl;
+            first = (refl, h.modseq, refl);
+            second = (word.KnownEnd, (inl refl, refl), refl);
+          },
+        );
+      },
+    );
+  },
+)
   where
     regroup : (q a b : List ℕ) → q ++ (a ++ 32 ∷ (b ++ 41 ∷ 41 ∷ 13 ∷ 10 ∷ [])) ≡ q ++ ((a ++ 32 ∷ []) ++ ((b ++ 41 ∷ []) ++ 41 ∷ 13 ∷ 10 ∷ []))
     regroup q a b = simp append_assoc
@@ -116,12 +121,16 @@ select_forth c r h = by (u.0.1 == 32) refl u.1.second
   where
     u : SelectArguments c h.1
     u = h.4
+
     n : (x : List ℕ) × (u.1.front ≡ x ++ u.0.1 ∷ []) × IsFolderName u.0.0 x × (may_follow follow.SpaceOrLine u.0.1 ≡ true)
     n = u.1.first
+
     all : (d : ℕ) → u.0.1 ≡ d → r ≡ h.0 ++ ((n.0 ++ d ∷ []) ++ u.1.back)
     all d e = h.2 ∙ ap (λ (v : List ℕ). h.0 ++ v) (u.1.whole ∙ ap (λ (v : List ℕ). v ++ u.1.back) (n.1 ∙ ap (λ (i : ℕ). n.0 ++ i ∷ []) e))
+
     carriage : (c : ℕ) → (c == 32 || c == 13) ≡ true → (c == 32) ≡ false → c ≡ 13
     carriage c e f = elim (or_cases (c == 32) (c == 13) e) [ inl g ↦ absurd (both_ways (c == 32) f g) | inr g ↦ eqb-true c 13 g ]
+
     by : (a : Bool) → (u.0.1 == 32) ≡ a → Selected a u.0.0 c u.1.back → Asks c r
     by true e s =
         let k = known_forth s.0 u.1.back s.1 in
@@ -136,15 +145,22 @@ select_back name None r h =
     let w = h.first in
     let x = w.second in
     let whole : r ≡ (w.front ++ (x.front ++ [])) ++ crlf =
-      h.whole ∙ ap (λ (v : List ℕ). v ++ h.back) (w.whole ∙ ap (λ (v : List ℕ). w.front ++ v) (x.whole ∙ ap (λ (v : List ℕ). x.front ++ v) x.second)) ∙ ap (λ (v : List ℕ). (w.front ++ (x.front ++ [])) ++ v) h.second in
-    (w.front, (x.front ++ 13 ∷ []) ++ 10 ∷ [], whole ∙ regroup w.front x.front, w.first,
-      ((name, 13), record {
-        front = x.front ++ 13 ∷ [];
-        back = 10 ∷ [];
-        whole = refl;
-        first = (x.front, refl, x.first, refl);
-        second = (word.LineFeed, (inl refl, refl), refl);
-      }))
+    h.whole ∙ ap (λ (v : List ℕ). v ++ h.back) (w.whole ∙ ap (λ (v : List ℕ). w.front ++ v) (x.whole ∙ ap (λ (v : List ℕ). x.front ++ v) x.second)) ∙ ap (λ (v : List ℕ). (w.front ++ (x.front ++ [])) ++ v) h.second in (
+      w.front,
+      (x.front ++ 13 ∷ []) ++ 10 ∷ [],
+      whole ∙ regroup w.front x.front,
+      w.first,
+      (
+        (name, 13),
+        record {
+          front = x.front ++ 13 ∷ [];
+          back = 10 ∷ [];
+          whole = refl;
+          first = (x.front, refl, x.first, refl);
+          second = (word.LineFeed, (inl refl, refl), refl);
+        },
+      ),
+    )
   where
     regroup : (y x : List ℕ) → (y ++ (x ++ [])) ++ crlf ≡ y ++ ((x ++ 13 ∷ []) ++ 10 ∷ [])
     regroup y x = ap (λ (u : List ℕ). (y ++ u) ++ crlf) (append-nil x) ∙ append_assoc y x crlf ∙ sym (ap (λ (u : List ℕ). y ++ u) (append_assoc x (13 ∷ []) (10 ∷ [])))
@@ -159,22 +175,29 @@ select_back name (Some known) r h =
     let space : q.front ≡ 32 ∷ cut.1 = cut.2 ∙ ap (λ (v : List ℕ). v ++ cut.1) (sign_word (32 ∷ []) cut.0 refl cut.3) in
     let close : b.back ≡ 41 ∷ 41 ∷ [] = sign_word (41 ∷ 41 ∷ []) b.back refl b.second in
     let inner : x.back ≡ (32 ∷ cut.1) ++ (decimal known.0 ++ (32 ∷ [] ++ (decimal known.1 ++ 41 ∷ 41 ∷ []))) =
-      q.whole ∙ ap (λ (v : List ℕ). v ++ q.back) space ∙ ap (λ (v : List ℕ). (32 ∷ cut.1) ++ v)
-      (a.whole ∙ ap (λ (v : List ℕ). v ++ a.back) a.first.0 ∙ ap (λ (v : List ℕ). decimal known.0 ++ v)
-      (s.whole ∙ ap (λ (v : List ℕ). v ++ s.back) s.first ∙ ap (λ (v : List ℕ). 32 ∷ [] ++ v)
-      (b.whole ∙ ap (λ (v : List ℕ). v ++ b.back) b.first.0 ∙ ap (λ (v : List ℕ). decimal known.1 ++ v) close))) in
+    q.whole ∙ ap (λ (v : List ℕ). v ++ q.back) space ∙ ap (λ (v : List ℕ). (32 ∷ cut.1) ++ v)
+    (a.whole ∙ ap (λ (v : List ℕ). v ++ a.back) a.first.0 ∙ ap (λ (v : List ℕ). decimal known.0 ++ v)
+    (s.whole ∙ ap (λ (v : List ℕ). v ++ s.back) s.first ∙ ap (λ (v : List ℕ). 32 ∷ [] ++ v)
+    (b.whole ∙ ap (λ (v : List ℕ). v ++ b.back) b.first.0 ∙ ap (λ (v : List ℕ). decimal known.1 ++ v) close))) in
     let whole : r ≡ (w.front ++ (x.front ++ ((32 ∷ cut.1) ++ (decimal known.0 ++ (32 ∷ [] ++ (decimal known.1 ++ 41 ∷ 41 ∷ [])))))) ++ crlf =
-      h.whole ∙ ap (λ (v : List ℕ). v ++ h.back) (w.whole ∙ ap (λ (v : List ℕ). w.front ++ v) (x.whole ∙ ap (λ (v : List ℕ). x.front ++ v) inner))
-      ∙ ap (λ (v : List ℕ). (w.front ++ (x.front ++ ((32 ∷ cut.1) ++ (decimal known.0 ++ (32 ∷ [] ++ (decimal known.1 ++ 41 ∷ 41 ∷ [])))))) ++ v) h.second in
-    let tail : List ℕ = cut.1 ++ (decimal known.0 ++ 32 ∷ (decimal known.1 ++ 41 ∷ 41 ∷ 13 ∷ 10 ∷ [])) in
-    (w.front, (x.front ++ 32 ∷ []) ++ tail, whole ∙ regroup w.front x.front cut.1 (decimal known.0) (decimal known.1), w.first,
-      ((name, 32), record {
-        front = x.front ++ 32 ∷ [];
-        back = tail;
-        whole = refl;
-        first = (x.front, refl, x.first, refl);
-        second = (known, known_back known tail (record { start = cut.1; whole = refl; word_is = cut.4; validity = a.first.1; modseq = b.first.1 }), refl);
-      }))
+    h.whole ∙ ap (λ (v : List ℕ). v ++ h.back) (w.whole ∙ ap (λ (v : List ℕ). w.front ++ v) (x.whole ∙ ap (λ (v : List ℕ). x.front ++ v) inner))
+    ∙ ap (λ (v : List ℕ). (w.front ++ (x.front ++ ((32 ∷ cut.1) ++ (decimal known.0 ++ (32 ∷ [] ++ (decimal known.1 ++ 41 ∷ 41 ∷ [])))))) ++ v) h.second in
+    let tail : List ℕ = cut.1 ++ (decimal known.0 ++ 32 ∷ (decimal known.1 ++ 41 ∷ 41 ∷ 13 ∷ 10 ∷ [])) in (
+      w.front,
+      (x.front ++ 32 ∷ []) ++ tail,
+      whole ∙ regroup w.front x.front cut.1 (decimal known.0) (decimal known.1),
+      w.first,
+      (
+        (name, 32),
+        record {
+          front = x.front ++ 32 ∷ [];
+          back = tail;
+          whole = refl;
+          first = (x.front, refl, x.first, refl);
+          second = (known, known_back known tail (record { start = cut.1; whole = refl; word_is = cut.4; validity = a.first.1; modseq = b.first.1 }), refl);
+        },
+      ),
+    )
   where
     regroup : (y x q a b : List ℕ) → (y ++ (x ++ ((32 ∷ q) ++ (a ++ (32 ∷ [] ++ (b ++ 41 ∷ 41 ∷ [])))))) ++ crlf ≡ y ++ ((x ++ 32 ∷ []) ++ (q ++ (a ++ 32 ∷ (b ++ 41 ∷ 41 ∷ 13 ∷ 10 ∷ []))))
     regroup y x q a b = simp append_assoc
@@ -212,33 +235,38 @@ append_text g c t h =
     let literal : List ℕ = 123 ∷ l.digits ++ 125 ∷ 13 ∷ 10 ∷ l.octets in
     let last : s.1.front ≡ l.digits ++ 125 ∷ 13 ∷ 10 ∷ (l.octets ++ 13 ∷ []) = l.whole ∙ ap (λ (n : ℕ). l.digits ++ 125 ∷ 13 ∷ 10 ∷ (l.octets ++ n ∷ [])) stop in
     let all : t ≡ 40 ∷ [] ++ ((joined fs.0 ++ 41 ∷ []) ++ (32 ∷ [] ++ (d.1.front ++ (32 ∷ 123 ∷ [] ++ ((l.digits ++ 125 ∷ 13 ∷ 10 ∷ (l.octets ++ 13 ∷ [])) ++ 10 ∷ []))))) =
-      o.whole ∙ ap (λ (v : List ℕ). v ++ o.back) open_is ∙ ap (λ (v : List ℕ). 40 ∷ [] ++ v)
-      (f.1.whole ∙ ap (λ (v : List ℕ). v ++ f.1.back) fs.2 ∙ ap (λ (v : List ℕ). (joined fs.0 ++ 41 ∷ []) ++ v)
-      (p.1.whole ∙ ap (λ (v : List ℕ). v ++ p.1.back) space_is ∙ ap (λ (v : List ℕ). 32 ∷ [] ++ v)
-      (d.1.whole ∙ ap (λ (v : List ℕ). d.1.front ++ v)
-      (m.1.whole ∙ ap (λ (v : List ℕ). v ++ m.1.back) brace_is ∙ ap (λ (v : List ℕ). 32 ∷ 123 ∷ [] ++ v)
-      (s.1.whole ∙ ap (λ (v : List ℕ). v ++ s.1.back) last ∙ ap (λ (v : List ℕ). (l.digits ++ 125 ∷ 13 ∷ 10 ∷ (l.octets ++ 13 ∷ [])) ++ v) feed))))) in
-    (f.0, d.0, s.0, e.2, record {
-      names = fs.0;
-      date_text = d.1.front;
-      literal = literal;
-      whole = all ∙ regroup (joined fs.0) d.1.front l.digits l.octets;
-      names_are = (fs.1, refl);
-      flags_are = fs.3;
-      date_is = d.1.first;
-      message_is = record {
-        digits = l.digits;
-        octets = l.octets;
-        whole = refl;
-        are_digits = l.are_digits;
-        some = l.some;
-        few = l.few;
-        counted = l.counted;
-        most = l.most;
-        inside = l.inside;
-        string = l.string;
-      };
-    })
+    o.whole ∙ ap (λ (v : List ℕ). v ++ o.back) open_is ∙ ap (λ (v : List ℕ). 40 ∷ [] ++ v)
+    (f.1.whole ∙ ap (λ (v : List ℕ). v ++ f.1.back) fs.2 ∙ ap (λ (v : List ℕ). (joined fs.0 ++ 41 ∷ []) ++ v)
+    (p.1.whole ∙ ap (λ (v : List ℕ). v ++ p.1.back) space_is ∙ ap (λ (v : List ℕ). 32 ∷ [] ++ v)
+    (d.1.whole ∙ ap (λ (v : List ℕ). d.1.front ++ v)
+    (m.1.whole ∙ ap (λ (v : List ℕ). v ++ m.1.back) brace_is ∙ ap (λ (v : List ℕ). 32 ∷ 123 ∷ [] ++ v)
+    (s.1.whole ∙ ap (λ (v : List ℕ). v ++ s.1.back) last ∙ ap (λ (v : List ℕ). (l.digits ++ 125 ∷ 13 ∷ 10 ∷ (l.octets ++ 13 ∷ [])) ++ v) feed))))) in (
+      f.0,
+      d.0,
+      s.0,
+      e.2,
+      record {
+        names = fs.0;
+        date_text = d.1.front;
+        literal = literal;
+        whole = all ∙ regroup (joined fs.0) d.1.front l.digits l.octets;
+        names_are = (fs.1, refl);
+        flags_are = fs.3;
+        date_is = d.1.first;
+        message_is = record {
+          digits = l.digits;
+          octets = l.octets;
+          whole = refl;
+          are_digits = l.are_digits;
+          some = l.some;
+          few = l.few;
+          counted = l.counted;
+          most = l.most;
+          inside = l.inside;
+          string = l.string;
+        };
+      },
+    )
   where
     regroup : (n d g o : List ℕ) → 40 ∷ [] ++ ((n ++ 41 ∷ []) ++ (32 ∷ [] ++ (d ++ (32 ∷ 123 ∷ [] ++ ((g ++ 125 ∷ 13 ∷ 10 ∷ (o ++ 13 ∷ [])) ++ 10 ∷ [])))))
         ≡ (40 ∷ n ++ 41 ∷ []) ++ (32 ∷ d ++ (32 ∷ (123 ∷ g ++ 125 ∷ 13 ∷ 10 ∷ o) ++ crlf))
@@ -248,59 +276,76 @@ text_append : (g : List (List ℕ) → ℤ → List ℕ → Command) (flags : Li
 text_append g flags date message t h =
     let l = h.message_is in
     let last : List ℕ = (l.digits ++ 125 ∷ 13 ∷ 10 ∷ (l.octets ++ 13 ∷ [])) ++ 10 ∷ [] in
-    let dated : List ℕ = h.date_text ++ (32 ∷ 123 ∷ [] ++ last) in
-    (word.Open, record {
-      front = 40 ∷ [];
-      back = (joined h.names ++ 41 ∷ []) ++ (32 ∷ [] ++ dated);
-      whole =
-          h.whole ∙ ap (λ (v : List ℕ). (40 ∷ joined h.names ++ 41 ∷ []) ++ (32 ∷ h.date_text ++ (32 ∷ v ++ crlf))) l.whole
-          ∙ regroup (joined h.names) h.date_text l.digits l.octets;
-      first = (inl refl, refl);
-      second = (flags, record {
-        front = joined h.names ++ 41 ∷ [];
-        back = 32 ∷ [] ++ dated;
-        whole = refl;
-        first = (h.names, h.names_are.0, refl, h.flags_are);
-        second = (word.Space, record {
-          front = 32 ∷ [];
-          back = dated;
-          whole = refl;
-          first = (inl refl, refl);
-          second = (date, record {
-            front = h.date_text;
-            back = 32 ∷ 123 ∷ [] ++ last;
+    let dated : List ℕ = h.date_text ++ (32 ∷ 123 ∷ [] ++ last) in (
+      word.Open,
+      record {
+        front = 40 ∷ [];
+        back = (joined h.names ++ 41 ∷ []) ++ (32 ∷ [] ++ dated);
+        whole =
+            h.whole ∙ ap (λ (v : List ℕ). (40 ∷ joined h.names ++ 41 ∷ []) ++ (32 ∷ h.date_text ++ (32 ∷ v ++ crlf))) l.whole
+            ∙ regroup (joined h.names) h.date_text l.digits l.octets;
+        first = (inl refl, refl);
+        second = (
+          flags,
+          record {
+            front = joined h.names ++ 41 ∷ [];
+            back = 32 ∷ [] ++ dated;
             whole = refl;
-            first = h.date_is;
-            second = (word.LiteralOpen, record {
-              front = 32 ∷ 123 ∷ [];
-              back = last;
-              whole = refl;
-              first = (inl refl, refl);
-              second = (message, record {
-                front = l.digits ++ 125 ∷ 13 ∷ 10 ∷ (l.octets ++ 13 ∷ []);
-                back = 10 ∷ [];
+            first = (h.names, h.names_are.0, refl, h.flags_are);
+            second = (
+              word.Space,
+              record {
+                front = 32 ∷ [];
+                back = dated;
                 whole = refl;
-                first = record {
-                  digits = l.digits;
-                  octets = l.octets;
-                  stop = 13;
-                  whole = refl;
-                  are_digits = l.are_digits;
-                  some = l.some;
-                  few = l.few;
-                  counted = l.counted;
-                  most = l.most;
-                  inside = l.inside;
-                  string = l.string;
-                  may = refl;
-                };
-                second = (word.LineFeed, (inl refl, refl), refl);
-              });
-            });
-          });
-        });
-      });
-    })
+                first = (inl refl, refl);
+                second = (
+                  date,
+                  record {
+                    front = h.date_text;
+                    back = 32 ∷ 123 ∷ [] ++ last;
+                    whole = refl;
+                    first = h.date_is;
+                    second = (
+                      word.LiteralOpen,
+                      record {
+                        front = 32 ∷ 123 ∷ [];
+                        back = last;
+                        whole = refl;
+                        first = (inl refl, refl);
+                        second = (
+                          message,
+                          record {
+                            front = l.digits ++ 125 ∷ 13 ∷ 10 ∷ (l.octets ++ 13 ∷ []);
+                            back = 10 ∷ [];
+                            whole = refl;
+                            first = record {
+                              digits = l.digits;
+                              octets = l.octets;
+                              stop = 13;
+                              whole = refl;
+                              are_digits = l.are_digits;
+                              some = l.some;
+                              few = l.few;
+                              counted = l.counted;
+                              most = l.most;
+                              inside = l.inside;
+                              string = l.string;
+                              may = refl;
+                            };
+                            second = (word.LineFeed, (inl refl, refl), refl);
+                          },
+                        );
+                      },
+                    );
+                  },
+                );
+              },
+            );
+          },
+        );
+      },
+    )
   where
     regroup : (n d g o : List ℕ) → (40 ∷ n ++ 41 ∷ []) ++ (32 ∷ d ++ (32 ∷ (123 ∷ g ++ 125 ∷ 13 ∷ 10 ∷ o) ++ crlf))
         ≡ 40 ∷ [] ++ ((n ++ 41 ∷ []) ++ (32 ∷ [] ++ (d ++ (32 ∷ 123 ∷ [] ++ ((g ++ 125 ∷ 13 ∷ 10 ∷ (o ++ 13 ∷ [])) ++ 10 ∷ [])))))
@@ -320,8 +365,8 @@ append_forth c r h =
     let p2 : List ℕ = 32 ∷ [] ++ p3 in
     let p1 : List ℕ = n.0 ++ p2 in
     let all : r ≡ h.0 ++ ((n.0 ++ 32 ∷ []) ++ (f ++ (32 ∷ t.date_text ++ (32 ∷ t.literal ++ crlf)))) =
-      h.2 ∙ ap (λ (v : List ℕ). h.0 ++ v)
-      (u.1.whole ∙ ap (λ (v : List ℕ). v ++ u.1.back) (n.1 ∙ ap (λ (i : ℕ). n.0 ++ i ∷ []) (space_of u.0.1 n.3)) ∙ ap (λ (v : List ℕ). (n.0 ++ 32 ∷ []) ++ v) t.whole) in
+    h.2 ∙ ap (λ (v : List ℕ). h.0 ++ v)
+    (u.1.whole ∙ ap (λ (v : List ℕ). v ++ u.1.back) (n.1 ∙ ap (λ (i : ℕ). n.0 ++ i ∷ []) (space_of u.0.1 n.3)) ∙ ap (λ (v : List ℕ). (n.0 ++ 32 ∷ []) ++ v) t.whole) in
     subst (λ (x : Command). Asks x r) (sym a.3)
     (then_of (h.0 ++ p1) crlf r (all ∙ regroup h.0 n.0 f t.date_text t.literal)
     (then_of h.0 p1 (h.0 ++ p1) refl h.3
@@ -348,29 +393,36 @@ append_back name flags date message r h =
     let ns = f.first in
     let ft : List ℕ = 40 ∷ joined ns.0 ++ 41 ∷ [] in
     let all : r ≡ (w.front ++ (n.front ++ (32 ∷ [] ++ (ft ++ (32 ∷ [] ++ (d.front ++ (32 ∷ [] ++ s3.back))))))) ++ crlf =
-      h.whole ∙ ap (λ (v : List ℕ). v ++ h.back) (w.whole ∙ ap (λ (v : List ℕ). w.front ++ v)
-      (n.whole ∙ ap (λ (v : List ℕ). n.front ++ v) (s1.whole ∙ ap (λ (v : List ℕ). v ++ s1.back) s1.first ∙ ap (λ (v : List ℕ). 32 ∷ [] ++ v)
-      (f.whole ∙ ap (λ (v : List ℕ). v ++ f.back) ns.1.1 ∙ ap (λ (v : List ℕ). ft ++ v) (s2.whole ∙ ap (λ (v : List ℕ). v ++ s2.back) s2.first ∙ ap (λ (v : List ℕ). 32 ∷ [] ++ v)
-      (d.whole ∙ ap (λ (v : List ℕ). d.front ++ v) (s3.whole ∙ ap (λ (v : List ℕ). v ++ s3.back) s3.first)))))))
-      ∙ ap (λ (v : List ℕ). (w.front ++ (n.front ++ (32 ∷ [] ++ (ft ++ (32 ∷ [] ++ (d.front ++ (32 ∷ [] ++ s3.back))))))) ++ v) h.second in
-    let tail : List ℕ = ft ++ (32 ∷ d.front ++ (32 ∷ s3.back ++ crlf)) in
-    (w.front, (n.front ++ 32 ∷ []) ++ tail, all ∙ regroup w.front n.front ft d.front s3.back, w.first,
-      ((name, 32), record {
-        front = n.front ++ 32 ∷ [];
-        back = tail;
-        whole = refl;
-        first = (n.front, refl, n.first, refl);
-        second = text_append (command.Append name) flags date message tail (record {
-          names = ns.0;
-          date_text = d.front;
-          literal = s3.back;
+    h.whole ∙ ap (λ (v : List ℕ). v ++ h.back) (w.whole ∙ ap (λ (v : List ℕ). w.front ++ v)
+    (n.whole ∙ ap (λ (v : List ℕ). n.front ++ v) (s1.whole ∙ ap (λ (v : List ℕ). v ++ s1.back) s1.first ∙ ap (λ (v : List ℕ). 32 ∷ [] ++ v)
+    (f.whole ∙ ap (λ (v : List ℕ). v ++ f.back) ns.1.1 ∙ ap (λ (v : List ℕ). ft ++ v) (s2.whole ∙ ap (λ (v : List ℕ). v ++ s2.back) s2.first ∙ ap (λ (v : List ℕ). 32 ∷ [] ++ v)
+    (d.whole ∙ ap (λ (v : List ℕ). d.front ++ v) (s3.whole ∙ ap (λ (v : List ℕ). v ++ s3.back) s3.first)))))))
+    ∙ ap (λ (v : List ℕ). (w.front ++ (n.front ++ (32 ∷ [] ++ (ft ++ (32 ∷ [] ++ (d.front ++ (32 ∷ [] ++ s3.back))))))) ++ v) h.second in
+    let tail : List ℕ = ft ++ (32 ∷ d.front ++ (32 ∷ s3.back ++ crlf)) in (
+      w.front,
+      (n.front ++ 32 ∷ []) ++ tail,
+      all ∙ regroup w.front n.front ft d.front s3.back,
+      w.first,
+      (
+        (name, 32),
+        record {
+          front = n.front ++ 32 ∷ [];
+          back = tail;
           whole = refl;
-          names_are = (ns.1.0, refl);
-          flags_are = ns.2;
-          date_is = d.first;
-          message_is = s3.second;
-        });
-      }))
+          first = (n.front, refl, n.first, refl);
+          second = text_append (command.Append name) flags date message tail (record {
+            names = ns.0;
+            date_text = d.front;
+            literal = s3.back;
+            whole = refl;
+            names_are = (ns.1.0, refl);
+            flags_are = ns.2;
+            date_is = d.first;
+            message_is = s3.second;
+          });
+        },
+      ),
+    )
   where
     regroup : (y n f d l : List ℕ) → (y ++ (n ++ (32 ∷ [] ++ (f ++ (32 ∷ [] ++ (d ++ (32 ∷ [] ++ l))))))) ++ crlf ≡ y ++ ((n ++ 32 ∷ []) ++ (f ++ (32 ∷ d ++ (32 ∷ l ++ crlf))))
     regroup y n f d l = simp append_assoc

@@ -1,17 +1,14 @@
 -- The parts of a command are what the grammar says of it, so it is read as what it is.
-use Rattle.std.proofs.Common.{◌≡◌, ℕ, Bool, true, false, List, [], ◌∷◌, ◌++◌, Option, Some, None, refl, sym, ap, subst, ◌∙◌, append_assoc, inl, inr}
-use Rattle.std.specs.Prelude.{◌⊎◌, Result, Ok, Err}
+use Rattle.std.proofs.Common.{ℕ, true, false, List, [], ◌∷◌, ◌++◌, refl, sym, ap, subst, ◌∙◌, append_assoc, inl, inr}
 use Rattle.imap_syntax.specs.declared.command.Command.{Command}
 use Rattle.imap_syntax.specs.declared.command.Command.TheVariants as command
-use Rattle.imap_syntax.specs.Texts.{Then, IsWord}
-use Rattle.store_commands.specs.Requests.{IsCommandText}
 use Rattle.command_parts.specs.declared.no_command.NoCommand.TheVariants.{NeedMore}
 use Rattle.command_parts.specs.declared.fixed_text.FixedText.{FixedText}
 use Rattle.command_parts.specs.declared.fixed_text.FixedText.TheVariants as word
 use Rattle.store_commands.specs.reading.Commands.{command_at}
 use Rattle.command_parts.proofs.Readers.{IsReader}
 use Rattle.command_parts.proofs.Chains.{same_reader}
-use Rattle.command_parts.proofs.Choosing.{OneOf, Choices}
+use Rattle.command_parts.proofs.Choosing.{OneOf}
 use Rattle.store_commands.proofs.Answering.{Commands}
 use Rattle.store_commands.proofs.CommandReading.{Arguments, commands, CommandParts, parts_reader}
 use Rattle.store_commands.proofs.FolderSpelling.{Asks, Spelled, login_forth, login_back, create_forth, create_back, delete_forth, delete_back, subscribe_forth, subscribe_back}
@@ -98,20 +95,25 @@ parts_text v t h =
 
 text_parts : (v : List ℕ × Command) (t : List ℕ) → Commands v t → CommandParts v t
 text_parts v t h =
-    let b = back v.1 h.rest h.asks in
-    (v.0, record {
-      front = v.0 ++ 32 ∷ [];
-      back = h.rest;
-      whole = h.whole ∙ sym (append_assoc v.0 (32 ∷ []) h.rest);
-      first = (refl, h.tag_is);
-      second = (b.0, record {
-        front = b.2.0;
-        back = b.2.1;
-        whole = b.2.2;
-        first = (b.1, b.2.3);
-        second = (v.1, b.2.4, refl);
-      });
-    })
+    let b = back v.1 h.rest h.asks in (
+      v.0,
+      record {
+        front = v.0 ++ 32 ∷ [];
+        back = h.rest;
+        whole = h.whole ∙ sym (append_assoc v.0 (32 ∷ []) h.rest);
+        first = (refl, h.tag_is);
+        second = (
+          b.0,
+          record {
+            front = b.2.0;
+            back = b.2.1;
+            whole = b.2.2;
+            first = (b.1, b.2.3);
+            second = (v.1, b.2.4, refl);
+          },
+        );
+      },
+    )
 
 -- commands are read
 pub command_reader : IsReader NeedMore Commands command_at

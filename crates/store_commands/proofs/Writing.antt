@@ -1,6 +1,6 @@
 -- What is written is read as the command that was given.
-use Rattle.std.proofs.Common.{◌≡◌, ℕ, zero, suc, ◌+◌, ◌-◌, ◌*◌, ◌/◌, ◌%◌, ◌<◌, ◌≤◌, Bool, true, false, List, [], ◌∷◌, ◌++◌, length, map, take, cond, Option, Some, None, refl, sym, ap, subst, ◌∙◌, append_assoc, arith, inl, inr}
-use Rattle.std.specs.Prelude.{◌⊎◌, ◌==◌, codes, ℤ, bytes_eq}
+use Rattle.std.proofs.Common.{◌≡◌, ℕ, ◌+◌, ◌-◌, ◌*◌, ◌/◌, ◌%◌, ◌<◌, ◌≤◌, Bool, true, false, List, [], ◌∷◌, ◌++◌, length, cond, Some, None, refl, sym, ap, subst, ◌∙◌, append_assoc, arith, inl, inr}
+use Rattle.std.specs.Prelude.{codes, ℤ}
 use Rattle.std.specs.List.{list_all}
 use Rattle.std.specs.Fmt.{decimal}
 use Rattle.std.proofs.lemmas.Fmt.{decimal_by_steps, length-decimal-le, decimal_nonempty}
@@ -8,13 +8,13 @@ use Rattle.std.proofs.lemmas.List.{append-nil, map-append, length-append, length
 use Rattle.imap_syntax.proofs.EachLemmas.{each_to, each_append, each_all}
 use Rattle.imap_syntax.specs.declared.command.Command.{Command}
 use Rattle.imap_syntax.specs.declared.command.Command.TheVariants as command
-use Rattle.imap_syntax.specs.Octets.{is_digit, is_alnum, is_text, is_atom}
-use Rattle.imap_syntax.specs.Texts.{Each, crlf, plain_of, plain_octets}
+use Rattle.imap_syntax.specs.Octets.{is_digit, is_alnum, is_text}
+use Rattle.imap_syntax.specs.Texts.{Each, crlf, plain_of}
 use Rattle.imap_syntax.specs.Numbers.{value_from}
 use Rattle.imap_syntax.specs.Strings.{quoted, IsCounted}
 use Rattle.imap_syntax.specs.Dates.{date_text}
 use Rattle.imap_syntax.specs.Commands.{Part, Plain, Literal, tag_of, flags_text, header_items, known_text, is_printable, credential, words_of, parts_of, literal_head}
-use Rattle.imap_syntax.specs.Commands.{pieces_of, command_pieces, joined_pieces, command_text}
+use Rattle.imap_syntax.specs.Commands.{command_pieces, joined_pieces, command_text}
 use Rattle.command_parts.specs.Fields.{fits_octet, AreOctets, IsTag, IsFolderName, IsCredential}
 use Rattle.command_parts.proofs.Literals.{marked, marked_inside, plain_marked}
 use Rattle.command_parts.proofs.Heads.{digits_are, others_small, folder_others, flags_others, date_others}
@@ -51,6 +51,7 @@ value_decimal n lt = decimal_by_steps (λ n ds. value_from 0 ds ≡ n) one more 
   where
     one : (n : ℕ) → n < 10 → value_from 0 ((48 + n) ∷ []) ≡ n
     one n small = omega arith
+
     more : (n : ℕ) (ds : List ℕ) → 10 ≤ n → value_from 0 ds ≡ n / 10 → value_from 0 (ds ++ (48 + n % 10) ∷ []) ≡ n
     more n ds ten ih = value_push ds 0 (48 + n % 10) ∙ omega (arith, ih)
 
@@ -113,11 +114,12 @@ login_asked : (user password : List ℕ) → IsPlainCredential user → IsPlainC
 login_asked user password h k =
     let u = credential_is user h in
     let p = credential_is password k in
-    let last : List ℕ = part_text (credential password) ++ [] in
-    (then_of (codes "LOGIN ") (part_text (credential user) ++ (32 ∷ [] ++ last)) (parts_text (parts_of (command.Login user password))) refl refl
-      (then_of (part_text (credential user)) (32 ∷ [] ++ last) (part_text (credential user) ++ (32 ∷ [] ++ last)) refl u.0
-      (then_of (32 ∷ []) last (32 ∷ [] ++ last) refl refl (subst (IsCredential password) (sym (append-nil (part_text (credential password)))) p.0))),
-      (each_all fits_octet (codes "LOGIN ") refl, (u.1, ((refl, tt), (p.1, tt)))))
+    let last : List ℕ = part_text (credential password) ++ [] in (
+      then_of (codes "LOGIN ") (part_text (credential user) ++ (32 ∷ [] ++ last)) (parts_text (parts_of (command.Login user password))) refl refl
+          (then_of (part_text (credential user)) (32 ∷ [] ++ last) (part_text (credential user) ++ (32 ∷ [] ++ last)) refl u.0
+          (then_of (32 ∷ []) last (32 ∷ [] ++ last) refl refl (subst (IsCredential password) (sym (append-nil (part_text (credential password)))) p.0))),
+      (each_all fits_octet (codes "LOGIN ") refl, (u.1, ((refl, tt), (p.1, tt)))),
+    )
 
 append_asked : (name : List ℕ) (flags : List (List ℕ)) (date : ℤ) (message : List ℕ) → IsReadable (command.Append name flags date message)
     → IsAsked (as_sent (command.Append name flags date message)) (parts_of (command.Append name flags date message))
@@ -131,20 +133,23 @@ append_asked name flags date message h =
     let t4 : List ℕ = 32 ∷ [] ++ t5 in
     let t3 : List ℕ = flags_text flags ++ t4 in
     let t2 : List ℕ = 32 ∷ [] ++ t3 in
-    let t1 : List ℕ = q ++ t2 in
-    (then_of (codes "APPEND ") t1 (parts_text (parts_of (command.Append name flags date message))) (regroup (codes "APPEND ") q (flags_text flags) (date_text date) l) refl
-      (then_of q t2 t1 refl (quoted_is name h.0)
-      (then_of (32 ∷ []) t3 t2 refl refl
-      (then_of (flags_text flags) t4 t3 refl f
-      (then_of (32 ∷ []) t5 t4 refl refl
-      (then_of (date_text date) t6 t5 refl d (then_of (32 ∷ []) l t6 refl refl (counted_is message h.2))))))),
-      (each_append fits_octet (((codes "APPEND " ++ q) ++ 32 ∷ flags_text flags) ++ 32 ∷ date_text date) (32 ∷ [])
-        (each_append fits_octet ((codes "APPEND " ++ q) ++ 32 ∷ flags_text flags) (32 ∷ date_text date)
-        (each_append fits_octet (codes "APPEND " ++ q) (32 ∷ flags_text flags)
-        (each_append fits_octet (codes "APPEND ") q (each_all fits_octet (codes "APPEND ") refl) (quoted_small name h.0))
-        (refl, others_small (flags_text flags) (flags_others flags (flags_text flags) f)))
-        (refl, others_small (date_text date) (date_others (nearest_date date) (date_text date) d))) (refl, tt),
-        (h.2, tt)))
+    let t1 : List ℕ = q ++ t2 in (
+      then_of (codes "APPEND ") t1 (parts_text (parts_of (command.Append name flags date message))) (regroup (codes "APPEND ") q (flags_text flags) (date_text date) l) refl
+          (then_of q t2 t1 refl (quoted_is name h.0)
+          (then_of (32 ∷ []) t3 t2 refl refl
+          (then_of (flags_text flags) t4 t3 refl f
+          (then_of (32 ∷ []) t5 t4 refl refl
+          (then_of (date_text date) t6 t5 refl d (then_of (32 ∷ []) l t6 refl refl (counted_is message h.2))))))),
+      (
+        each_append fits_octet (((codes "APPEND " ++ q) ++ 32 ∷ flags_text flags) ++ 32 ∷ date_text date) (32 ∷ [])
+            (each_append fits_octet ((codes "APPEND " ++ q) ++ 32 ∷ flags_text flags) (32 ∷ date_text date)
+            (each_append fits_octet (codes "APPEND " ++ q) (32 ∷ flags_text flags)
+            (each_append fits_octet (codes "APPEND ") q (each_all fits_octet (codes "APPEND ") refl) (quoted_small name h.0))
+            (refl, others_small (flags_text flags) (flags_others flags (flags_text flags) f)))
+            (refl, others_small (date_text date) (date_others (nearest_date date) (date_text date) d))) (refl, tt),
+        (h.2, tt),
+      ),
+    )
   where
     regroup : (a q f d l : List ℕ) → ((((a ++ q) ++ 32 ∷ f) ++ 32 ∷ d) ++ 32 ∷ []) ++ (l ++ []) ≡ a ++ (q ++ (32 ∷ [] ++ (f ++ (32 ∷ [] ++ (d ++ (32 ∷ [] ++ l))))))
     regroup a q f d l = simp (append_assoc, append-nil)
@@ -156,11 +161,12 @@ login_asked : (user password : List ℕ) → IsPlainCredential user → IsPlainC
 login_asked user password h k =
     let u = credential_is user h in
     let p = credential_is password k in
-    let last : List ℕ = part_text (credential password) ++ [] in
-    (then_of (codes "LOGIN ") (part_text (credential user) ++ (32 ∷ [] ++ last)) (parts_text (parts_of (command.Login user password))) refl refl
-      (then_of (part_text (credential user)) (32 ∷ [] ++ last) (part_text (credential user) ++ (32 ∷ [] ++ last)) refl u.0
-      (then_of (32 ∷ []) last (32 ∷ [] ++ last) refl refl (subst (IsCredential password) (sym (append-nil (part_text (credential password)))) p.0))),
-      (each_all fits_octet (codes "LOGIN ") refl, (u.1, ((refl, tt), (p.1, tt)))))
+    let last : List ℕ = part_text (credential password) ++ [] in (
+      then_of (codes "LOGIN ") (part_text (credential user) ++ (32 ∷ [] ++ last)) (parts_text (parts_of (command.Login user password))) refl refl
+          (then_of (part_text (credential user)) (32 ∷ [] ++ last) (part_text (credential user) ++ (32 ∷ [] ++ last)) refl u.0
+          (then_of (32 ∷ []) last (32 ∷ [] ++ last) refl refl (subst (IsCredential password) (sym (append-nil (part_text (credential password)))) p.0))),
+      (each_all fits_octet (codes "LOGIN ") refl, (u.1, ((refl, tt), (p.1, tt)))),
+    )
 
 append_asked : (name : List ℕ) (flags : List (List ℕ)) (date : ℤ) (message : List ℕ) → IsReadable (command.Append name flags date message)
     → IsAsked (as_sent (command.Append name flags date message)) (parts_of (command.Append name flags date message))
@@ -174,18 +180,23 @@ append_asked name flags date message h =
     let t4 : List ℕ = 32 ∷ [] ++ t5 in
     let t3 : List ℕ = flags_text flags ++ t4 in
     let t2 : List ℕ = 32 ∷ [] ++ t3 in
-    let t1 : List ℕ = q ++ t2 in
-    (then_of (codes "APPEND ") t1 (parts_text (parts_of (command.Append name flags date message))) (regroup (codes "APPEND ") q (flags_text flags) (date_text date) l) refl
-      (then_of q t2 t1 refl (quoted_is name h.0)
-      (then_of (32 ∷ []) t3 t2 refl refl
-      (then_of (flags_text flags) t4 t3 refl f
-      (then_of (32 ∷ []) t5 t4 refl refl
-      (then_of (date_text date) t6 t5 refl d (then_of (32 ∷ []) l t6 refl refl (counted_is message h.2))))))),
-      (each_append fits_octet (codes "APPEND ") (q ++ 32 ∷ (flags_text flags ++ 32 ∷ (date_text date ++ 32 ∷ []))) (each_all fits_octet (codes "APPEND ") refl)
-        (each_append fits_octet q (32 ∷ (flags_text flags ++ 32 ∷ (date_text date ++ 32 ∷ []))) (quoted_small name h.0)
-        (refl, each_append fits_octet (flags_text flags) (32 ∷ (date_text date ++ 32 ∷ [])) (others_small (flags_text flags) (flags_others flags (flags_text flags) f))
-          (refl, each_append fits_octet (date_text date) (32 ∷ []) (others_small (date_text date) (date_others _ (date_text date) d)) (refl, tt)))),
-        (h.2, tt)))
+    let t1 : List ℕ = q ++ t2 in (
+      then_of (codes "APPEND ") t1 (parts_text (parts_of (command.Append name flags date message))) (regroup (codes "APPEND ") q (flags_text flags) (date_text date) l) refl
+          (then_of q t2 t1 refl (quoted_is name h.0)
+          (then_of (32 ∷ []) t3 t2 refl refl
+          (then_of (flags_text flags) t4 t3 refl f
+          (then_of (32 ∷ []) t5 t4 refl refl
+          (then_of (date_text date) t6 t5 refl d (then_of (32 ∷ []) l t6 refl refl (counted_is message h.2))))))),
+      (
+        each_append fits_octet (codes "APPEND ") (q ++ 32 ∷ (flags_text flags ++ 32 ∷ (date_text date ++ 32 ∷ []))) (each_all fits_octet (codes "APPEND ") refl)
+            (each_append fits_octet q (32 ∷ (flags_text flags ++ 32 ∷ (date_text date ++ 32 ∷ []))) (quoted_small name h.0) (
+              refl,
+              each_append fits_octet (flags_text flags) (32 ∷ (date_text date ++ 32 ∷ [])) (others_small (flags_text flags) (flags_others flags (flags_text flags) f))
+                  (refl, each_append fits_octet (date_text date) (32 ∷ []) (others_small (date_text date) (date_others _ (date_text date) d)) (refl, tt)),
+            )),
+        (h.2, tt),
+      ),
+    )
   where
     regroup : (a q f d l : List ℕ) → (a ++ (q ++ 32 ∷ (f ++ 32 ∷ (d ++ 32 ∷ [])))) ++ (l ++ []) ≡ a ++ (q ++ (32 ∷ [] ++ (f ++ (32 ∷ [] ++ (d ++ (32 ∷ [] ++ l))))))
     regroup a q f d l = simp (append_assoc, append-nil)
@@ -217,14 +228,14 @@ asked (command.FetchSlice from to modseq) h =
     let t2 : List ℕ = 58 ∷ t3 in
     plain_asked (command.FetchSlice from to modseq) tt
     (then_of (codes "UID FETCH ") (decimal from ++ t2) (words_of (command.FetchSlice from to modseq))
-      (three (codes "UID FETCH ") (decimal from) (58 ∷ decimal to) (header_items modseq)) refl
+    (three (codes "UID FETCH ") (decimal from) (58 ∷ decimal to) (header_items modseq)) refl
     (then_of (decimal from) t2 (decimal from ++ t2) refl (refl, h.0)
     (then_of (58 ∷ []) t3 t2 refl refl (then_of (decimal to) (header_items modseq) t3 refl (refl, h.1) (items_are modseq)))))
 asked (command.FetchNew from modseq) h =
     let t2 : List ℕ = codes ":*" ++ header_items modseq in
     plain_asked (command.FetchNew from modseq) tt
     (then_of (codes "UID FETCH ") (decimal from ++ t2) (words_of (command.FetchNew from modseq))
-      (three (codes "UID FETCH ") (decimal from) (codes ":*") (header_items modseq)) refl
+    (three (codes "UID FETCH ") (decimal from) (codes ":*") (header_items modseq)) refl
     (then_of (decimal from) t2 (decimal from ++ t2) refl (refl, h) (then_of (codes ":*") (header_items modseq) t2 refl refl (items_are modseq))))
 asked (command.FetchBody uid) h =
     let t2 : List ℕ = codes " (UID BODY.PEEK[]<0.50000000>)" in
@@ -234,13 +245,13 @@ asked (command.Store uid true flags) h =
     let t2 : List ℕ = codes " +FLAGS " ++ flags_text flags in
     plain_asked (command.Store uid true flags) tt
     (then_of (codes "UID STORE ") (decimal uid ++ t2) (words_of (command.Store uid true flags))
-      (three (codes "UID STORE ") (decimal uid) (codes " +FLAGS ") (flags_text flags)) refl
+    (three (codes "UID STORE ") (decimal uid) (codes " +FLAGS ") (flags_text flags)) refl
     (then_of (decimal uid) t2 (decimal uid ++ t2) refl (refl, h.0) (then_of (codes " +FLAGS ") (flags_text flags) t2 refl refl (flags_written flags h.1))))
 asked (command.Store uid false flags) h =
     let t2 : List ℕ = codes " -FLAGS " ++ flags_text flags in
     plain_asked (command.Store uid false flags) tt
     (then_of (codes "UID STORE ") (decimal uid ++ t2) (words_of (command.Store uid false flags))
-      (three (codes "UID STORE ") (decimal uid) (codes " -FLAGS ") (flags_text flags)) refl
+    (three (codes "UID STORE ") (decimal uid) (codes " -FLAGS ") (flags_text flags)) refl
     (then_of (decimal uid) t2 (decimal uid ++ t2) refl (refl, h.0) (then_of (codes " -FLAGS ") (flags_text flags) t2 refl refl (flags_written flags h.1))))
 asked (command.Move uid name) h =
     let t2 : List ℕ = 32 ∷ quoted name in
@@ -301,8 +312,8 @@ pub pieces_want : (c : Command) (n : ℕ) (sent left : List (List ℕ)) → n < 
     → IsReadAs (joined_pieces sent) WantsLiteral
 pieces_want c n [] left lt h e some more = absurd (some refl)
 pieces_want c n (s ∷ sent) left lt h e some more =
-    let k = cut_at (all_parts c n) s sent left (all_sendable c n lt h) e more in
-    (record {
+    let k = cut_at (all_parts c n) s sent left (all_sendable c n lt h) e more in (
+      record {
         tag = tag_of n;
         command = as_sent c;
         text = k.text;
@@ -310,4 +321,6 @@ pieces_want c n (s ∷ sent) left lt h e some more =
         reads = subst (IsCommandText (tag_of n) (as_sent c)) k.whole (text_is c n lt h);
         octets = k.octets;
         proper = k.proper;
-      }, k.head)
+      },
+      k.head,
+    )

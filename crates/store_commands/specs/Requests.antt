@@ -4,7 +4,7 @@ use Rattle.std.specs.Prelude.{◌≡◌, ◌⊎◌, ℕ, Bool, true, false, List
 use Rattle.imap_syntax.specs.declared.command.Command.{Command}
 use Rattle.imap_syntax.specs.declared.command.Command.TheVariants.{Capability, Login, Enable, List as ListFolders, Select, Unselect, FetchFlags, FetchSlice}
 use Rattle.imap_syntax.specs.declared.command.Command.TheVariants.{FetchNew, FetchBody, Store, Move, Expunge, Append, Create, Delete, Rename, Subscribe}
-use Rattle.imap_syntax.specs.Texts.{Then, IsWord, IsCrlf}
+use Rattle.imap_syntax.specs.Texts.{IsWord, IsCrlf}
 use Rattle.imap_syntax.specs.Strings.{IsCounted}
 use Rattle.imap_syntax.specs.DateTimes.{IsDateTime}
 use Rattle.command_parts.specs.Fields.{◌▷◌, greatest_modseq, IsSpace, IsTag, IsPlainNumber, IsUnsigned, IsFolderName, IsCredential, IsFlagList}

@@ -5,10 +5,10 @@ ghost use Rattle.store_commands.specs.reading.Commands as reading;
 ghost use Rattle.store_commands.specs.reading.Asked as asked;
 ghost use Rattle.command_parts.specs.reading.Steps.{ReadingGives};
 
-use command_parts::{Choice, FixedText, NoCommand, read_choice, read_tag};
 use crate::folder_arguments::{append, create, delete, login, rename, select, subscribe};
 use crate::message_arguments::{expunge, fetch, move_to, store};
 use crate::request::{Request, command_of};
+use command_parts::{Choice, FixedText, NoCommand, read_choice, read_tag};
 use gate_world::Bytes;
 use imap_syntax::Command;
 use std::alloc::{AllocError, Global};
@@ -102,7 +102,12 @@ fn answer_without(reason: NoCommand, length: usize) -> CommandRead
 }
 
 /// A whole command of so many octets.
-fn whole(alloc: Global, length: usize, tag: &[u8], request: &Request) -> Result<CommandRead, AllocError>
+fn whole(
+    alloc: Global,
+    length: usize,
+    tag: &[u8],
+    request: &Request,
+) -> Result<CommandRead, AllocError>
     ensures { IfOk result (λ read. read ≡ CommandRead.Whole length tag.now (asked.command_asked request.now)) }
 {
     let tag = Bytes::copy_of(alloc, tag)?;

@@ -5,11 +5,11 @@ ghost use Rattle.imap_values.specs.Strings as texts;
 ghost use Rattle.store_commands.specs.reading.Asked as asked;
 ghost use Rattle.command_parts.specs.reading.Steps.{ReadingGives};
 
+use crate::request::Request;
 use command_parts::{
     FixedText, Follow, NoCommand, read_credential, read_date, read_fixed, read_flags,
     read_last_name, read_literal, read_name, read_number, read_numeral,
 };
-use crate::request::Request;
 
 /// A user and a password.
 #[tactic(auto, unfolding(crate::specs::reading::Arguments::login_at))]
@@ -36,7 +36,11 @@ fn known(bytes: &[u8]) -> Result<((u32, u64), &[u8]), NoCommand>
 
 /// What follows the name of a folder that is selected, by the octet behind it.
 #[tactic(auto, unfolding(crate::specs::reading::Arguments::selected_at, crate::specs::reading::Arguments::known_folder_at, crate::specs::reading::Arguments::new_folder_at))]
-fn selected<'a>(name: &'a [u8], end: u8, bytes: &'a [u8]) -> Result<(Request<'a>, &'a [u8]), NoCommand>
+fn selected<'a>(
+    name: &'a [u8],
+    end: u8,
+    bytes: &'a [u8],
+) -> Result<(Request<'a>, &'a [u8]), NoCommand>
     ensures { ReadingGives (λ x. (asked.command_asked x.0, x.1.now)) result (reading.selected_at (texts.astring_in name.now).0 end bytes.now) }
 {
     if end == b' ' {

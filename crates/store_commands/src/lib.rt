@@ -2,15 +2,13 @@
 #![tactic(auto)]
 
 // Commands.
-mod request;
+mod command_read;
 mod folder_arguments;
 mod message_arguments;
-mod command_read;
+mod request;
 
 // What holds of them.
 mod laws;
 
 pub use command_read::{CommandRead, read_command};
-pub use laws::{
-    answer_stays, one_answer, piece_wants_literal, read_may_be_asked, written_is_read,
-};
+pub use laws::{answer_stays, one_answer, piece_wants_literal, read_may_be_asked, written_is_read};

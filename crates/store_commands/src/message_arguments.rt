@@ -4,10 +4,11 @@ ghost use Rattle.store_commands.specs.reading.Arguments as reading;
 ghost use Rattle.store_commands.specs.reading.Asked as asked;
 ghost use Rattle.command_parts.specs.reading.Steps.{ReadingGives};
 
-use command_parts::{
-    Choice, FixedText, Follow, NoCommand, read_choice, read_fixed, read_flags, read_last_name, read_number,
-};
 use crate::request::Request;
+use command_parts::{
+    Choice, FixedText, Follow, NoCommand, read_choice, read_fixed, read_flags, read_last_name,
+    read_number,
+};
 use imap_values::octet_at;
 
 /// What is fetched from a UID on, by the text that says it.
@@ -46,7 +47,11 @@ fn fetched_slice(from: u32, to: u32, items: FixedText) -> Request<'static>
 fn items_from(from: u32) -> Choice
     ensures { result ≡ reading.items_from from }
 {
-    if from == 1 { Choice::AllItems } else { Choice::Items }
+    if from == 1 {
+        Choice::AllItems
+    } else {
+        Choice::Items
+    }
 }
 
 /// What follows the colon of a range that has no end.

@@ -98,11 +98,7 @@ fn credential_of(alloc: Global, credential: &Credential) -> Result<Bytes, AllocE
     }
 }
 
-fn login(
-    alloc: Global,
-    user: &Credential,
-    password: &Credential,
-) -> Result<Command, AllocError>
+fn login(alloc: Global, user: &Credential, password: &Credential) -> Result<Command, AllocError>
     ensures { IfOk result (λ c. c ≡ Command.Login (strings.credential_of user.now) (strings.credential_of password.now)) }
 {
     let user = credential_of(alloc, user)?;

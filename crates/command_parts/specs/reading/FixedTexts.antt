@@ -1,5 +1,5 @@
 -- Fixed texts, and how one of several is read.
-use Rattle.std.specs.Prelude.{ℕ, zero, suc, ◌-◌, max, ◌==◌, if◌then◌else◌, List, [], ◌∷◌, ◌++◌, length, drop, codes, Result, Ok, Err}
+use Rattle.std.specs.Prelude.{ℕ, suc, ◌-◌, max, ◌==◌, if◌then◌else◌, List, [], ◌∷◌, length, drop, codes, Result, Ok, Err}
 use Rattle.command_parts.specs.declared.no_command.NoCommand.{NoCommand}
 use Rattle.command_parts.specs.declared.no_command.NoCommand.TheVariants.{NeedMore, Bad}
 use Rattle.command_parts.specs.declared.fixed_text.FixedText.{FixedText}

@@ -18,6 +18,7 @@ use Rattle.command_parts.specs.declared.flags.Flags.TheVariants as flags
 use Rattle.command_parts.specs.declared.date.DatePart.{DatePart}
 use Rattle.command_parts.specs.declared.date.DatePart.TheVariants as part
 use Rattle.imap_syntax.specs.Octets.{is_digit, is_alnum, is_text, is_atom}
+use Rattle.imap_syntax.specs.Texts.{literal_limit}
 use Rattle.command_parts.specs.reading.Steps.{◌>>=◌, read_from}
 
 abbrev pub may_follow : Follow → ℕ → Bool
@@ -115,7 +116,7 @@ text_advance text c = text_advance_at text.place text c
 abbrev pub head_digits : ℕ → ℕ → ℕ → LexemeStep LiteralHead
 head_digits value count c =
     if is_digit c then
-    (if nat_lt count 8 && nat_le (10 * value + (c - 48)) 50000000 then On (head.Digits (10 * value + (c - 48)) (count + 1)) else Fail)
+    (if nat_lt count 8 && nat_le (10 * value + (c - 48)) literal_limit then On (head.Digits (10 * value + (c - 48)) (count + 1)) else Fail)
     else if c == 125 && nat_lt 0 count then On (head.Closed value) else Fail
 
 abbrev pub head_advance : LiteralHead → ℕ → LexemeStep LiteralHead

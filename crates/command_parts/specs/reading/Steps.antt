@@ -1,7 +1,7 @@
 -- Readings, and how they follow one another.
 use Rattle.std.specs.Prelude.{◌≡◌, ℕ, suc, List, [], ◌∷◌, length, Result, Ok, Err}
 use Rattle.command_parts.specs.declared.no_command.NoCommand.{NoCommand}
-use Rattle.command_parts.specs.declared.no_command.NoCommand.TheVariants.{NeedMore, WantsLiteral, Bad}
+use Rattle.command_parts.specs.declared.no_command.NoCommand.TheVariants.{NeedMore, Bad}
 use Rattle.command_parts.specs.declared.lexeme.LexemeStep.{LexemeStep}
 use Rattle.command_parts.specs.declared.lexeme.LexemeStep.TheVariants as step
 

@@ -1,5 +1,5 @@
 -- Names, users and passwords, literals, flags and dates.
-use Rattle.std.specs.Prelude.{ℕ, ◌+◌, ◌-◌, nat_le, ◌==◌, if◌then◌else◌, List, [], ◌∷◌, length, take, drop, get_or, None, Result, Ok, Err, ℤ}
+use Rattle.std.specs.Prelude.{ℕ, ◌+◌, ◌-◌, nat_le, ◌==◌, if◌then◌else◌, List, length, take, drop, get_or, Result, Ok, Err, ℤ}
 use Rattle.command_parts.specs.declared.no_command.NoCommand.{NoCommand}
 use Rattle.command_parts.specs.declared.no_command.NoCommand.TheVariants.{NeedMore, WantsLiteral, Bad}
 use Rattle.command_parts.specs.declared.follow.Follow.{Follow}

@@ -1,5 +1,5 @@
 -- The arguments of commands, up to the command's end.
-use Rattle.std.specs.Prelude.{ℕ, true, false, Bool, ◌==◌, if◌then◌else◌, List, [], ◌∷◌, drop, get_or, Option, Some, None, Result, Ok, Err}
+use Rattle.std.specs.Prelude.{ℕ, true, false, Bool, ◌==◌, if◌then◌else◌, List, get_or, Some, None, Result, Ok}
 use Rattle.imap_syntax.specs.declared.command.Command.{Command}
 use Rattle.imap_syntax.specs.declared.command.Command.TheVariants.{Login, Select, FetchFlags, FetchSlice, FetchNew, FetchBody, Store, Move, Expunge, Append}
 use Rattle.imap_syntax.specs.declared.command.Command.TheVariants.{Create, Delete, Rename, Subscribe}
