@@ -30,7 +30,7 @@ fn put_answer(alloc: Global, read: &CommandRead, out: &mut String) -> Result<(),
 fn fronts_of(read: &CommandRead, count: usize) -> usize {
     match read {
         CommandRead::Whole { length, .. } => *length,
-        CommandRead::Bad(at) => *at + 1,
+        CommandRead::Bad(at) => at.saturating_add(1),
         _ => count,
     }
 }
@@ -47,7 +47,7 @@ fn put_fronts(
         let front = octets.get(..count).unwrap_or(octets);
         match read_command(alloc, front)? {
             CommandRead::NeedMore => {}
-            CommandRead::WantsLiteral => literals += 1,
+            CommandRead::WantsLiteral => literals = literals.saturating_add(1),
             _ => write!(out, ", but not at {count}")?,
         }
     }
