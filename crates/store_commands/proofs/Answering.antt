@@ -54,7 +54,7 @@ no_bad t n e = let f : stop_of none.NeedMore t ≡ none.Bad n = cc in no_bad_at 
 
 -- ---- what is read is answered rightly
 
-proper_of : (b : List ℕ) (e : NoCommand) → IsOpen Commands none.NeedMore b e → IsProperCommandPrefix b
+abbrev proper_of : (b : List ℕ) (e : NoCommand) → IsOpen Commands none.NeedMore b e → IsProperCommandPrefix b
 proper_of b e o = record {
   tag = o.value.0;
   command = o.value.1;

@@ -1,5 +1,5 @@
 -- What is read may be asked: names have no octet 0, CR or LF, flags are names in kept form, numbers and dates are in their range.
-use Rattle.std.proofs.Common.{◌≡◌, ℕ, ◌+◌, ◌-◌, ◌≤◌, min, Bool, true, false, ℤ, pos, negsuc, ◌-ℤ◌, List, [], ◌∷◌, length, map, cond, Option, Some, None, sym, ap, subst, ◌∙◌, arith, inl, inr}
+use Rattle.std.proofs.Common.{◌≡◌, ℕ, ◌+◌, ◌-◌, ◌*◌, ◌≤◌, min, Bool, true, false, ℤ, pos, negsuc, ◌-ℤ◌, List, [], ◌∷◌, length, map, cond, Option, Some, None, sym, ap, subst, ◌∙◌, arith, inl, inr}
 use Rattle.std.proofs.Common.{nat_cmp, bytes_eq, codes}
 use Rattle.std.proofs.lemmas.List.{length-map}
 use Rattle.std.specs.BTreeSet.{insert_key}
@@ -17,7 +17,7 @@ use Rattle.imap_syntax.specs.Strings.{IsAtom, IsCounted}
 use Rattle.imap_syntax.specs.Items.{IsName, AllNames, add_name, kept_from}
 use Rattle.imap_syntax.specs.Dates.{seconds_from}
 use Rattle.imap_syntax.specs.DateTimes.{days_to, seconds_of, IsDateTime}
-use Rattle.store_commands.specs.Written.{nearest_date}
+use Rattle.honest_store.specs.WellFormed.{nearest_date}
 use Rattle.command_parts.specs.Fields.{fits_octet, AreOctets, IsTag, IsFolderName, IsCredential, IsFlagList}
 use Rattle.store_commands.specs.Requests.{IsSelectParameter, IsRequest}
 use Rattle.store_commands.specs.Answers.{IsCommand}

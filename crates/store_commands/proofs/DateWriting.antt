@@ -10,7 +10,7 @@ use Rattle.imap_syntax.specs.Octets.{is_digit}
 use Rattle.imap_syntax.specs.Dates.{Day, next_day, day_at, seconds_from, two_digits, four_digits, month_name, day_text, clock_text, day_text_of, date_text}
 use Rattle.imap_syntax.specs.DateTimes.{days_to, seconds_of, IsDigits, IsDate, IsTime, IsZone, IsDateTime}
 use Rattle.imap_values.proofs.DateLemmas.{year_small}
-use Rattle.store_commands.specs.Written.{nearest_date}
+use Rattle.honest_store.specs.WellFormed.{nearest_date}
 
 -- ---- the calendar
 

@@ -215,6 +215,16 @@ record AppendText (flags : List (List ℕ)) (date : ℤ) (message t : List ℕ) 
   date_is : IsDateTime date date_text
   message_is : IsCounted message literal
 
+-- the octets of a literal and the line's end, and what stands before them
+literal_end : (g o : List ℕ) → (g ++ 125 ∷ 13 ∷ 10 ∷ (o ++ 13 ∷ [])) ++ 10 ∷ [] ≡ (g ++ 125 ∷ 13 ∷ 10 ∷ o) ++ crlf
+literal_end g o =
+    append_assoc g (125 ∷ 13 ∷ 10 ∷ (o ++ 13 ∷ [])) (10 ∷ []) ∙ ap (λ (v : List ℕ). g ++ 125 ∷ 13 ∷ 10 ∷ v) (append_assoc o (13 ∷ []) (10 ∷ []))
+    ∙ sym (append_assoc g (125 ∷ 13 ∷ 10 ∷ o) crlf)
+
+append_end : (n d g o : List ℕ) → 40 ∷ [] ++ ((n ++ 41 ∷ []) ++ (32 ∷ [] ++ (d ++ (32 ∷ 123 ∷ [] ++ ((g ++ 125 ∷ 13 ∷ 10 ∷ (o ++ 13 ∷ [])) ++ 10 ∷ [])))))
+    ≡ (40 ∷ n ++ 41 ∷ []) ++ (32 ∷ d ++ (32 ∷ (123 ∷ g ++ 125 ∷ 13 ∷ 10 ∷ o) ++ crlf))
+append_end n d g o = ap (λ (v : List ℕ). 40 ∷ ((n ++ 41 ∷ []) ++ (32 ∷ (d ++ (32 ∷ 123 ∷ v))))) (literal_end g o)
+
 append_text : (g : List (List ℕ) → ℤ → List ℕ → Command) (c : Command) (t : List ℕ) → Marked g c t → (flags : List (List ℕ)) × (date : ℤ) × (message : List ℕ) × (c ≡ g flags date message)
     × AppendText flags date message t
 append_text g c t h =
@@ -270,7 +280,7 @@ append_text g c t h =
   where
     regroup : (n d g o : List ℕ) → 40 ∷ [] ++ ((n ++ 41 ∷ []) ++ (32 ∷ [] ++ (d ++ (32 ∷ 123 ∷ [] ++ ((g ++ 125 ∷ 13 ∷ 10 ∷ (o ++ 13 ∷ [])) ++ 10 ∷ [])))))
         ≡ (40 ∷ n ++ 41 ∷ []) ++ (32 ∷ d ++ (32 ∷ (123 ∷ g ++ 125 ∷ 13 ∷ 10 ∷ o) ++ crlf))
-    regroup n d g o = simp append_assoc
+    regroup n d g o = append_end n d g o
 
 text_append : (g : List (List ℕ) → ℤ → List ℕ → Command) (flags : List (List ℕ)) (date : ℤ) (message t : List ℕ) → AppendText flags date message t → Marked g (g flags date message) t
 text_append g flags date message t h =
@@ -349,7 +359,7 @@ text_append g flags date message t h =
   where
     regroup : (n d g o : List ℕ) → (40 ∷ n ++ 41 ∷ []) ++ (32 ∷ d ++ (32 ∷ (123 ∷ g ++ 125 ∷ 13 ∷ 10 ∷ o) ++ crlf))
         ≡ 40 ∷ [] ++ ((n ++ 41 ∷ []) ++ (32 ∷ [] ++ (d ++ (32 ∷ 123 ∷ [] ++ ((g ++ 125 ∷ 13 ∷ 10 ∷ (o ++ 13 ∷ [])) ++ 10 ∷ [])))))
-    regroup n d g o = simp append_assoc
+    regroup n d g o = sym (append_end n d g o)
 
 pub append_forth : (c : Command) (r : List ℕ) → Spelled word.Append AppendArguments c r → Asks c r
 append_forth c r h =

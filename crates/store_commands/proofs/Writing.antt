@@ -18,9 +18,10 @@ use Rattle.imap_syntax.specs.Commands.{command_pieces, joined_pieces, command_te
 use Rattle.command_parts.specs.Fields.{fits_octet, AreOctets, IsTag, IsFolderName, IsCredential}
 use Rattle.command_parts.proofs.Literals.{marked, marked_inside, plain_marked}
 use Rattle.command_parts.proofs.Heads.{digits_are, others_small, folder_others, flags_others, date_others}
+use Rattle.honest_store.specs.WellFormed.{nearest_date}
 use Rattle.store_commands.specs.Requests.{IsHeaderItems, IsRequest, IsCommandText}
 use Rattle.store_commands.specs.Answers.{IsCommand, IsReadAs}
-use Rattle.store_commands.specs.Written.{IsPlainCredential, IsLiteralString, IsReadable, as_sent, nearest_date}
+use Rattle.store_commands.specs.Written.{IsPlainCredential, IsLiteralString, IsReadable, as_sent}
 use Rattle.store_commands.specs.declared.command_read.CommandRead.TheVariants.{Whole, WantsLiteral}
 use Rattle.store_commands.proofs.RequestHeads.{IsPlain, request_others}
 use Rattle.store_commands.proofs.FolderSpelling.{then_of}
@@ -152,53 +153,6 @@ append_asked name flags date message h =
     )
   where
     regroup : (a q f d l : List ℕ) → ((((a ++ q) ++ 32 ∷ f) ++ 32 ∷ d) ++ 32 ∷ []) ++ (l ++ []) ≡ a ++ (q ++ (32 ∷ [] ++ (f ++ (32 ∷ [] ++ (d ++ (32 ∷ [] ++ l))))))
-    regroup a q f d l = simp (append_assoc, append-nil)
-
-asked : (c : Command) → IsPlain c → IsRequest c (words_of c) → IsAsked c (Plain (words_of c) ∷ [])
-plain_asked c p h = (subst (IsRequest c) (sym (append-nil (words_of c))) h, (others_small (words_of c) (request_others c (words_of c) p h), tt))
-
-login_asked : (user password : List ℕ) → IsPlainCredential user → IsPlainCredential password → IsAsked (command.Login user password) (parts_of (command.Login user password))
-login_asked user password h k =
-    let u = credential_is user h in
-    let p = credential_is password k in
-    let last : List ℕ = part_text (credential password) ++ [] in (
-      then_of (codes "LOGIN ") (part_text (credential user) ++ (32 ∷ [] ++ last)) (parts_text (parts_of (command.Login user password))) refl refl
-          (then_of (part_text (credential user)) (32 ∷ [] ++ last) (part_text (credential user) ++ (32 ∷ [] ++ last)) refl u.0
-          (then_of (32 ∷ []) last (32 ∷ [] ++ last) refl refl (subst (IsCredential password) (sym (append-nil (part_text (credential password)))) p.0))),
-      (each_all fits_octet (codes "LOGIN ") refl, (u.1, ((refl, tt), (p.1, tt)))),
-    )
-
-append_asked : (name : List ℕ) (flags : List (List ℕ)) (date : ℤ) (message : List ℕ) → IsReadable (command.Append name flags date message)
-    → IsAsked (as_sent (command.Append name flags date message)) (parts_of (command.Append name flags date message))
-append_asked name flags date message h =
-    let f = flags_written flags h.1 in
-    let d = date_written date in
-    let q : List ℕ = quoted name in
-    let l : List ℕ = literal_head message ++ marked message in
-    let t6 : List ℕ = 32 ∷ [] ++ l in
-    let t5 : List ℕ = date_text date ++ t6 in
-    let t4 : List ℕ = 32 ∷ [] ++ t5 in
-    let t3 : List ℕ = flags_text flags ++ t4 in
-    let t2 : List ℕ = 32 ∷ [] ++ t3 in
-    let t1 : List ℕ = q ++ t2 in (
-      then_of (codes "APPEND ") t1 (parts_text (parts_of (command.Append name flags date message))) (regroup (codes "APPEND ") q (flags_text flags) (date_text date) l) refl
-          (then_of q t2 t1 refl (quoted_is name h.0)
-          (then_of (32 ∷ []) t3 t2 refl refl
-          (then_of (flags_text flags) t4 t3 refl f
-          (then_of (32 ∷ []) t5 t4 refl refl
-          (then_of (date_text date) t6 t5 refl d (then_of (32 ∷ []) l t6 refl refl (counted_is message h.2))))))),
-      (
-        each_append fits_octet (codes "APPEND ") (q ++ 32 ∷ (flags_text flags ++ 32 ∷ (date_text date ++ 32 ∷ []))) (each_all fits_octet (codes "APPEND ") refl)
-            (each_append fits_octet q (32 ∷ (flags_text flags ++ 32 ∷ (date_text date ++ 32 ∷ []))) (quoted_small name h.0) (
-              refl,
-              each_append fits_octet (flags_text flags) (32 ∷ (date_text date ++ 32 ∷ [])) (others_small (flags_text flags) (flags_others flags (flags_text flags) f))
-                  (refl, each_append fits_octet (date_text date) (32 ∷ []) (others_small (date_text date) (date_others _ (date_text date) d)) (refl, tt)),
-            )),
-        (h.2, tt),
-      ),
-    )
-  where
-    regroup : (a q f d l : List ℕ) → (a ++ (q ++ 32 ∷ (f ++ 32 ∷ (d ++ 32 ∷ [])))) ++ (l ++ []) ≡ a ++ (q ++ (32 ∷ [] ++ (f ++ (32 ∷ [] ++ (d ++ (32 ∷ [] ++ l))))))
     regroup a q f d l = simp (append_assoc, append-nil)
 
 asked : (c : Command) → IsReadable c → IsAsked (as_sent c) (parts_of c)

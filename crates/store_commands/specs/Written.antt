@@ -1,6 +1,6 @@
 -- Commands that a store reads as they are sent, and what it reads: numbers are within their type, names have no octet 0, CR or LF, flags are names in
 -- kept form, and literals are within their limit.
-use Rattle.std.specs.Prelude.{◌≡◌, ◌⊎◌, ℕ, ◌≤◌, true, List, length, Option, Some, None, ℤ, pos, ◌-ℤ◌}
+use Rattle.std.specs.Prelude.{◌≡◌, ◌⊎◌, ℕ, ◌≤◌, true, List, length, Option, Some, None}
 use Rattle.std.specs.List.{list_all}
 use Rattle.imap_syntax.specs.declared.command.Command.{Command}
 use Rattle.imap_syntax.specs.declared.command.Command.TheVariants.{Capability, Login, Enable, List as ListFolders, Select, Unselect, FetchFlags, FetchSlice}
@@ -9,11 +9,8 @@ use Rattle.imap_syntax.specs.Octets.{is_text}
 use Rattle.imap_syntax.specs.Texts.{Each, literal_limit}
 use Rattle.imap_syntax.specs.Items.{AllNames, kept}
 use Rattle.imap_syntax.specs.Commands.{is_printable}
-use Rattle.imap_syntax.specs.Dates.{seconds_from}
+use Rattle.honest_store.specs.WellFormed.{nearest_date}
 use Rattle.command_parts.specs.Fields.{AreOctets, greatest_unsigned, greatest_modseq}
-
-abbrev pub nearest_date : ℤ → ℤ
-nearest_date date = pos (seconds_from date) -ℤ pos 62167219200
 
 abbrev pub IsPlainName : List ℕ → Type 0
 IsPlainName name = Each is_text name

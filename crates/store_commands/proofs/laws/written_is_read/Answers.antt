@@ -1,6 +1,3 @@
-use Rattle.store_commands.proofs.Spelling.{command_reader}
-use Rattle.store_commands.proofs.Answering.{one_answer_of, final_stays, answer_right, whole_matches}
-use Rattle.store_commands.proofs.Asking.{command_askable}
 use Rattle.store_commands.proofs.Writing.{written_read}
 use Rattle.store_commands.proofs.laws.written_is_read.Goals as goal
 
