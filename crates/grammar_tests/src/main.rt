@@ -1,12 +1,13 @@
-//! The store's language: reads rows from standard input, octets of a store and commands, and prints where responses end, what
-//! they say, and how commands are written and read. The legend stands at the top of the file `stdin`, and what has to come of its rows
-//! in the file `stdout`.
+//! The store's language: reads rows from standard input, octets of a store, responses and commands, and prints where responses end,
+//! what they say, how they are written, and how commands are written and read. The legend stands at the top of the file `stdin`, and
+//! what has to come of its rows in the file `stdout`.
 #![tactic(auto)]
 
 // Responses.
 mod kinds;
 mod responses;
 mod scans;
+mod written;
 
 // Commands.
 mod commands;
@@ -25,6 +26,7 @@ fn take(alloc: Global, line: &str, out: &mut String) -> Result<(), AllocError> {
         "scan" => scans::put_scan(alloc, text, out),
         "limit" => scans::put_limit(alloc, text, out),
         "long" => responses::put_long(alloc, text, out),
+        "told" => written::put_written(alloc, text, out),
         "command" => commands::put_command(alloc, text, out),
         "asks" => requests::put_asked(alloc, text, out),
         "back" => requests::put_back(alloc, text, out),
