@@ -1,8 +1,8 @@
 -- A reader of commands answers what octets are, and no octets have two answers.
-use Rattle.std.proofs.Common.{◌≡◌, ℕ, suc, ◌+◌, ◌-◌, ◌<◌, ◌≤◌, Bool, true, false, List, [], ◌∷◌, ◌++◌, length, take, drop, cond, refl, sym, ap, subst, ◌∙◌, append_assoc, arith, inl, inr}
+use Rattle.std.proofs.Common.{◌≡◌, ℕ, suc, ◌+◌, ◌-◌, ◌<◌, ◌≤◌, Bool, true, false, List, [], ◌∷◌, ◌++◌, length, take, drop, get_or, cond, refl, sym, ap, subst, ◌∙◌, append_assoc, arith, inl, inr}
 use Rattle.std.specs.Prelude.{Result, Ok, Err, IfOk, MatchResult}
 use Rattle.std.proofs.lemmas.List.{length-append, length-drop, take-append-drop, take-take, take-map, take_at, take-append-le, append-nil}
-use Rattle.std.proofs.lemmas.Bool.{cases_lt, cases_order}
+use Rattle.std.proofs.lemmas.Bool.{lt-ltb, cases_lt, cases_order}
 use Rattle.imap_syntax.specs.declared.command.Command.{Command}
 use Rattle.imap_syntax.specs.Texts.{plain_of, plain_octets}
 use Rattle.command_parts.specs.Fields.{AreOctets}
@@ -251,6 +251,11 @@ final_stays b more WantsLiteral f h = absurd f
 final_stays b more (Bad at) f h = bad_stays b more at h
 
 -- ---- what is returned
+
+-- the octets that a function takes are octets
+pub octets_taken : (b : List ℕ) → ((i : ℕ) → get_or b i 0 < 256) → AreOctets b
+octets_taken [] small = tt
+octets_taken (c ∷ b) small = (lt-ltb c 256 (small 0), octets_taken b (λ i. small (suc i)))
 
 -- a command that stands there is given, or memory was wanting for it
 pub whole_matches : {E : Type 0} (b : List ℕ) (count : ℕ) (tag : List ℕ) (command : Command) (r : Result CommandRead E) → IsReadAs b (Whole count tag command)
