@@ -66,7 +66,8 @@ either_whole first d L M R Q r q begin other v t rest (inr h) =
     either_false d R Q (plain_octets t ++ rest) (ap (λ (u : List ℕ). get_or (plain_octets u ++ rest) 0 0 == d) x.2 ∙ x.3) ∙ q.whole v t rest h
 
 -- before any octet the second reader decides
-either_nothing : {T : Type 0} (first : NoCommand) (d : ℕ) (M : T → List ℕ → Type 0) (R Q : List ℕ → Result (T × List ℕ) NoCommand) → IsReader first M Q → BeginsBy d false M → (0 == d) ≡ false
+either_nothing : {T : Type 0} (first : NoCommand) (d : ℕ) (M : T → List ℕ → Type 0) (R Q : List ℕ → Result (T × List ℕ) NoCommand) → IsReader first M Q → BeginsBy d false M
+    → (0 == d) ≡ false
     → either d R Q [] ≡ Err first
 either_nothing first d M R Q q other zero =
     let x = q.some in
@@ -84,7 +85,8 @@ either_short first d L M R Q r q begin other zero v (c ∷ t) more (inr h) prope
     let x = other v ((c ∷ t) ++ more) h in
     either_false d R Q (plain_octets (c ∷ t)) (first_is d c x.0 false t more x.1 x.2 x.3) ∙ q.short v (c ∷ t) more h proper
 
-open_either : {T : Type 0} (first : NoCommand) (L M : T → List ℕ → Type 0) (b : List ℕ) (e : NoCommand) → ((v : T) (t : List ℕ) → L v t → M v t) → IsOpen L first b e → IsOpen M first b e
+open_either : {T : Type 0} (first : NoCommand) (L M : T → List ℕ → Type 0) (b : List ℕ) (e : NoCommand) → ((v : T) (t : List ℕ) → L v t → M v t) → IsOpen L first b e
+    → IsOpen M first b e
 open_either first L M b e f o = record {
   value = o.value;
   text = o.text;
@@ -110,14 +112,16 @@ wrong_either L M R Q b left f o same = record {
   stays = λ r. same r ∙ o.stays r;
 }
 
-stopped_first : {T : Type 0} (first : NoCommand) (d : ℕ) (L M : T → List ℕ → Type 0) (R Q : List ℕ → Result (T × List ℕ) NoCommand) (b : List ℕ) (e : NoCommand) → (get_or b 0 0 == d) ≡ true
+stopped_first : {T : Type 0} (first : NoCommand) (d : ℕ) (L M : T → List ℕ → Type 0) (R Q : List ℕ → Result (T × List ℕ) NoCommand) (b : List ℕ) (e : NoCommand)
+    → (get_or b 0 0 == d) ≡ true
     → Stopped L R first b e → Stopped (Either L M) (either d R Q) first b e
 stopped_first first d L M R Q b NeedMore g o = open_either first L (Either L M) b NeedMore (λ v t h. inl h) o
 stopped_first first d L M R Q b WantsLiteral g o = open_either first L (Either L M) b WantsLiteral (λ v t h. inl h) o
 stopped_first first d L M R Q b (Bad left) g o = wrong_either L (Either L M) R (either d R Q) b left (λ v t h. inl h) o
     (λ r. either_true d R Q (plain_octets o.text ++ o.octet ∷ r) (first_same d o.octet true (plain_octets o.text) r o.rest b o.whole g))
 
-stopped_other : {T : Type 0} (first : NoCommand) (d : ℕ) (L M : T → List ℕ → Type 0) (R Q : List ℕ → Result (T × List ℕ) NoCommand) (b : List ℕ) (e : NoCommand) → (get_or b 0 0 == d) ≡ false
+stopped_other : {T : Type 0} (first : NoCommand) (d : ℕ) (L M : T → List ℕ → Type 0) (R Q : List ℕ → Result (T × List ℕ) NoCommand) (b : List ℕ) (e : NoCommand)
+    → (get_or b 0 0 == d) ≡ false
     → Stopped M Q first b e → Stopped (Either L M) (either d R Q) first b e
 stopped_other first d L M R Q b NeedMore g o = open_either first M (Either L M) b NeedMore (λ v t h. inr h) o
 stopped_other first d L M R Q b WantsLiteral g o = open_either first M (Either L M) b WantsLiteral (λ v t h. inr h) o

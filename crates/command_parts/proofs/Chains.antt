@@ -243,7 +243,8 @@ view_reader {A} {C} first g L R r alone = record {
 
 -- ---- another language
 
-same_open : {T : Type 0} (first : NoCommand) (L M : T → List ℕ → Type 0) (b : List ℕ) (e : NoCommand) → ((v : T) (t : List ℕ) → L v t → M v t) → IsOpen L first b e → IsOpen M first b e
+same_open : {T : Type 0} (first : NoCommand) (L M : T → List ℕ → Type 0) (b : List ℕ) (e : NoCommand) → ((v : T) (t : List ℕ) → L v t → M v t) → IsOpen L first b e
+    → IsOpen M first b e
 same_open first L M b e f o = record {
   value = o.value;
   text = o.text;

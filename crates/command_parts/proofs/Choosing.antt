@@ -1,5 +1,6 @@
 -- One of several fixed texts, of which none begins another, is read as what it is.
-use Rattle.std.proofs.Common.{◌≡◌, ℕ, zero, suc, ◌+◌, ◌-◌, ◌<◌, ◌≤◌, max, Bool, true, false, ◌&&◌, List, [], ◌∷◌, ◌++◌, length, map, take, drop, get_or, cond, refl, sym, ap, subst, ◌∙◌, arith, inl, inr}
+use Rattle.std.proofs.Common.{◌≡◌, ℕ, zero, suc, ◌+◌, ◌-◌, ◌<◌, ◌≤◌, max, Bool, true, false, ◌&&◌, List, [], ◌∷◌, ◌++◌, length, map, take, drop, get_or, cond, refl, sym, ap, subst}
+use Rattle.std.proofs.Common.{◌∙◌, arith, inl, inr}
 use Rattle.std.specs.Prelude.{◌⊎◌, ◌==◌, nat_lt, Result, Ok, Err}
 use Rattle.std.specs.List.{list_all}
 use Rattle.std.proofs.lemmas.Bool.{cond-true, cond-false, eqb-true, eqb-false, eq-eqb, ne_eqb, and_parts, cases_lt}
@@ -199,7 +200,8 @@ apart_whole (x ∷ k) (y ∷ w) (c ∷ t) rest a e =
     let more : map lower t ≡ w = cc in
     less_by x y c (agreeing k (t ++ rest)) (length (t ++ rest)) (apart k w) (x == y) refl first a (λ f. apart_whole k w t rest f more)
 
-spells_by : (m : Bool) (x c n : ℕ) (w b : List ℕ) → (lower c == x) ≡ m → map lower (take n b) ≡ take n w → map lower (take (cond m (suc n) 0) (c ∷ b)) ≡ take (cond m (suc n) 0) (x ∷ w)
+spells_by : (m : Bool) (x c n : ℕ) (w b : List ℕ) → (lower c == x) ≡ m → map lower (take n b) ≡ take n w
+    → map lower (take (cond m (suc n) 0) (c ∷ b)) ≡ take (cond m (suc n) 0) (x ∷ w)
 spells_by true x c n w b g h = ap (λ (d : ℕ). d ∷ map lower (take n b)) (eqb-true (lower c) x g) ∙ ap (λ (u : List ℕ). x ∷ u) h
 spells_by false x c n w b g h = refl
 
@@ -282,7 +284,8 @@ way w b = by (agreeing w b == length w) refl (agreeing w b == length b) refl
         let nb = eqb-false (agreeing w b) (length b) f in
         other (omega (arith, le, ne)) (omega (arith, less, nb))
 
-choose_whole : (ks : List FixedText) (far : ℕ) (k : FixedText) (t rest : List ℕ) → is_table ks ≡ true → OneOf k ks → IsWord (fixed_text k) t → choose far ks (t ++ rest) ≡ Ok (k, rest)
+choose_whole : (ks : List FixedText) (far : ℕ) (k : FixedText) (t rest : List ℕ) → is_table ks ≡ true → OneOf k ks → IsWord (fixed_text k) t
+    → choose far ks (t ++ rest) ≡ Ok (k, rest)
 choose_whole [] far k t rest table h e = absurd h
 choose_whole (x ∷ xs) far k t rest table (inl h) e =
     let word : IsWord (fixed_text x) t = e ∙ ap fixed_text h in
@@ -292,10 +295,12 @@ choose_whole (x ∷ xs) far k t rest table (inl h) e =
 choose_whole (x ∷ xs) far k t rest table (inr h) e =
     let parts = table_parts x xs table in
     let a = apart_from k x xs parts.apart h in
-    choose_next far x xs (t ++ rest) (apart_few (fixed_text x) (fixed_text k) (t ++ rest) a (alike_whole (fixed_text k) t rest e)) (apart_whole (fixed_text x) (fixed_text k) t rest a e)
+    choose_next far x xs (t ++ rest) (apart_few (fixed_text x) (fixed_text k) (t ++ rest) a (alike_whole (fixed_text k) t rest e))
+    (apart_whole (fixed_text x) (fixed_text k) t rest a e)
     ∙ choose_whole xs (max far (agreeing (fixed_text x) (t ++ rest))) k t rest parts.rest h e
 
-choose_short : (ks : List FixedText) (far : ℕ) (k : FixedText) (t more : List ℕ) → is_table ks ≡ true → OneOf k ks → IsWord (fixed_text k) (t ++ more) → (more ≡ [] → ⊥) → choose far ks t ≡ wanting
+choose_short : (ks : List FixedText) (far : ℕ) (k : FixedText) (t more : List ℕ) → is_table ks ≡ true → OneOf k ks → IsWord (fixed_text k) (t ++ more) → (more ≡ [] → ⊥)
+    → choose far ks t ≡ wanting
 choose_short [] far k t more table h e proper = absurd h
 choose_short (x ∷ xs) far k t more table (inl h) e proper =
     let word : IsWord (fixed_text x) (t ++ more) = e ∙ ap fixed_text h in
@@ -369,7 +374,8 @@ choose_why (x ∷ xs) far b e h = by (way (fixed_text x) b) (choose_why xs (max 
       | inr r ↦ inr ((f, n), r)
     ]
 
-none_of : (ks : List FixedText) (b : List ℕ) (k : FixedText) → NoneAgrees ks b → OneOf k ks → (agreeing (fixed_text k) b < length (fixed_text k)) × (agreeing (fixed_text k) b < length b)
+none_of : (ks : List FixedText) (b : List ℕ) (k : FixedText) → NoneAgrees ks b → OneOf k ks
+    → (agreeing (fixed_text k) b < length (fixed_text k)) × (agreeing (fixed_text k) b < length b)
 none_of [] b k h i = absurd i
 none_of (x ∷ xs) b k h (inl i) = subst (λ (z : FixedText). (agreeing (fixed_text z) b < length (fixed_text z)) × (agreeing (fixed_text z) b < length b)) (sym i) h.0
 none_of (x ∷ xs) b k h (inr i) = none_of xs b k h.1 i
@@ -395,7 +401,8 @@ farthest_one (x ∷ xs) far b = elim (farthest_one xs (max far (agreeing (fixed_
 ]
   where
     by : farthest (max far (agreeing (fixed_text x) b)) xs b ≡ max far (agreeing (fixed_text x) b) → (far < agreeing (fixed_text x) b) ⊎ (agreeing (fixed_text x) b ≤ far)
-        → (farthest (max far (agreeing (fixed_text x) b)) xs b ≡ far) ⊎ ((k : FixedText) × OneOf k (x ∷ xs) × (farthest (max far (agreeing (fixed_text x) b)) xs b ≡ agreeing (fixed_text k) b))
+        → (farthest (max far (agreeing (fixed_text x) b)) xs b ≡ far) ⊎ ((k : FixedText) × OneOf k (x ∷ xs) ×
+        (farthest (max far (agreeing (fixed_text x) b)) xs b ≡ agreeing (fixed_text k) b))
     by e (inl lt) = inr (x, inl refl, omega (arith, e, lt))
     by e (inr le) = inl (omega (arith, e, le))
 
@@ -411,7 +418,8 @@ none_upto (k ∷ ks) b at r h le lt =
     let most = le k (inl refl) in
     ((subst (λ (n : ℕ). n < length (fixed_text k)) (sym same) h.0.0, omega (arith, same, long, front, most)), none_upto ks b at r h.1 (λ x i. le x (inr i)) lt)
 
-farthest_upto : (ks : List FixedText) (far : ℕ) (b : List ℕ) (at : ℕ) (r : List ℕ) → NoneAgrees ks b → ((k : FixedText) → OneOf k ks → agreeing (fixed_text k) b ≤ at) → at < length b
+farthest_upto : (ks : List FixedText) (far : ℕ) (b : List ℕ) (at : ℕ) (r : List ℕ) → NoneAgrees ks b → ((k : FixedText) → OneOf k ks → agreeing (fixed_text k) b ≤ at)
+    → at < length b
     → farthest far ks (take at b ++ get_or b at 0 ∷ r) ≡ farthest far ks b
 farthest_upto [] far b at r h le lt = refl
 farthest_upto (k ∷ ks) far b at r h le lt =

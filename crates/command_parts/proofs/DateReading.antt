@@ -95,7 +95,8 @@ day_back [] at h e le = absurd (omega (arith, e, le))
 day_back (c ∷ []) at h e le = (
   part.Day at,
   at_true (in_day at c) (day_step at) Fail (λ p. Accepts date_advance p (part.Day at) []) (part.Day at) [] h.0
-      (at_false (nat_lt at 3) (On (part.Day (at + 1))) (End (part.Day at)) (λ p. Accepts date_advance p (part.Day at) []) (part.Day at) [] (le-ltb at 3 (omega (arith, e))) (refl, refl)),
+      (at_false (nat_lt at 3) (On (part.Day (at + 1))) (End (part.Day at)) (λ p. Accepts date_advance p (part.Day at) []) (part.Day at) [] (le-ltb at 3 (omega (arith, e)))
+      (refl, refl)),
 )
 day_back (c ∷ d ∷ t) at h e le =
     let r = day_back (d ∷ t) (at + 1) h.1 (omega (arith, e)) (omega (arith, e)) in (
@@ -119,7 +120,8 @@ time_back [] at h e le = absurd (omega (arith, e, le))
 time_back (c ∷ []) at h e le = (
   part.Time at,
   at_true (in_time at c) (time_step at) Fail (λ p. Accepts date_advance p (part.Time at) []) (part.Time at) [] h.0
-      (at_false (nat_lt at 19) (On (part.Time (at + 1))) (End (part.Time at)) (λ p. Accepts date_advance p (part.Time at) []) (part.Time at) [] (le-ltb at 19 (omega (arith, e))) (refl, refl)),
+      (at_false (nat_lt at 19) (On (part.Time (at + 1))) (End (part.Time at)) (λ p. Accepts date_advance p (part.Time at) []) (part.Time at) [] (le-ltb at 19 (omega (arith, e)))
+      (refl, refl)),
 )
 time_back (c ∷ d ∷ t) at h e le =
     let r = time_back (d ∷ t) (at + 1) h.1 (omega (arith, e)) (omega (arith, e)) in (
@@ -161,7 +163,8 @@ day_octet_fits at = by (at == 0) (at == 1) (at == 3)
 time_octet_fits : (at : ℕ) → in_time at (time_octet at) ≡ true
 time_octet_fits at = by (at == 4 || at == 13) (at == 7 || at == 10) (at == 14) (at == 19)
   where
-    by : (a b d f : Bool) → (let c = cond a 32 (cond b 58 (cond d 43 (cond f 34 48))) in cond a (c == 32) (cond b (c == 58) (cond d (c == 43 || c == 45) (cond f (c == 34) (is_digit c))))) ≡ true
+    by : (a b d f : Bool) → (let c = cond a 32 (cond b 58 (cond d 43 (cond f 34 48))) in cond a (c == 32)
+        (cond b (c == 58) (cond d (c == 43 || c == 45) (cond f (c == 34) (is_digit c))))) ≡ true
     by true b d f = refl
     by false true d f = refl
     by false false true f = refl
@@ -372,7 +375,8 @@ parts_date v t h =
     let m = month_cut ms.0 mh.front mh.first.0 mh.first.1 in
     let c = time_forth mh.back 0 v (omega arith) mh.second in
     let p = time_octets mh.back c.0 (omega (arith, c.1)) in
-    let s : ℤ = seconds_of (four p.y1 p.y2 p.y3 p.y4) m.0 (two o.d1 o.d2) (time_of (two p.h1 p.h2) (two p.m1 p.m2) (two p.s1 p.s2)) (p.sign == 43) (zone_of (two p.z1 p.z2) (two p.z3 p.z4)) in (
+    let s : ℤ = seconds_of (four p.y1 p.y2 p.y3 p.y4) m.0 (two o.d1 o.d2) (time_of (two p.h1 p.h2) (two p.m1 p.m2) (two p.s1 p.s2)) (p.sign == 43)
+    (zone_of (two p.z1 p.z2) (two p.z3 p.z4)) in (
       s,
       of_octets s t (record {
         d1 = o.d1;

@@ -221,7 +221,8 @@ kept_of v t rest h =
 -- flags are read as they are kept
 pub flags_reader : IsReader NeedMore FlagsText flags_at
 unfolding flags_at
-flags_reader = same_reader NeedMore (Viewed (λ a b. (flags_in b).0) (Accepts flags_advance flags.First)) FlagsText (viewed (λ a b. (flags_in b).0) (read_from flags_advance flags.First))
+flags_reader = same_reader NeedMore (Viewed (λ a b. (flags_in b).0) (Accepts flags_advance flags.First)) FlagsText
+    (viewed (λ a b. (flags_in b).0) (read_from flags_advance flags.First))
     forth back (view_reader NeedMore (λ a b. (flags_in b).0) (Accepts flags_advance flags.First) (read_from flags_advance flags.First)
     (lexeme_reader flags_advance (λ s. Unit {0}) flags_plain flags_alive flags.First tt) (λ a t rest h. kept_of a t rest h ∙ sym (whole_of a t h)))
   where

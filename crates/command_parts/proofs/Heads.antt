@@ -1,5 +1,6 @@
 -- Where an LF stands in texts: at the end of a literal's head, and nowhere else.
-use Rattle.std.proofs.Common.{◌≡◌, ℕ, ◌+◌, ◌%◌, ◌<◌, ◌≤◌, Bool, true, false, not, ◌&&◌, ◌||◌, List, [], ◌∷◌, ◌++◌, map, cond, refl, sym, ap, subst, ◌∙◌, append_assoc, arith, inl, inr}
+use Rattle.std.proofs.Common.{◌≡◌, ℕ, ◌+◌, ◌%◌, ◌<◌, ◌≤◌, Bool, true, false, not, ◌&&◌, ◌||◌, List, [], ◌∷◌, ◌++◌, map, cond, refl, sym, ap, subst, ◌∙◌, append_assoc, arith, inl}
+use Rattle.std.proofs.Common.{inr}
 use Rattle.std.specs.Prelude.{◌==◌, nat_lt, codes, ℤ}
 use Rattle.std.specs.List.{list_all}
 use Rattle.std.specs.Fmt.{decimal}
@@ -195,7 +196,9 @@ month_plain : (m : ℕ) → list_all is_other (map lower (month_name m)) ≡ tru
 month_plain m = by (m == 1) (m == 2) (m == 3) (m == 4) (m == 5) (m == 6) (m == 7) (m == 8) (m == 9) (m == 10) (m == 11)
   where
     by : (a b c d e f g h i j k : Bool)
-        → list_all is_other (map lower (cond a (codes "Jan") (cond b (codes "Feb") (cond c (codes "Mar") (cond d (codes "Apr") (cond e (codes "May") (cond f (codes "Jun") (cond g (codes "Jul") (cond h (codes "Aug") (cond i (codes "Sep") (cond j (codes "Oct") (cond k (codes "Nov") (codes "Dec"))))))))))))) ≡ true
+        → list_all is_other (map lower (cond a (codes "Jan") (cond b (codes "Feb") (cond c (codes "Mar")
+        (cond d (codes "Apr") (cond e (codes "May") (cond f (codes "Jun") (cond g (codes "Jul")
+        (cond h (codes "Aug") (cond i (codes "Sep") (cond j (codes "Oct") (cond k (codes "Nov") (codes "Dec"))))))))))))) ≡ true
     by true b c d e f g h i j k = refl
     by false true c d e f g h i j k = refl
     by false false true d e f g h i j k = refl
@@ -229,7 +232,8 @@ date_others s t h =
           digit_other o.d2 o.digit,
           (
             refl,
-            each_append is_other o.name (45 ∷ o.y1 ∷ o.y2 ∷ o.y3 ∷ o.y4 ∷ 32 ∷ o.h1 ∷ o.h2 ∷ 58 ∷ o.m1 ∷ o.m2 ∷ 58 ∷ o.s1 ∷ o.s2 ∷ 32 ∷ o.sign ∷ o.z1 ∷ o.z2 ∷ o.z3 ∷ o.z4 ∷ 34 ∷ [])
+            each_append is_other o.name
+                (45 ∷ o.y1 ∷ o.y2 ∷ o.y3 ∷ o.y4 ∷ 32 ∷ o.h1 ∷ o.h2 ∷ 58 ∷ o.m1 ∷ o.m2 ∷ 58 ∷ o.s1 ∷ o.s2 ∷ 32 ∷ o.sign ∷ o.z1 ∷ o.z2 ∷ o.z3 ∷ o.z4 ∷ 34 ∷ [])
                 (month_others o.month o.name o.month_is) (
                   refl,
                   (

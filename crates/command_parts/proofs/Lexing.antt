@@ -198,7 +198,8 @@ lift_on f plain s p c b NeedMore on o = open_on f plain s p c b NeedMore on o
 lift_on f plain s p c b WantsLiteral on o = open_on f plain s p c b WantsLiteral on o
 lift_on f plain s p c b (Bad left) on o = wrong_on f plain s p c b left on o
 
-failed_stop : {S : Type 0} (f : S → ℕ → LexemeStep S) (s v : S) (c : ℕ) (b t : List ℕ) (e : NoCommand) → f s c ≡ step.Fail → Accepts f s v t → ◌≡◌ {A = Result (S × List ℕ) NoCommand} (Err (Bad (suc (length b)))) (Err e)
+failed_stop : {S : Type 0} (f : S → ℕ → LexemeStep S) (s v : S) (c : ℕ) (b t : List ℕ) (e : NoCommand) → f s c ≡ step.Fail → Accepts f s v t
+    → ◌≡◌ {A = Result (S × List ℕ) NoCommand} (Err (Bad (suc (length b)))) (Err e)
     → Stopped (Accepts f s) (read_from f s) NeedMore (c ∷ b) e
 failed_stop f s v c b t NeedMore m h e = absurd cc
 failed_stop f s v c b t WantsLiteral m h e = absurd cc
@@ -221,7 +222,8 @@ nothing_stop f s v t NeedMore h e = record {
 nothing_stop f s v t WantsLiteral h e = absurd cc
 nothing_stop f s v t (Bad left) h e = absurd cc
 
-stopped_by : {S : Type 0} (f : S → ℕ → LexemeStep S) (Inv : S → Type 0) → IsPlain f → IsAlive f Inv → (s : S) → Inv s → (c : ℕ) (b : List ℕ) (e : NoCommand) (m : LexemeStep S) → f s c ≡ m
+stopped_by : {S : Type 0} (f : S → ℕ → LexemeStep S) (Inv : S → Type 0) → IsPlain f → IsAlive f Inv → (s : S) → Inv s → (c : ℕ) (b : List ℕ) (e : NoCommand) (m : LexemeStep S)
+    → f s c ≡ m
     → ((p : S) → Inv p → read_from f p b ≡ Err e → Stopped (Accepts f p) (read_from f p) NeedMore b e) → read_from f s (c ∷ b) ≡ Err e
     → Stopped (Accepts f s) (read_from f s) NeedMore (c ∷ b) e
 stopped_by f Inv plain alive s inv c b e step.Fail g k h = let x = alive.some s inv in failed_stop f s x.0 c b x.1 e g x.2 (sym (reads_fail f s c b g) ∙ h)

@@ -1,5 +1,6 @@
 -- Literals are read as what they are, from behind their opening brace on.
-use Rattle.std.proofs.Common.{◌≡◌, ℕ, zero, suc, ◌+◌, ◌-◌, ◌*◌, ◌<◌, ◌≤◌, Bool, true, false, ◌&&◌, List, [], ◌∷◌, ◌++◌, length, cond, refl, sym, ap, subst, ◌∙◌, append_assoc, arith}
+use Rattle.std.proofs.Common.{◌≡◌, ℕ, zero, suc, ◌+◌, ◌-◌, ◌*◌, ◌<◌, ◌≤◌, Bool, true, false, ◌&&◌, List, [], ◌∷◌, ◌++◌, length, cond, refl, sym, ap, subst, ◌∙◌, append_assoc}
+use Rattle.std.proofs.Common.{arith}
 use Rattle.std.specs.Prelude.{◌==◌, nat_lt, nat_le}
 use Rattle.std.proofs.lemmas.Bool.{and_parts, and_from, eqb-true, ltb-true, leb-true, lt-ltb, le-leb}
 use Rattle.imap_syntax.specs.Octets.{is_digit, is_inside}
@@ -119,7 +120,8 @@ value_mono v (c ∷ t) = let ih = value_mono (10 * v + (c - 48)) t in omega (ari
 head_back : (ds : List ℕ) (v count : ℕ) → Each is_digit ds → 0 < count + length ds → count + length ds ≤ 8 → value_from v ds ≤ 50000000
     → Accepts head_advance (head.Digits v count) (head.Line (value_from v ds)) (ds ++ 125 ∷ 13 ∷ 10 ∷ [])
 head_back [] v count each some few le =
-    at_true (nat_lt 0 count) (On (head.Closed v)) Fail (λ p. Accepts head_advance p (head.Line v) (13 ∷ 10 ∷ [])) (head.Line v) (13 ∷ 10 ∷ []) (lt-ltb 0 count (omega (arith, some))) (refl, refl)
+    at_true (nat_lt 0 count) (On (head.Closed v)) Fail (λ p. Accepts head_advance p (head.Line v) (13 ∷ 10 ∷ [])) (head.Line v) (13 ∷ 10 ∷ [])
+    (lt-ltb 0 count (omega (arith, some))) (refl, refl)
 head_back (c ∷ ds) v count each some few le =
     let w : LiteralHead = head.Line (value_from (grown v c) ds) in
     let t : List ℕ = ds ++ 125 ∷ 13 ∷ 10 ∷ [] in

@@ -1,5 +1,6 @@
 -- The octets of a literal and the one that follows them are read as what they are.
-use Rattle.std.proofs.Common.{◌≡◌, ℕ, zero, suc, ◌+◌, ◌-◌, ◌<◌, ◌≤◌, Bool, true, false, List, [], ◌∷◌, ◌++◌, length, map, take, drop, get_or, cond, refl, sym, ap, subst, ◌∙◌, append_assoc, arith, inl, inr, replicate}
+use Rattle.std.proofs.Common.{◌≡◌, ℕ, zero, suc, ◌+◌, ◌-◌, ◌<◌, ◌≤◌, Bool, true, false, List, [], ◌∷◌, ◌++◌, length, map, take, drop, get_or, cond, refl, sym, ap, subst, ◌∙◌}
+use Rattle.std.proofs.Common.{append_assoc, arith, inl, inr, replicate}
 use Rattle.std.specs.Prelude.{◌==◌, nat_le, Result, Ok, Err}
 use Rattle.std.proofs.lemmas.Bool.{cond-true, cond-false, ne_eqb, le-leb, lt-leb, cases_lt}
 use Rattle.std.proofs.lemmas.List.{length-append, length-map, length-replicate, length-take-le, take-append-drop, take_at, drop_at, get_or_at, drop_more, append-nil}
@@ -155,7 +156,8 @@ front_stop count f (c ∷ t) h le =
     at_few count f (plain_octets (c ∷ t)) (omega (arith, long)) (omega (arith, long, le))
     ∙ ap (λ (b : Bool). Err (cond b WantsLiteral NeedMore)) (sym (inside_open (c ∷ t) h))
 
-octets_short : (count : ℕ) (f : Follow) (v t more : List ℕ) → IsOctetsBefore count f v (t ++ more) → (more ≡ [] → ⊥) → octets_at count f (plain_octets t) ≡ Err (stop_of WantsLiteral t)
+octets_short : (count : ℕ) (f : Follow) (v t more : List ℕ) → IsOctetsBefore count f v (t ++ more) → (more ≡ [] → ⊥)
+    → octets_at count f (plain_octets t) ≡ Err (stop_of WantsLiteral t)
 octets_short count f v t more h proper = elim (seam t more h.octets (h.stop ∷ []) h.whole) [
   | inl s ↦
       let each = (each_parts is_inside t (s.0 ∷ s.1) (subst (Each is_inside) s.2 h.inside)).0 in
@@ -172,7 +174,8 @@ octets_short count f v t more h proper = elim (seam t more h.octets (h.stop ∷ 
         front_stop count f t (subst (Each is_inside) same h.inside) (omega (arith, counted, h.counted))
     behind (d ∷ y) e g = let tail : [] ≡ y ++ more = cc in absurd (more_before y more proper (sym tail))
 
-octets_found : (count : ℕ) (f : Follow) (b v rest : List ℕ) → AreOctets b → octets_at count f b ≡ Ok (v, rest) → (t : List ℕ) × IsOctetsBefore count f v t × (b ≡ plain_octets t ++ rest)
+octets_found : (count : ℕ) (f : Follow) (b v rest : List ℕ) → AreOctets b → octets_at count f b ≡ Ok (v, rest)
+    → (t : List ℕ) × IsOctetsBefore count f v t × (b ≡ plain_octets t ++ rest)
 octets_found count f b v rest are e = elim (cases_lt count (length b)) [
   | inl lt ↦ within lt (may_follow f (get_or b count 0)) refl
   | inr le ↦ absurd (without le)
@@ -195,7 +198,8 @@ octets_found count f b v rest are e = elim (cases_lt count (length b)) [
         let cut : b ≡ front ++ c ∷ drop (count + 1) b = sym (take-append-drop count b) ∙ ap (λ (u : List ℕ). front ++ u) (drop_more b count 0 lt) in
         let counted : length front ≡ count = length-take-le count b (omega (arith, lt)) in
         let octets = (each_parts fits_octet front (c ∷ drop (count + 1) b) (subst AreOctets cut are)).0 in
-        let g : ◌≡◌ {A = Result (List ℕ × List ℕ) NoCommand} (Ok (front, drop (count + 1) b)) (Ok (v, rest)) = sym (ap (octets_at count f) cut ∙ reads_octets count f front (drop (count + 1) b) c counted may) ∙ e in
+        let g : ◌≡◌ {A = Result (List ℕ × List ℕ) NoCommand} (Ok (front, drop (count + 1) b)) (Ok (v, rest)) = sym
+        (ap (octets_at count f) cut ∙ reads_octets count f front (drop (count + 1) b) c counted may) ∙ e in
         let p : ◌≡◌ {A = List ℕ × List ℕ} (front, drop (count + 1) b) (v, rest) = cc in
         let value : front ≡ v = ap (λ (q : List ℕ × List ℕ). q.0) p in
         let left : drop (count + 1) b ≡ rest = ap (λ (q : List ℕ × List ℕ). q.1) p in (
@@ -221,7 +225,8 @@ octets_found count f b v rest are e = elim (cases_lt count (length b)) [
         let g = sym (ap (octets_at count f) cut ∙ wrong_octets count f front (drop (count + 1) b) c counted may) ∙ e in absurd cc
 
 -- octets that are few begin a text
-few_open : (count : ℕ) (f : Follow) (b : List ℕ) (e : NoCommand) → AreOctets b → length b ≤ count → e ≡ stop_of WantsLiteral (marked b) → IsOpen (IsOctetsBefore count f) WantsLiteral b e
+few_open : (count : ℕ) (f : Follow) (b : List ℕ) (e : NoCommand) → AreOctets b → length b ≤ count → e ≡ stop_of WantsLiteral (marked b)
+    → IsOpen (IsOctetsBefore count f) WantsLiteral b e
 few_open count f b e are le stop =
     let zeros : List ℕ = marked (replicate (count - length b) 0) in
     let long : length zeros ≡ count - length b = length-map (replicate (count - length b) 0) (λ c. c + 256) ∙ length-replicate (count - length b) 0 in
@@ -249,7 +254,8 @@ few_open count f b e are le stop =
     joined [] y h k = k
     joined (c ∷ x) y h k = (h.0, joined x y h.1 k)
 
-octets_stopped : (count : ℕ) (f : Follow) (b : List ℕ) (e : NoCommand) → AreOctets b → octets_at count f b ≡ Err e → Stopped (IsOctetsBefore count f) (octets_at count f) WantsLiteral b e
+octets_stopped : (count : ℕ) (f : Follow) (b : List ℕ) (e : NoCommand) → AreOctets b → octets_at count f b ≡ Err e
+    → Stopped (IsOctetsBefore count f) (octets_at count f) WantsLiteral b e
 octets_stopped count f b e are h = elim (cases_lt count (length b)) [
   | inl lt ↦ within lt (may_follow f (get_or b count 0)) refl e h
   | inr le ↦ before b are le e h
@@ -271,7 +277,8 @@ octets_stopped count f b e are h = elim (cases_lt count (length b)) [
         let rest : List ℕ = drop (count + 1) b in
         let cut : b ≡ front ++ c ∷ rest = sym (take-append-drop count b) ∙ ap (λ (u : List ℕ). front ++ u) (drop_more b count 0 lt) in
         let counted : length front ≡ count = length-take-le count b (omega (arith, lt)) in
-        let g : ◌≡◌ {A = Result (List ℕ × List ℕ) NoCommand} (Err (Bad (suc (length rest)))) (Err e) = sym (ap (octets_at count f) cut ∙ wrong_octets count f front rest c counted may) ∙ h in
+        let g : ◌≡◌ {A = Result (List ℕ × List ℕ) NoCommand} (Err (Bad (suc (length rest)))) (Err e) = sym
+        (ap (octets_at count f) cut ∙ wrong_octets count f front rest c counted may) ∙ h in
         k (suc (length rest)) cc
 
     within : count < length b → (may : Bool) → may_follow f (get_or b count 0) ≡ may → (e : NoCommand) → octets_at count f b ≡ Err e
@@ -291,7 +298,8 @@ octets_stopped count f b e are h = elim (cases_lt count (length b)) [
         let cut : b ≡ front ++ c ∷ rest = sym (take-append-drop count b) ∙ ap (λ (u : List ℕ). front ++ u) (drop_more b count 0 lt) in
         let counted : length front ≡ count = length-take-le count b (omega (arith, lt)) in
         let octets = (each_parts fits_octet front (c ∷ rest) (subst AreOctets cut are)).0 in
-        let g : ◌≡◌ {A = Result (List ℕ × List ℕ) NoCommand} (Err (Bad (suc (length rest)))) (Err (Bad left)) = sym (ap (octets_at count f) cut ∙ wrong_octets count f front rest c counted may) ∙ h in
+        let g : ◌≡◌ {A = Result (List ℕ × List ℕ) NoCommand} (Err (Bad (suc (length rest)))) (Err (Bad left)) = sym
+        (ap (octets_at count f) cut ∙ wrong_octets count f front rest c counted may) ∙ h in
         let left_is : suc (length rest) ≡ left = cc in
         record {
           value = plain_octets (marked front);

@@ -125,7 +125,8 @@ quoted_back (d ∷ s) f e c each may = by (d == 34 || d == 92) refl (quoted_back
         let p = or_parts (d == 34) (d == 92) g in
         subst (λ (u : List ℕ). ReadTo f place.Quoted e c (u ++ 34 ∷ c ∷ [])) (sym (cond-false (d == 34 || d == 92) (92 ∷ d ∷ escaped s) (d ∷ escaped s) g)) (
           r.0,
-          at_false (d == 34) (on f place.Closed e) (cond (d == 92) (on f place.Escaped e) (cond (is_text d) (on f place.Quoted e) Fail)) (λ p. Accepts text_advance p r.0 t) r.0 t p.0
+          at_false (d == 34) (on f place.Closed e) (cond (d == 92) (on f place.Escaped e) (cond (is_text d) (on f place.Quoted e) Fail))
+              (λ p. Accepts text_advance p r.0 t) r.0 t p.0
               (at_false (d == 92) (on f place.Escaped e) (cond (is_text d) (on f place.Quoted e) Fail) (λ p. Accepts text_advance p r.0 t) r.0 t p.1
               (at_true (is_text d) (on f place.Quoted e) Fail (λ p. Accepts text_advance p r.0 t) r.0 t each.0 r.1)),
           r.2,
@@ -146,7 +147,8 @@ name_back s (d ∷ x) f e c (inl a) may out =
     )
 name_back s x f e c (inr q) may out =
     let r = quoted_back s f e c q.0 may in
-    let same : 34 ∷ (escaped s ++ 34 ∷ c ∷ []) ≡ x ++ c ∷ [] = ap (λ (u : List ℕ). 34 ∷ u) (sym (append_assoc (escaped s) (34 ∷ []) (c ∷ []))) ∙ ap (λ (u : List ℕ). u ++ c ∷ []) (sym q.1) in
+    let same : 34 ∷ (escaped s ++ 34 ∷ c ∷ []) ≡ x ++ c ∷ [] = ap (λ (u : List ℕ). 34 ∷ u) (sym (append_assoc (escaped s) (34 ∷ []) (c ∷ [])))
+    ∙ ap (λ (u : List ℕ). u ++ c ∷ []) (sym q.1) in
     subst (ReadTo f place.Start e c) same (r.0, r.1, r.2)
 
 some_place : (p : TextPlace) (f : Follow) (e : ℕ) → IsOutside f → (t : List ℕ) × ReadTo f p e (follow_octet f) t
@@ -172,7 +174,8 @@ text_keeps f s q c w h = by s.place refl
         steps place.Start h = on_if (c == 34) (text_on s place.Quoted) (cond (is_atom c) (text_on s place.Atom) Fail) q (λ g k. here k)
             (λ g k. on_if (is_atom c) (text_on s place.Atom) Fail q (λ i l. here l) (λ i l. absurd cc) k) h
         steps place.Atom h = on_if (is_atom c) (text_on s place.Atom) (text_ended s c) q (λ g k. here k) (λ g k. ended_on s q c k) h
-        steps place.Quoted h = on_if (c == 34) (text_on s place.Closed) (cond (c == 92) (text_on s place.Escaped) (cond (is_text c) (text_on s place.Quoted) Fail)) q (λ g k. here k)
+        steps place.Quoted h = on_if (c == 34) (text_on s place.Closed) (cond (c == 92) (text_on s place.Escaped) (cond (is_text c) (text_on s place.Quoted) Fail)) q
+            (λ g k. here k)
             (λ g k. on_if (c == 92) (text_on s place.Escaped) (cond (is_text c) (text_on s place.Quoted) Fail) q (λ i l. here l)
             (λ i l. on_if (is_text c) (text_on s place.Quoted) Fail q (λ j m. here m) (λ j m. absurd cc) l) k) h
         steps place.Escaped h = on_if (c == 34 || c == 92) (text_on s place.Quoted) Fail q (λ g k. here k) (λ g k. absurd cc) h

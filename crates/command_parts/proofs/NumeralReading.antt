@@ -1,5 +1,6 @@
 -- Numbers are read as what they are.
-use Rattle.std.proofs.Common.{◌≡◌, ℕ, ◌+◌, ◌-◌, ◌*◌, ◌/◌, ◌%◌, ◌<◌, ◌≤◌, min, Bool, true, false, ◌&&◌, List, [], ◌∷◌, ◌++◌, cond, Option, Some, None, refl, sym, ap, subst, ◌∙◌, append_assoc, arith}
+use Rattle.std.proofs.Common.{◌≡◌, ℕ, ◌+◌, ◌-◌, ◌*◌, ◌/◌, ◌%◌, ◌<◌, ◌≤◌, min, Bool, true, false, ◌&&◌, List, [], ◌∷◌, ◌++◌, cond, Option, Some, None, refl, sym, ap, subst, ◌∙◌}
+use Rattle.std.proofs.Common.{append_assoc, arith}
 use Rattle.std.specs.Prelude.{◌==◌, nat_le}
 use Rattle.std.specs.Fmt.{decimal}
 use Rattle.std.proofs.lemmas.Bool.{leb-true, le-leb, eqb-false, ne_eqb}
@@ -124,7 +125,8 @@ numeral_some n = by n.value refl
       num n.most n.follow (Some 0) c,
       48 ∷ c ∷ [],
       subst (λ (o : Option ℕ). Accepts numeral_advance (num n.most n.follow o n.end) (num n.most n.follow (Some 0) c) (48 ∷ c ∷ [])) (sym e)
-          (subst (λ (o : Option ℕ). AcceptsBy (numeral_on (num n.most n.follow None n.end) o) (λ p. Accepts numeral_advance p (num n.most n.follow (Some 0) c) (c ∷ [])) (num n.most n.follow (Some 0) c) (c ∷ []))
+          (subst (λ (o : Option ℕ). AcceptsBy (numeral_on (num n.most n.follow None n.end) o) (λ p. Accepts numeral_advance p (num n.most n.follow (Some 0) c) (c ∷ []))
+          (num n.most n.follow (Some 0) c) (c ∷ []))
           (sym (zero_fits n.most)) (ends_number n.most n.follow 0 n.end c (follows n.follow))),
     )
 
@@ -143,7 +145,8 @@ record DigitsRest (most : ℕ) (f : Follow) (k : ℕ) (v : Numeral) (t : List �
   digits : decimal k ++ front ≡ decimal number
   may : may_follow f v.end ≡ true
 
-ended_rest : (most : ℕ) (f : Follow) (k e c : ℕ) (v : Numeral) (t : List ℕ) → k ≤ most → AcceptsBy (numeral_ended (num most f (Some k) e) c) (λ p. Accepts numeral_advance p v t) v t
+ended_rest : (most : ℕ) (f : Follow) (k e c : ℕ) (v : Numeral) (t : List ℕ) → k ≤ most → AcceptsBy (numeral_ended (num most f (Some k) e) c)
+    (λ p. Accepts numeral_advance p v t) v t
     → DigitsRest most f k v (c ∷ t)
 ended_rest most f k e c v t le h = from_if (may_follow f c) (End (num most f (Some k) c)) Fail (λ p. Accepts numeral_advance p v t) v t
     (λ may g. record {
@@ -173,7 +176,8 @@ digit_rest most f k c w v t small digit e r =
       may = r.may;
     }
 
-digits_forth : (t : List ℕ) (most : ℕ) (f : Follow) (k e : ℕ) (v : Numeral) → most < 18446744073709551616 → k ≤ most → Accepts numeral_advance (num most f (Some k) e) v t → DigitsRest most f k v t
+digits_forth : (t : List ℕ) (most : ℕ) (f : Follow) (k e : ℕ) (v : Numeral) → most < 18446744073709551616 → k ≤ most → Accepts numeral_advance (num most f (Some k) e) v t
+    → DigitsRest most f k v t
 digits_forth [] most f k e v small le h = absurd h
 digits_forth (c ∷ t) most f k e v small le h =
     from_if (is_digit c) (numeral_on (num most f (Some k) e) (with_digit (Some k) (c - 48) most)) (numeral_ended (num most f (Some k) e) c) (λ p. Accepts numeral_advance p v t) v t
@@ -216,7 +220,8 @@ Leads s ds p = (v : Numeral) (t : List ℕ) → Accepts numeral_advance p v t �
 leads_digit : (most : ℕ) (f : Follow) (o : Option ℕ) (d w : ℕ) → d < 10 → with_digit o d most ≡ Some w → Leads (num most f o 0) ((48 + d) ∷ []) (num most f (Some w) 0)
 leads_digit most f o d w lt e v t h =
     let c = digit_of d lt in
-    at_true (is_digit (48 + d)) (numeral_on (num most f o 0) (with_digit o (48 + d - 48) most)) (numeral_ended (num most f o 0) (48 + d)) (λ p. Accepts numeral_advance p v t) v t c.0
+    at_true (is_digit (48 + d)) (numeral_on (num most f o 0) (with_digit o (48 + d - 48) most)) (numeral_ended (num most f o 0) (48 + d))
+    (λ p. Accepts numeral_advance p v t) v t c.0
     (subst (λ (q : Option ℕ). AcceptsBy (numeral_on (num most f o 0) q) (λ p. Accepts numeral_advance p v t) v t) (sym (ap (λ (i : ℕ). with_digit o i most) c.1 ∙ e)) h)
 
 decimal_leads : (most : ℕ) (f : Follow) (n : ℕ) → n < 18446744073709551616 → n ≤ most → Leads (num most f None 0) (decimal n) (num most f (Some n) 0)
@@ -257,7 +262,12 @@ numeral_reader most f small = same_reader NeedMore (Viewed told (Accepts numeral
     forth v t h = subst (λ (w : ℕ × ℕ). NumeralText most f w t) (sym h.2) (number_forth t most f h.0 small h.1)
 
     back : (v : ℕ × ℕ) (t : List ℕ) → NumeralText most f v t → Viewed told (Accepts numeral_advance (num most f None 0)) v t
-    back v t h = (num most f (Some v.0) v.1, subst (Accepts numeral_advance (num most f None 0) (num most f (Some v.0) v.1)) (sym h.0) (number_back most f v.0 v.1 small h.1 h.2), refl)
+    back v t h = (
+      num most f (Some v.0) v.1,
+      subst (Accepts numeral_advance (num most f None 0) (num most f (Some v.0) v.1)) (sym h.0)
+          (number_back most f v.0 v.1 small h.1 h.2),
+      refl,
+    )
 
 abbrev at_most : ℕ × ℕ → List ℕ → ℕ × ℕ
 at_most v b = (min v.0 4294967295, v.1)

@@ -241,7 +241,8 @@ last_forth s t h =
     let feed = line_feed th.back (fixed_word word.LineFeed th.second.0 th.back th.second.1) in
     let cr : h.0.1 ≡ 13 = carriage h.0.1 n.3 in (
       n.0,
-      th.whole ∙ ap (λ (u : List ℕ). u ++ th.back) (n.1 ∙ ap (λ (c : ℕ). n.0 ++ c ∷ []) cr) ∙ ap (λ (u : List ℕ). (n.0 ++ 13 ∷ []) ++ u) feed ∙ append_assoc n.0 (13 ∷ []) (10 ∷ []),
+      th.whole ∙ ap (λ (u : List ℕ). u ++ th.back) (n.1 ∙ ap (λ (c : ℕ). n.0 ++ c ∷ []) cr) ∙ ap (λ (u : List ℕ). (n.0 ++ 13 ∷ []) ++ u) feed
+          ∙ append_assoc n.0 (13 ∷ []) (10 ∷ []),
       subst (λ (u : List ℕ). IsFolderName u n.0) (sym th.second.2) n.2,
     )
 
@@ -262,4 +263,5 @@ unfolding last_name_at
 last_name_reader = same_reader NeedMore NameLine LastName (chained (name_at follow.Line) (λ v. viewed (λ k b. v.0) (fixed_at word.LineFeed))) last_forth last_back
     (chain_reader NeedMore (λ v. NeedMore) (NameText follow.Line) (λ v. Viewed (λ k b. v.0) (Choices (word.LineFeed ∷ []))) (name_at follow.Line)
     (λ v. viewed (λ k b. v.0) (fixed_at word.LineFeed)) (name_reader follow.Line line_outside)
-    (λ v. view_reader NeedMore (λ k b. v.0) (Choices (word.LineFeed ∷ [])) (fixed_at word.LineFeed) (fixed_reader word.LineFeed refl) (λ a t rest h. refl)) (λ v t h. name_stop follow.Line v t h))
+    (λ v. view_reader NeedMore (λ k b. v.0) (Choices (word.LineFeed ∷ [])) (fixed_at word.LineFeed) (fixed_reader word.LineFeed refl) (λ a t rest h. refl))
+    (λ v t h. name_stop follow.Line v t h))

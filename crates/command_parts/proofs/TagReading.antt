@@ -138,8 +138,10 @@ tag_reader = same_reader NeedMore (Viewed (λ a b. take a.count b) (Accepts tag_
 
     back : (s t : List ℕ) → TagText s t → Viewed (λ a b. take a.count b) (Accepts tag_advance (tag 0)) s t
     back s t h =
-        let k : Accepts tag_advance (tag 0) (tag (0 + length s)) t = subst (Accepts tag_advance (tag 0) (tag (0 + length s))) (sym h.0) (tag_back s 0 h.1.0 (omega (arith, h.1.1)) (omega (arith, h.1.2))) in (
+        let k : Accepts tag_advance (tag 0) (tag (0 + length s)) t = subst (Accepts tag_advance (tag 0) (tag (0 + length s))) (sym h.0)
+        (tag_back s 0 h.1.0 (omega (arith, h.1.1)) (omega (arith, h.1.2))) in (
           tag (0 + length s),
           k,
-          sym (ap (take (0 + length s)) (plain_small t (accepted_octets tag_advance tag_plain (tag 0) (tag (0 + length s)) t k) ∙ h.0) ∙ take_at s (32 ∷ []) (0 + length s) (omega arith)),
+          sym (ap (take (0 + length s)) (plain_small t (accepted_octets tag_advance tag_plain (tag 0) (tag (0 + length s)) t k) ∙ h.0)
+              ∙ take_at s (32 ∷ []) (0 + length s) (omega arith)),
         )

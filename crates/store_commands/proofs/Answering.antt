@@ -1,5 +1,6 @@
 -- A reader of commands answers what octets are, and no octets have two answers.
-use Rattle.std.proofs.Common.{◌≡◌, ℕ, suc, ◌+◌, ◌-◌, ◌<◌, ◌≤◌, Bool, true, false, List, [], ◌∷◌, ◌++◌, length, take, drop, get_or, cond, refl, sym, ap, subst, ◌∙◌, append_assoc, arith, inl, inr}
+use Rattle.std.proofs.Common.{◌≡◌, ℕ, suc, ◌+◌, ◌-◌, ◌<◌, ◌≤◌, Bool, true, false, List, [], ◌∷◌, ◌++◌, length, take, drop, get_or, cond, refl, sym, ap, subst, ◌∙◌, append_assoc}
+use Rattle.std.proofs.Common.{arith, inl, inr}
 use Rattle.std.specs.Prelude.{Result, Ok, Err, IfOk, MatchResult}
 use Rattle.std.proofs.lemmas.List.{length-append, length-drop, take-append-drop, take-take, take-map, take_at, take-append-le, append-nil}
 use Rattle.std.proofs.lemmas.Bool.{lt-ltb, cases_lt, cases_order}
@@ -137,7 +138,8 @@ answer_right R r b are (Err s) e = stopped_answer R r b s (r.stopped b s are e)
 
 -- ---- no octets have two answers
 
-whole_given : (R : Reading) → IsReader none.NeedMore Commands R → (b : List ℕ) (count : ℕ) (tag : List ℕ) (command : Command) → count ≤ length b → IsCommand tag command (take count b)
+whole_given : (R : Reading) → IsReader none.NeedMore Commands R → (b : List ℕ) (count : ℕ) (tag : List ℕ) (command : Command) → count ≤ length b
+    → IsCommand tag command (take count b)
     → Whole count tag command ≡ answer_to b (R b)
 whole_given R r b count tag command le h =
     let e : R b ≡ Ok ((tag, command), drop count b) =
@@ -193,7 +195,8 @@ bad_bad b at other s t = elim (cases_order at other) [
   | inr h ↦ elim h [ inl lt ↦ absurd (bad_later b at other lt s t) | inr lt ↦ absurd (bad_later b other at lt t s) ]
 ]
 
-whole_bad : (R : Reading) → IsReader none.NeedMore Commands R → (b : List ℕ) (count at : ℕ) (tag : List ℕ) (command : Command) → count ≤ length b → IsCommand tag command (take count b)
+whole_bad : (R : Reading) → IsReader none.NeedMore Commands R → (b : List ℕ) (count at : ℕ) (tag : List ℕ) (command : Command) → count ≤ length b
+    → IsCommand tag command (take count b)
     → StopsAt b at → ⊥
 whole_bad R r b count at tag command le h s = elim (cases_lt at count) [
   | inl lt ↦ s.no_command (subst IsCommandPrefix (take-take (at + 1) count b (omega (arith, lt)))

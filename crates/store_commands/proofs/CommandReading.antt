@@ -100,7 +100,8 @@ pub parts_reader : IsReader NeedMore CommandParts command_at
 unfolding command_at
 parts_reader = chain_reader NeedMore (λ tag. NeedMore) TagText (λ tag. Chain (Choices commands) (λ w. Viewed (λ c b. (tag, c)) (Arguments w))) tag_at
     (λ tag. chained (choice_at choice.Commands) (λ w. viewed (λ c b. (tag, c)) (arguments_at w))) tag_reader
-    (λ tag. chain_reader NeedMore behind (Choices commands) (λ w. Viewed (λ c b. (tag, c)) (Arguments w)) (choice_at choice.Commands) (λ w. viewed (λ c b. (tag, c)) (arguments_at w))
+    (λ tag. chain_reader NeedMore behind (Choices commands) (λ w. Viewed (λ c b. (tag, c)) (Arguments w)) (choice_at choice.Commands)
+    (λ w. viewed (λ c b. (tag, c)) (arguments_at w))
     (choose_reader word.Capability more refl) (λ w. view_reader (behind w) (λ c b. (tag, c)) (Arguments w) (arguments_at w) (arguments_reader w) (λ a t rest h. refl))
     (word_behind commands all)) tag_stop
   where

@@ -1,5 +1,6 @@
 -- The date of an APPEND as it is written is a date-time of its nearest second.
-use Rattle.std.proofs.Common.{◌≡◌, ℕ, zero, suc, ◌+◌, ◌-◌, ◌*◌, ◌/◌, ◌%◌, ◌<◌, ◌≤◌, min, Bool, true, false, ℤ, pos, negsuc, ◌-ℤ◌, [], ◌∷◌, ◌++◌, cond, refl, sym, ap, append_assoc, arith, inl}
+use Rattle.std.proofs.Common.{◌≡◌, ℕ, zero, suc, ◌+◌, ◌-◌, ◌*◌, ◌/◌, ◌%◌, ◌<◌, ◌≤◌, min, Bool, true, false, ℤ, pos, negsuc, ◌-ℤ◌, [], ◌∷◌, ◌++◌, cond, refl, sym, ap, append_assoc}
+use Rattle.std.proofs.Common.{arith, inl}
 use Rattle.std.specs.Prelude.{nat_lt}
 use Rattle.std.proofs.lemmas.Bool.{ltb-true, ltb-false}
 use Rattle.jiff_core.specs.Calendar.{days_in_month, day_count}

@@ -22,7 +22,8 @@ use Rattle.store_commands.proofs.MessageCommands.{FetchArguments, OpenRange, Clo
 -- ---- what is fetched
 
 abbrev header_text : Bool → List ℕ
-header_text modseq = cond modseq (codes "(uid flags modseq internaldate rfc822.size body.peek[header]<0.32768>)") (codes "(uid flags internaldate rfc822.size body.peek[header]<0.32768>)")
+header_text modseq = cond modseq (codes "(uid flags modseq internaldate rfc822.size body.peek[header]<0.32768>)")
+    (codes "(uid flags internaldate rfc822.size body.peek[header]<0.32768>)")
 
 header_items : (modseq : Bool) (q : List ℕ) → IsWord (header_text modseq) q → IsHeaderItems modseq (32 ∷ q)
 header_items true q h = ap (λ (u : List ℕ). 32 ∷ u) h
@@ -67,9 +68,11 @@ new_asks uid modseq y q r w le h e =
     regroup : (y a q : List ℕ) → y ++ ((a ++ 58 ∷ []) ++ (42 ∷ 32 ∷ [] ++ (q ++ crlf))) ≡ (y ++ (a ++ (58 ∷ 42 ∷ [] ++ (32 ∷ q)))) ++ crlf
     regroup y a q = simp append_assoc
 
-flags_asks : (y q r : List ℕ) → IsWord (codes "uid fetch ") y → IsWord (codes "(uid flags)") q → r ≡ y ++ ((decimal 1 ++ 58 ∷ []) ++ (42 ∷ 32 ∷ [] ++ (q ++ crlf))) → Asks command.FetchFlags r
+flags_asks : (y q r : List ℕ) → IsWord (codes "uid fetch ") y → IsWord (codes "(uid flags)") q → r ≡ y ++ ((decimal 1 ++ 58 ∷ []) ++ (42 ∷ 32 ∷ [] ++ (q ++ crlf)))
+    → Asks command.FetchFlags r
 flags_asks y q r w h e =
-    then_of (y ++ (49 ∷ 58 ∷ 42 ∷ 32 ∷ [] ++ q)) crlf r (e ∙ ap (λ (v : List ℕ). y ++ ((v ++ 58 ∷ []) ++ (42 ∷ 32 ∷ [] ++ (q ++ crlf)))) (decimal_digit 1 (omega arith)) ∙ regroup y q)
+    then_of (y ++ (49 ∷ 58 ∷ 42 ∷ 32 ∷ [] ++ q)) crlf r (e ∙ ap (λ (v : List ℕ). y ++ ((v ++ 58 ∷ []) ++ (42 ∷ 32 ∷ [] ++ (q ++ crlf)))) (decimal_digit 1 (omega arith))
+    ∙ regroup y q)
     (word_join (codes "uid fetch ") (codes "1:* (uid flags)") y (49 ∷ 58 ∷ 42 ∷ 32 ∷ [] ++ q) w (ap (λ (u : List ℕ). 49 ∷ 58 ∷ 42 ∷ 32 ∷ u) h)) refl
   where
     regroup : (y q : List ℕ) → y ++ ((49 ∷ [] ++ 58 ∷ []) ++ (42 ∷ 32 ∷ [] ++ (q ++ crlf))) ≡ (y ++ (49 ∷ 58 ∷ 42 ∷ 32 ∷ [] ++ q)) ++ crlf
@@ -123,7 +126,8 @@ open_asks uid c y t r w le h e =
     fetches_asks uid c y k.back r w le (subst (λ (x : Command). Fetches uid x k.back) (sym s.2) (fetches uid s.0 k.back s.1.0 s.1.1))
     (e ∙ ap (λ (v : List ℕ). y ++ ((decimal uid ++ 58 ∷ []) ++ v)) (k.whole ∙ ap (λ (v : List ℕ). v ++ k.back) star))
 
-closed_asks : (uid : ℕ) (c : Command) (y t r : List ℕ) → IsWord (codes "uid fetch ") y → uid ≤ 4294967295 → ClosedRange uid c t → r ≡ y ++ ((decimal uid ++ 58 ∷ []) ++ t) → Asks c r
+closed_asks : (uid : ℕ) (c : Command) (y t r : List ℕ) → IsWord (codes "uid fetch ") y → uid ≤ 4294967295 → ClosedRange uid c t → r ≡ y ++ ((decimal uid ++ 58 ∷ []) ++ t)
+    → Asks c r
 closed_asks uid c y t r w le h e =
     let k = h.1 in
     let n = k.first in
@@ -157,7 +161,8 @@ fetch_forth c r h = by (u.0.1 == 58) refl u.1.second
 -- ---- back
 
 -- a range without an end
-open_spelled : (uid : ℕ) (c : Command) (w : FixedText) (y t r : List ℕ) → IsWord (codes "uid fetch ") y → uid ≤ 4294967295 → OneOf w (fixed_texts (items_from uid)) → IsWord (fixed_text w) t
+open_spelled : (uid : ℕ) (c : Command) (w : FixedText) (y t r : List ℕ) → IsWord (codes "uid fetch ") y → uid ≤ 4294967295 → OneOf w (fixed_texts (items_from uid))
+    → IsWord (fixed_text w) t
     → c ≡ fetched_from uid w → r ≡ y ++ ((decimal uid ++ 58 ∷ []) ++ (42 ∷ 32 ∷ [] ++ t)) → Spelled word.Fetch FetchArguments c r
 open_spelled uid c w y t r h le one item same e = (
   y,
@@ -203,10 +208,12 @@ new_back uid modseq r h =
     let k = one_item modseq in
     let star : s.front ≡ 58 ∷ 42 ∷ [] = sign_word (58 ∷ 42 ∷ []) s.front refl s.first in
     let all : r ≡ (w.front ++ (decimal uid ++ (58 ∷ 42 ∷ [] ++ (32 ∷ i.0)))) ++ crlf =
-    h.whole ∙ ap (λ (v : List ℕ). v ++ h.back) (w.whole ∙ ap (λ (v : List ℕ). w.front ++ v) (n.whole ∙ ap (λ (v : List ℕ). v ++ n.back) n.first.0 ∙ ap (λ (v : List ℕ). decimal uid ++ v)
+    h.whole ∙ ap (λ (v : List ℕ). v ++ h.back) (w.whole ∙ ap (λ (v : List ℕ). w.front ++ v)
+    (n.whole ∙ ap (λ (v : List ℕ). v ++ n.back) n.first.0 ∙ ap (λ (v : List ℕ). decimal uid ++ v)
     (s.whole ∙ ap (λ (v : List ℕ). v ++ s.back) star ∙ ap (λ (v : List ℕ). 58 ∷ 42 ∷ [] ++ v) i.1)))
     ∙ ap (λ (v : List ℕ). (w.front ++ (decimal uid ++ (58 ∷ 42 ∷ [] ++ (32 ∷ i.0)))) ++ v) h.second in
-    open_spelled uid (command.FetchNew uid modseq) k.0 w.front (i.0 ++ crlf) r w.first n.first.1 (k.2 (uid == 1)) (word_join (header_text modseq) crlf i.0 crlf i.2 refl ∙ sym k.1) (k.3 uid)
+    open_spelled uid (command.FetchNew uid modseq) k.0 w.front (i.0 ++ crlf) r w.first n.first.1 (k.2 (uid == 1)) (word_join (header_text modseq) crlf i.0 crlf i.2 refl ∙ sym k.1)
+    (k.3 uid)
     (all ∙ regroup w.front (decimal uid) i.0)
   where
     regroup : (y a q : List ℕ) → (y ++ (a ++ (58 ∷ 42 ∷ [] ++ (32 ∷ q)))) ++ crlf ≡ y ++ ((a ++ 58 ∷ []) ++ (42 ∷ 32 ∷ [] ++ (q ++ crlf)))
@@ -239,7 +246,8 @@ slice_back from to modseq r h =
     let colon : s.front ≡ 58 ∷ [] = sign_word (58 ∷ []) s.front refl s.first in
     let all : r ≡ (w.front ++ (a ++ (58 ∷ [] ++ (b ++ (32 ∷ i.0))))) ++ crlf =
     h.whole ∙ ap (λ (v : List ℕ). v ++ h.back) (w.whole ∙ ap (λ (v : List ℕ). w.front ++ v) (n.whole ∙ ap (λ (v : List ℕ). v ++ n.back) n.first.0 ∙ ap (λ (v : List ℕ). a ++ v)
-    (s.whole ∙ ap (λ (v : List ℕ). v ++ s.back) colon ∙ ap (λ (v : List ℕ). 58 ∷ [] ++ v) (m.whole ∙ ap (λ (v : List ℕ). v ++ m.back) m.first.0 ∙ ap (λ (v : List ℕ). b ++ v) i.1))))
+    (s.whole ∙ ap (λ (v : List ℕ). v ++ s.back) colon ∙ ap (λ (v : List ℕ). 58 ∷ [] ++ v) (m.whole ∙ ap (λ (v : List ℕ). v ++ m.back) m.first.0
+    ∙ ap (λ (v : List ℕ). b ++ v) i.1))))
     ∙ ap (λ (v : List ℕ). (w.front ++ (a ++ (58 ∷ [] ++ (b ++ (32 ∷ i.0))))) ++ v) h.second in (
       w.front,
       (a ++ 58 ∷ []) ++ ((b ++ 32 ∷ []) ++ (i.0 ++ crlf)),
@@ -277,7 +285,8 @@ body_back uid r h =
     let i = word_split (32 ∷ []) (codes "(uid body.peek[]<0.50000000>)") n.back n.second in
     let items : n.back ≡ 32 ∷ i.1 = i.2 ∙ ap (λ (v : List ℕ). v ++ i.1) (sign_word (32 ∷ []) i.0 refl i.3) in
     let all : r ≡ (w.front ++ (a ++ (32 ∷ i.1))) ++ crlf =
-    h.whole ∙ ap (λ (v : List ℕ). v ++ h.back) (w.whole ∙ ap (λ (v : List ℕ). w.front ++ v) (n.whole ∙ ap (λ (v : List ℕ). v ++ n.back) n.first.0 ∙ ap (λ (v : List ℕ). a ++ v) items))
+    h.whole ∙ ap (λ (v : List ℕ). v ++ h.back) (w.whole ∙ ap (λ (v : List ℕ). w.front ++ v)
+    (n.whole ∙ ap (λ (v : List ℕ). v ++ n.back) n.first.0 ∙ ap (λ (v : List ℕ). a ++ v) items))
     ∙ ap (λ (v : List ℕ). (w.front ++ (a ++ (32 ∷ i.1))) ++ v) h.second in (
       w.front,
       (a ++ 32 ∷ []) ++ (i.1 ++ crlf),

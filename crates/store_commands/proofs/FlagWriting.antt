@@ -27,7 +27,8 @@ system_name f name =
     (one_of f (codes "\\answered") (codes "\\Answered") _ refl (inr (codes "Answered", refl, ((refl, (refl, (refl, (refl, (refl, (refl, (refl, (refl, tt)))))))), omega arith)))
     (one_of f (codes "\\flagged") (codes "\\Flagged") _ refl (inr (codes "Flagged", refl, ((refl, (refl, (refl, (refl, (refl, (refl, (refl, tt))))))), omega arith)))
     (one_of f (codes "\\draft") (codes "\\Draft") _ refl (inr (codes "Draft", refl, ((refl, (refl, (refl, (refl, (refl, tt))))), omega arith)))
-    (one_of f (codes "\\deleted") (codes "\\Deleted") f refl (inr (codes "Deleted", refl, ((refl, (refl, (refl, (refl, (refl, (refl, (refl, tt))))))), omega arith))) (refl, name)))))
+    (one_of f (codes "\\deleted") (codes "\\Deleted") f refl (inr (codes "Deleted", refl, ((refl, (refl, (refl, (refl, (refl, (refl, (refl, tt))))))), omega arith)))
+    (refl, name)))))
 
 names_written : (fs : List (List ℕ)) → AllNames fs → AllNames (map flag_text fs)
 names_written [] h = tt

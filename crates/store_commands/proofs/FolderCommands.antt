@@ -13,7 +13,8 @@ use Rattle.command_parts.specs.reading.FixedTexts.{fixed_at}
 use Rattle.imap_syntax.specs.DateTimes.{IsDateTime}
 use Rattle.command_parts.specs.reading.Lexemes.{numeral_at, number_at}
 use Rattle.command_parts.specs.reading.Strings.{last_name_at, name_at, literal_at, flags_at, date_at, credential_at}
-use Rattle.store_commands.specs.reading.Arguments.{login_at, known_at, known_folder_at, new_folder_at, selected_at, select_at, append_at, create_at, delete_at, rename_at, subscribe_at}
+use Rattle.store_commands.specs.reading.Arguments.{login_at, known_at, known_folder_at, new_folder_at, selected_at, select_at, append_at, create_at, delete_at, rename_at}
+use Rattle.store_commands.specs.reading.Arguments.{subscribe_at}
 use Rattle.command_parts.proofs.Readers.{stop_of, IsReader}
 use Rattle.command_parts.proofs.Chains.{Chain, chained, chain_reader, Viewed, viewed, view_reader}
 use Rattle.command_parts.proofs.Choosing.{Choices}
@@ -77,7 +78,8 @@ RenameArguments = Chain (NameText follow.Space) (λ v. Named (command.Rename v.0
 
 pub rename_reader : IsReader NeedMore RenameArguments rename_at
 unfolding rename_at
-rename_reader = chain_reader NeedMore (λ v. NeedMore) (NameText follow.Space) (λ v. Named (command.Rename v.0)) (name_at follow.Space) (λ v. viewed (λ s b. command.Rename v.0 s) last_name_at)
+rename_reader = chain_reader NeedMore (λ v. NeedMore) (NameText follow.Space) (λ v. Named (command.Rename v.0)) (name_at follow.Space)
+    (λ v. viewed (λ s b. command.Rename v.0 s) last_name_at)
     (name_reader follow.Space space_outside) (λ v. named_reader (command.Rename v.0)) (λ v t h. name_stop follow.Space v t h)
 
 -- ---- SELECT
@@ -131,12 +133,14 @@ abbrev message : (List ℕ → Command) → List ℕ → Result (Command × List
 message g = chained (fixed_at word.LiteralOpen) (λ k. chained (literal_at follow.Line) (λ s. ended (g s)))
 
 literal_stop : (f : Follow) (s t : List ℕ) → LiteralText f s t → stop_of NeedMore t ≡ NeedMore
-literal_stop f s t h = stop_open t (h.digits ++ 125 ∷ 13 ∷ 10 ∷ h.octets) h.stop (h.whole ∙ sym (append_assoc h.digits (125 ∷ 13 ∷ 10 ∷ h.octets) (h.stop ∷ []))) (follow_no_line f h.stop h.may)
+literal_stop f s t h = stop_open t (h.digits ++ 125 ∷ 13 ∷ 10 ∷ h.octets) h.stop (h.whole ∙ sym (append_assoc h.digits (125 ∷ 13 ∷ 10 ∷ h.octets) (h.stop ∷ [])))
+    (follow_no_line f h.stop h.may)
 
 message_reader : (g : List ℕ → Command) → IsReader NeedMore (Message g) (message g)
 message_reader g = chain_reader NeedMore (λ k. NeedMore) (Choices (word.LiteralOpen ∷ [])) (λ k. Chain (LiteralText follow.Line) (λ s. Ended (g s))) (fixed_at word.LiteralOpen)
     (λ k. chained (literal_at follow.Line) (λ s. ended (g s))) (fixed_reader word.LiteralOpen refl)
-    (λ k. chain_reader NeedMore (λ s. NeedMore) (LiteralText follow.Line) (λ s. Ended (g s)) (literal_at follow.Line) (λ s. ended (g s)) (literal_reader follow.Line) (λ s. ended_reader (g s))
+    (λ k. chain_reader NeedMore (λ s. NeedMore) (LiteralText follow.Line) (λ s. Ended (g s)) (literal_at follow.Line) (λ s. ended (g s)) (literal_reader follow.Line)
+    (λ s. ended_reader (g s))
     (λ s t h. literal_stop follow.Line s t h)) (λ k t h. fixed_stop word.LiteralOpen k t h)
 
 abbrev pub Dated : (ℤ → List ℕ → Command) → Command → List ℕ → Type 0
@@ -160,7 +164,8 @@ marked_by g = chained (fixed_at word.Open) (λ k. chained flags_at (λ fs. dated
 marked_reader : (g : List (List ℕ) → ℤ → List ℕ → Command) → IsReader NeedMore (Marked g) (marked_by g)
 marked_reader g = chain_reader NeedMore (λ k. NeedMore) (Choices (word.Open ∷ [])) (λ k. Chain FlagsText (λ fs. Dated (g fs))) (fixed_at word.Open)
     (λ k. chained flags_at (λ fs. dated (g fs))) (fixed_reader word.Open refl)
-    (λ k. chain_reader NeedMore (λ fs. NeedMore) FlagsText (λ fs. Dated (g fs)) flags_at (λ fs. dated (g fs)) flags_reader (λ fs. dated_reader (g fs)) (λ fs t h. flags_stop fs t h))
+    (λ k. chain_reader NeedMore (λ fs. NeedMore) FlagsText (λ fs. Dated (g fs)) flags_at (λ fs. dated (g fs)) flags_reader (λ fs. dated_reader (g fs))
+    (λ fs t h. flags_stop fs t h))
     (λ k t h. fixed_stop word.Open k t h)
 
 abbrev pub AppendArguments : Command → List ℕ → Type 0

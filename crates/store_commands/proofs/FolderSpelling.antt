@@ -154,7 +154,8 @@ named_forth w g c r k h =
     subst (λ (x : Command). Asks x r) (sym h.4.2)
     (then_of (h.0 ++ n.0) crlf r (h.2 ∙ ap (λ (u : List ℕ). h.0 ++ u) n.1 ∙ sym (append_assoc h.0 n.0 crlf)) (k h.4.0 n.0 h.0 (h.0 ++ n.0) refl h.3 n.2) refl)
 
-named_back : (w : FixedText) (g : List ℕ → Command) (s x y t back r : List ℕ) → r ≡ t ++ back → back ≡ crlf → t ≡ y ++ x → IsWord (fixed_text w) y → IsFolderName s x → Spelled w (Named g) (g s) r
+named_back : (w : FixedText) (g : List ℕ → Command) (s x y t back r : List ℕ) → r ≡ t ++ back → back ≡ crlf → t ≡ y ++ x → IsWord (fixed_text w) y → IsFolderName s x
+    → Spelled w (Named g) (g s) r
 named_back w g s x y t back r e line cut h name =
     (y, x ++ crlf, e ∙ ap (λ (u : List ℕ). u ++ back) cut ∙ append_assoc y x back ∙ ap (λ (u : List ℕ). y ++ (x ++ u)) line, h, (s, (x, refl, name), refl))
 
@@ -273,11 +274,13 @@ list_atom_forth c r h = fixed_forth (codes "list \"\" *") command.List c r h.0 h
 
 pub list_subscribed_forth : (c : Command) (r : List ℕ) → Spelled word.ListSubscribed (Nothing command.List) c r → Asks c r
 list_subscribed_forth c r h =
-    fixed_forth (codes "list \"\" \"*\" return (subscribed)") command.List c r h.0 h.1 h.2 h.3 h.4 (list_request (codes "\"*\"") (codes " return (subscribed)") refl (inl refl) (λ x e. inr e))
+    fixed_forth (codes "list \"\" \"*\" return (subscribed)") command.List c r h.0 h.1 h.2 h.3 h.4
+    (list_request (codes "\"*\"") (codes " return (subscribed)") refl (inl refl) (λ x e. inr e))
 
 pub list_atom_subscribed_forth : (c : Command) (r : List ℕ) → Spelled word.ListAtomSubscribed (Nothing command.List) c r → Asks c r
 list_atom_subscribed_forth c r h =
-    fixed_forth (codes "list \"\" * return (subscribed)") command.List c r h.0 h.1 h.2 h.3 h.4 (list_request (codes "*") (codes " return (subscribed)") refl (inr refl) (λ x e. inr e))
+    fixed_forth (codes "list \"\" * return (subscribed)") command.List c r h.0 h.1 h.2 h.3 h.4
+    (list_request (codes "*") (codes " return (subscribed)") refl (inr refl) (λ x e. inr e))
 
 -- one of the four texts
 abbrev pub ListSpelled : List ℕ → Type 0
@@ -286,7 +289,8 @@ ListSpelled r =
     ⊎ (Spelled word.ListSubscribed (Nothing command.List) command.List r ⊎ Spelled word.ListAtomSubscribed (Nothing command.List) command.List r))
 
 pub list_back : (r : List ℕ) → Asks command.List r → ListSpelled r
-list_back r h = by w.second.front w.second.back w.second.first w.second.second (h.whole ∙ ap (λ (u : List ℕ). u ++ h.back) (w.whole ∙ ap (λ (u : List ℕ). w.front ++ u) w.second.whole))
+list_back r h = by w.second.front w.second.back w.second.first w.second.second (h.whole ∙ ap (λ (u : List ℕ). u ++ h.back)
+    (w.whole ∙ ap (λ (u : List ℕ). w.front ++ u) w.second.whole))
   where
     w : Then (IsWord (codes "list \"\" ")) (IsAnyName ▷ IsReturn) h.front
     w = h.first
@@ -302,10 +306,12 @@ list_back r h = by w.second.front w.second.back w.second.first w.second.second (
         inr (inl (fixed_back (codes "list \"\" *") word.ListAtom command.List (w.front ++ (name ++ options)) r refl (text (w.front ++ (name ++ options)) e)
         (word_join (codes "list \"\" ") (codes "*") w.front (name ++ options) w.first (word_join (codes "*") [] name options (ap (map lower) n) (ap (map lower) o)))))
     by name options (inl n) (inr o) e =
-        inr (inr (inl (fixed_back (codes "list \"\" \"*\" return (subscribed)") word.ListSubscribed command.List (w.front ++ (name ++ options)) r refl (text (w.front ++ (name ++ options)) e)
+        inr (inr (inl (fixed_back (codes "list \"\" \"*\" return (subscribed)") word.ListSubscribed command.List (w.front ++ (name ++ options)) r refl
+        (text (w.front ++ (name ++ options)) e)
         (word_join (codes "list \"\" ") (codes "\"*\" return (subscribed)") w.front (name ++ options) w.first
         (word_join (codes "\"*\"") (codes " return (subscribed)") name options (ap (map lower) n) o)))))
     by name options (inr n) (inr o) e =
-        inr (inr (inr (fixed_back (codes "list \"\" * return (subscribed)") word.ListAtomSubscribed command.List (w.front ++ (name ++ options)) r refl (text (w.front ++ (name ++ options)) e)
+        inr (inr (inr (fixed_back (codes "list \"\" * return (subscribed)") word.ListAtomSubscribed command.List (w.front ++ (name ++ options)) r refl
+        (text (w.front ++ (name ++ options)) e)
         (word_join (codes "list \"\" ") (codes "* return (subscribed)") w.front (name ++ options) w.first
         (word_join (codes "*") (codes " return (subscribed)") name options (ap (map lower) n) o)))))

@@ -38,7 +38,8 @@ ExpungeArguments = Chain (Number follow.Line) (λ v. Ended (command.Expunge v.0)
 
 pub expunge_reader : IsReader NeedMore ExpungeArguments expunge_at
 unfolding expunge_at
-expunge_reader = chain_reader NeedMore (λ v. NeedMore) (Number follow.Line) (λ v. Ended (command.Expunge v.0)) (number_at follow.Line) (λ v. ended (command.Expunge v.0)) (number_reader follow.Line)
+expunge_reader = chain_reader NeedMore (λ v. NeedMore) (Number follow.Line) (λ v. Ended (command.Expunge v.0)) (number_at follow.Line) (λ v. ended (command.Expunge v.0))
+    (number_reader follow.Line)
     (λ v. ended_reader (command.Expunge v.0)) (λ v t h. number_stop 4294967295 follow.Line v t h)
 
 abbrev pub MoveArguments : Command → List ℕ → Type 0
@@ -46,8 +47,10 @@ MoveArguments = Chain (Number follow.Space) (λ v. Named (command.Move v.0))
 
 pub move_reader : IsReader NeedMore MoveArguments move_at
 unfolding move_at
-move_reader = chain_reader NeedMore (λ v. NeedMore) (Number follow.Space) (λ v. Named (command.Move v.0)) (number_at follow.Space) (λ v. viewed (λ s b. command.Move v.0 s) last_name_at)
-    (number_reader follow.Space) (λ v. view_reader NeedMore (λ s b. command.Move v.0 s) LastName last_name_at last_name_reader (λ a t rest h. refl)) (λ v t h. number_stop 4294967295 follow.Space v t h)
+move_reader = chain_reader NeedMore (λ v. NeedMore) (Number follow.Space) (λ v. Named (command.Move v.0)) (number_at follow.Space)
+    (λ v. viewed (λ s b. command.Move v.0 s) last_name_at)
+    (number_reader follow.Space) (λ v. view_reader NeedMore (λ s b. command.Move v.0 s) LastName last_name_at last_name_reader (λ a t rest h. refl))
+    (λ v t h. number_stop 4294967295 follow.Space v t h)
 
 -- ---- STORE
 
@@ -67,7 +70,8 @@ abbrev flagged : ℕ → FixedText → List ℕ → Result (Command × List ℕ)
 flagged uid k = chained flags_at (λ fs. line_ended (command.Store uid (is_add k) fs))
 
 flagged_reader : (uid : ℕ) (k : FixedText) → IsReader NeedMore (Flagged uid k) (flagged uid k)
-flagged_reader uid k = chain_reader NeedMore (λ fs. NeedMore) FlagsText (λ fs. LineEnded (command.Store uid (is_add k) fs)) flags_at (λ fs. line_ended (command.Store uid (is_add k) fs)) flags_reader
+flagged_reader uid k = chain_reader NeedMore (λ fs. NeedMore) FlagsText (λ fs. LineEnded (command.Store uid (is_add k) fs)) flags_at
+    (λ fs. line_ended (command.Store uid (is_add k) fs)) flags_reader
     (λ fs. line_ended_reader (command.Store uid (is_add k) fs)) (λ fs t h. flags_stop fs t h)
 
 change_stop : (k : FixedText) (t : List ℕ) → Choices (word.Add ∷ word.Remove ∷ []) k t → stop_of NeedMore t ≡ NeedMore
@@ -110,7 +114,8 @@ OpenRange uid = Chain (Choices (word.LastUid ∷ [])) (λ k. Viewed (λ w b. fet
 
 open_reader : (uid : ℕ) → IsReader NeedMore (OpenRange uid) (open_range_at uid)
 unfolding open_range_at
-open_reader uid = chain_reader NeedMore (λ k. NeedMore) (Choices (word.LastUid ∷ [])) (λ k. Viewed (λ w b. fetched_from uid w) (Choices (fixed_texts (items_from uid)))) (fixed_at word.LastUid)
+open_reader uid = chain_reader NeedMore (λ k. NeedMore) (Choices (word.LastUid ∷ [])) (λ k. Viewed (λ w b. fetched_from uid w) (Choices (fixed_texts (items_from uid))))
+    (fixed_at word.LastUid)
     (λ k. viewed (λ w b. fetched_from uid w) (choice_at (items_from uid))) (fixed_reader word.LastUid refl)
     (λ k. view_reader NeedMore (λ w b. fetched_from uid w) (Choices (fixed_texts (items_from uid))) (choice_at (items_from uid)) (items_reader (uid == 1)) (λ a t rest h. refl))
     (λ k t h. fixed_stop word.LastUid k t h)
@@ -120,7 +125,8 @@ ClosedRange uid = Chain (Number follow.Space) (λ v. Viewed (λ w b. fetched_sli
 
 closed_reader : (uid : ℕ) → IsReader NeedMore (ClosedRange uid) (closed_range_at uid)
 unfolding closed_range_at
-closed_reader uid = chain_reader NeedMore (λ v. NeedMore) (Number follow.Space) (λ v. Viewed (λ w b. fetched_slice uid v.0 w) (Choices (fixed_texts choice.Items))) (number_at follow.Space)
+closed_reader uid = chain_reader NeedMore (λ v. NeedMore) (Number follow.Space) (λ v. Viewed (λ w b. fetched_slice uid v.0 w) (Choices (fixed_texts choice.Items)))
+    (number_at follow.Space)
     (λ v. viewed (λ w b. fetched_slice uid v.0 w) (choice_at choice.Items)) (number_reader follow.Space)
     (λ v. view_reader NeedMore (λ w b. fetched_slice uid v.0 w) (Choices (fixed_texts choice.Items)) (choice_at choice.Items) (items_reader false) (λ a t rest h. refl))
     (λ v t h. number_stop 4294967295 follow.Space v t h)
@@ -151,7 +157,8 @@ closed_begins uid v t h =
 
 range_reader : (uid : ℕ) → IsReader NeedMore (Either (OpenRange uid) (ClosedRange uid)) (range_at uid)
 unfolding range_at
-range_reader uid = either_reader NeedMore 42 (OpenRange uid) (ClosedRange uid) (open_range_at uid) (closed_range_at uid) (open_reader uid) (closed_reader uid) (open_begins uid) (closed_begins uid) refl
+range_reader uid = either_reader NeedMore 42 (OpenRange uid) (ClosedRange uid) (open_range_at uid) (closed_range_at uid) (open_reader uid) (closed_reader uid) (open_begins uid)
+    (closed_begins uid) refl
 
 body_reader : (uid : ℕ) → IsReader NeedMore (Viewed (λ k b. command.FetchBody uid) (Choices (word.Body ∷ []))) (body_at uid)
 unfolding body_at

@@ -133,7 +133,8 @@ store_asks uid add flags ns y q r w le k f e = by add k
         (then_of a ((32 ∷ q) ++ p) (a ++ ((32 ∷ q) ++ p)) refl (refl, le) (then_of (32 ∷ q) p ((32 ∷ q) ++ p) refl (ap (λ (u : List ℕ). 32 ∷ u) k) f))) refl
 
 -- a change is one of two texts
-change_cut : (k : FixedText) (t : List ℕ) → Choices (word.Add ∷ word.Remove ∷ []) k t → (q : List ℕ) × (t ≡ q ++ 40 ∷ []) × IsWord (cond (is_add k) (codes "+flags ") (codes "-flags ")) q
+change_cut : (k : FixedText) (t : List ℕ) → Choices (word.Add ∷ word.Remove ∷ []) k t → (q : List ℕ) × (t ≡ q ++ 40 ∷ []) × IsWord
+    (cond (is_add k) (codes "+flags ") (codes "-flags ")) q
 change_cut k t (inl e, h) =
     let s = word_split (codes "+flags ") (40 ∷ []) t (h ∙ ap fixed_text e) in
     (s.0, s.2 ∙ ap (λ (v : List ℕ). s.0 ++ v) (sign_word (40 ∷ []) s.1 refl s.4), s.3 ∙ ap (λ (x : FixedText). cond (is_add x) (codes "+flags ") (codes "-flags ")) (sym e))
@@ -160,7 +161,8 @@ store_forth c r h =
     subst (λ (x : Command). Asks x r) (sym e.2)
     (store_asks u.0.0 (is_add k.0) f.0 fs.0 h.0 q.0 r h.3 n.1 q.2 (fs.0, (fs.1, refl), fs.3) all)
 
-store_parts : (uid : ℕ) (k : FixedText) (add : Bool) (flags : List (List ℕ)) (y q f r : List ℕ) → OneOf k (word.Add ∷ word.Remove ∷ []) → is_add k ≡ add → IsWord (codes "uid store ") y
+store_parts : (uid : ℕ) (k : FixedText) (add : Bool) (flags : List (List ℕ)) (y q f r : List ℕ) → OneOf k (word.Add ∷ word.Remove ∷ []) → is_add k ≡ add
+    → IsWord (codes "uid store ") y
     → uid ≤ 4294967295 → IsWord (fixed_text k) (q ++ 40 ∷ []) → IsFlagList flags f → r ≡ (y ++ (decimal uid ++ ((32 ∷ q) ++ f))) ++ crlf
     → Spelled word.Store StoreArguments (command.Store uid add flags) r
 store_parts uid k add flags y q f r one same w le h ns e =
@@ -204,7 +206,8 @@ store_parts uid k add flags y q f r one same w le h ns e =
     regroup : (y a q n : List ℕ) → (y ++ (a ++ ((32 ∷ q) ++ (40 ∷ n ++ 41 ∷ [])))) ++ crlf ≡ y ++ ((a ++ 32 ∷ []) ++ ((q ++ 40 ∷ []) ++ ((n ++ 41 ∷ []) ++ crlf)))
     regroup y a q n = simp append_assoc
 
-pub store_back : (uid : ℕ) (add : Bool) (flags : List (List ℕ)) (r : List ℕ) → Asks (command.Store uid add flags) r → Spelled word.Store StoreArguments (command.Store uid add flags) r
+pub store_back : (uid : ℕ) (add : Bool) (flags : List (List ℕ)) (r : List ℕ) → Asks (command.Store uid add flags) r
+    → Spelled word.Store StoreArguments (command.Store uid add flags) r
 store_back uid true flags r h =
     let w = h.first in
     let n = w.second in
@@ -213,7 +216,8 @@ store_back uid true flags r h =
     let sign : f.front ≡ 32 ∷ s.1 = s.2 ∙ ap (λ (v : List ℕ). v ++ s.1) (sign_word (32 ∷ []) s.0 refl s.3) in
     store_parts uid word.Add true flags w.front s.1 f.back r (inl refl) refl w.first n.first.1 (word_join (codes "+flags ") (40 ∷ []) s.1 (40 ∷ []) s.4 refl) f.second
     (h.whole ∙ ap (λ (v : List ℕ). v ++ h.back) (w.whole ∙ ap (λ (v : List ℕ). w.front ++ v) (n.whole ∙ ap (λ (v : List ℕ). v ++ n.back) n.first.0
-    ∙ ap (λ (v : List ℕ). decimal uid ++ v) (f.whole ∙ ap (λ (v : List ℕ). v ++ f.back) sign))) ∙ ap (λ (v : List ℕ). (w.front ++ (decimal uid ++ ((32 ∷ s.1) ++ f.back))) ++ v) h.second)
+    ∙ ap (λ (v : List ℕ). decimal uid ++ v) (f.whole ∙ ap (λ (v : List ℕ). v ++ f.back) sign)))
+    ∙ ap (λ (v : List ℕ). (w.front ++ (decimal uid ++ ((32 ∷ s.1) ++ f.back))) ++ v) h.second)
 store_back uid false flags r h =
     let w = h.first in
     let n = w.second in
@@ -222,4 +226,5 @@ store_back uid false flags r h =
     let sign : f.front ≡ 32 ∷ s.1 = s.2 ∙ ap (λ (v : List ℕ). v ++ s.1) (sign_word (32 ∷ []) s.0 refl s.3) in
     store_parts uid word.Remove false flags w.front s.1 f.back r (inr (inl refl)) refl w.first n.first.1 (word_join (codes "-flags ") (40 ∷ []) s.1 (40 ∷ []) s.4 refl) f.second
     (h.whole ∙ ap (λ (v : List ℕ). v ++ h.back) (w.whole ∙ ap (λ (v : List ℕ). w.front ++ v) (n.whole ∙ ap (λ (v : List ℕ). v ++ n.back) n.first.0
-    ∙ ap (λ (v : List ℕ). decimal uid ++ v) (f.whole ∙ ap (λ (v : List ℕ). v ++ f.back) sign))) ∙ ap (λ (v : List ℕ). (w.front ++ (decimal uid ++ ((32 ∷ s.1) ++ f.back))) ++ v) h.second)
+    ∙ ap (λ (v : List ℕ). decimal uid ++ v) (f.whole ∙ ap (λ (v : List ℕ). v ++ f.back) sign)))
+    ∙ ap (λ (v : List ℕ). (w.front ++ (decimal uid ++ ((32 ∷ s.1) ++ f.back))) ++ v) h.second)

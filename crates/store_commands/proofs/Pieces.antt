@@ -33,8 +33,11 @@ AllSendable (p ∷ ps) = IsSendable p × AllSendable ps
 -- ---- octets of parts
 
 head_small : (t : List ℕ) → length t ≤ literal_limit → AreOctets (literal_head t)
-head_small t le =
-    (refl, each_append fits_octet (decimal (length t)) (125 ∷ crlf) (each_to is_digit fits_octet (decimal (length t)) digit_small (digits_are (length t) (omega (arith, le)))) (refl, (refl, (refl, tt))))
+head_small t le = (
+  refl,
+  each_append fits_octet (decimal (length t)) (125 ∷ crlf) (each_to is_digit fits_octet (decimal (length t)) digit_small (digits_are (length t) (omega (arith, le))))
+      (refl, (refl, (refl, tt))),
+)
 
 plain_join : (x y : List ℕ) → plain_octets (x ++ y) ≡ plain_octets x ++ plain_octets y
 plain_join x y = map-append plain_of x y
@@ -98,7 +101,8 @@ taken t (p ∷ qs) s sent left e some =
     }
 
 -- a part more in front
-cut_behind : (p : Part) (x : List ℕ) (ps : List Part) (sent rest : List (List ℕ)) → plain_octets (part_text p) ≡ x → joined_pieces sent ≡ x ++ joined_pieces rest → Cut ps rest → Cut (p ∷ ps) sent
+cut_behind : (p : Part) (x : List ℕ) (ps : List Part) (sent rest : List (List ℕ)) → plain_octets (part_text p) ≡ x → joined_pieces sent ≡ x ++ joined_pieces rest → Cut ps rest
+    → Cut (p ∷ ps) sent
 cut_behind p x ps sent rest plain same c = record {
   text = part_text p ++ c.text;
   more = c.more;

@@ -89,7 +89,8 @@ known_back known t h = (
     regroup q a b = simp append_assoc
 
 select_known : (name x y q r : List ℕ) (known : ℕ × ℕ) → IsWord (codes "select ") y → IsFolderName name x → IsWord (codes "(qresync (") q → known.0 ≤ 4294967295
-    → known.1 ≤ 18446744073709551615 → r ≡ y ++ ((x ++ 32 ∷ []) ++ (q ++ (decimal known.0 ++ 32 ∷ (decimal known.1 ++ 41 ∷ 41 ∷ 13 ∷ 10 ∷ [])))) → Asks (command.Select name (Some known)) r
+    → known.1 ≤ 18446744073709551615 → r ≡ y ++ ((x ++ 32 ∷ []) ++ (q ++ (decimal known.0 ++ 32 ∷ (decimal known.1 ++ 41 ∷ 41 ∷ 13 ∷ 10 ∷ []))))
+    → Asks (command.Select name (Some known)) r
 select_known name x y q r known w n k v m e =
     let a = decimal known.0 in
     let b = decimal known.1 in
@@ -105,7 +106,8 @@ select_known name x y q r known w n k v m e =
     (then_of (32 ∷ []) p4 p3 refl refl
     (then_of b (41 ∷ 41 ∷ []) p4 refl (refl, m) refl)))))) refl
   where
-    regroup : (y x q a b : List ℕ) → y ++ ((x ++ 32 ∷ []) ++ (q ++ (a ++ 32 ∷ (b ++ 41 ∷ 41 ∷ 13 ∷ 10 ∷ [])))) ≡ (y ++ (x ++ ((32 ∷ q) ++ (a ++ (32 ∷ [] ++ (b ++ 41 ∷ 41 ∷ [])))))) ++ crlf
+    regroup : (y x q a b : List ℕ)
+        → y ++ ((x ++ 32 ∷ []) ++ (q ++ (a ++ 32 ∷ (b ++ 41 ∷ 41 ∷ 13 ∷ 10 ∷ [])))) ≡ (y ++ (x ++ ((32 ∷ q) ++ (a ++ (32 ∷ [] ++ (b ++ 41 ∷ 41 ∷ [])))))) ++ crlf
     regroup y x q a b = simp append_assoc
 
 select_new : (name x y r : List ℕ) → IsWord (codes "select ") y → IsFolderName name x → r ≡ y ++ ((x ++ 13 ∷ []) ++ 10 ∷ []) → Asks (command.Select name None) r
@@ -135,17 +137,20 @@ select_forth c r h = by (u.0.1 == 32) refl u.1.second
     by true e s =
         let k = known_forth s.0 u.1.back s.1 in
         subst (λ (x : Command). Asks x r) (sym s.2)
-        (select_known u.0.0 n.0 h.0 k.start r s.0 h.3 n.2 k.word_is k.validity k.modseq (all 32 (eqb-true u.0.1 32 e) ∙ ap (λ (v : List ℕ). h.0 ++ ((n.0 ++ 32 ∷ []) ++ v)) k.whole))
+        (select_known u.0.0 n.0 h.0 k.start r s.0 h.3 n.2 k.word_is k.validity k.modseq (all 32 (eqb-true u.0.1 32 e)
+        ∙ ap (λ (v : List ℕ). h.0 ++ ((n.0 ++ 32 ∷ []) ++ v)) k.whole))
     by false e s =
         subst (λ (x : Command). Asks x r) (sym s.2)
-        (select_new u.0.0 n.0 h.0 r h.3 n.2 (all 13 (carriage u.0.1 n.3 e) ∙ ap (λ (v : List ℕ). h.0 ++ ((n.0 ++ 13 ∷ []) ++ v)) (line_feed u.1.back (fixed_word word.LineFeed s.0 u.1.back s.1))))
+        (select_new u.0.0 n.0 h.0 r h.3 n.2 (all 13 (carriage u.0.1 n.3 e) ∙ ap (λ (v : List ℕ). h.0 ++ ((n.0 ++ 13 ∷ []) ++ v))
+        (line_feed u.1.back (fixed_word word.LineFeed s.0 u.1.back s.1))))
 
 pub select_back : (name : List ℕ) (known : Option (ℕ × ℕ)) (r : List ℕ) → Asks (command.Select name known) r → Spelled word.Select SelectArguments (command.Select name known) r
 select_back name None r h =
     let w = h.first in
     let x = w.second in
     let whole : r ≡ (w.front ++ (x.front ++ [])) ++ crlf =
-    h.whole ∙ ap (λ (v : List ℕ). v ++ h.back) (w.whole ∙ ap (λ (v : List ℕ). w.front ++ v) (x.whole ∙ ap (λ (v : List ℕ). x.front ++ v) x.second)) ∙ ap (λ (v : List ℕ). (w.front ++ (x.front ++ [])) ++ v) h.second in (
+    h.whole ∙ ap (λ (v : List ℕ). v ++ h.back) (w.whole ∙ ap (λ (v : List ℕ). w.front ++ v) (x.whole ∙ ap (λ (v : List ℕ). x.front ++ v) x.second))
+    ∙ ap (λ (v : List ℕ). (w.front ++ (x.front ++ [])) ++ v) h.second in (
       w.front,
       (x.front ++ 13 ∷ []) ++ 10 ∷ [],
       whole ∙ regroup w.front x.front,
@@ -199,7 +204,8 @@ select_back name (Some known) r h =
       ),
     )
   where
-    regroup : (y x q a b : List ℕ) → (y ++ (x ++ ((32 ∷ q) ++ (a ++ (32 ∷ [] ++ (b ++ 41 ∷ 41 ∷ [])))))) ++ crlf ≡ y ++ ((x ++ 32 ∷ []) ++ (q ++ (a ++ 32 ∷ (b ++ 41 ∷ 41 ∷ 13 ∷ 10 ∷ []))))
+    regroup : (y x q a b : List ℕ)
+        → (y ++ (x ++ ((32 ∷ q) ++ (a ++ (32 ∷ [] ++ (b ++ 41 ∷ 41 ∷ [])))))) ++ crlf ≡ y ++ ((x ++ 32 ∷ []) ++ (q ++ (a ++ 32 ∷ (b ++ 41 ∷ 41 ∷ 13 ∷ 10 ∷ []))))
     regroup y x q a b = simp append_assoc
 
 -- ---- APPEND
@@ -225,7 +231,8 @@ append_end : (n d g o : List ℕ) → 40 ∷ [] ++ ((n ++ 41 ∷ []) ++ (32 ∷ 
     ≡ (40 ∷ n ++ 41 ∷ []) ++ (32 ∷ d ++ (32 ∷ (123 ∷ g ++ 125 ∷ 13 ∷ 10 ∷ o) ++ crlf))
 append_end n d g o = ap (λ (v : List ℕ). 40 ∷ ((n ++ 41 ∷ []) ++ (32 ∷ (d ++ (32 ∷ 123 ∷ v))))) (literal_end g o)
 
-append_text : (g : List (List ℕ) → ℤ → List ℕ → Command) (c : Command) (t : List ℕ) → Marked g c t → (flags : List (List ℕ)) × (date : ℤ) × (message : List ℕ) × (c ≡ g flags date message)
+append_text : (g : List (List ℕ) → ℤ → List ℕ → Command) (c : Command) (t : List ℕ) → Marked g c t
+    → (flags : List (List ℕ)) × (date : ℤ) × (message : List ℕ) × (c ≡ g flags date message)
     × AppendText flags date message t
 append_text g c t h =
     let o = h.1 in
@@ -282,7 +289,8 @@ append_text g c t h =
         ≡ (40 ∷ n ++ 41 ∷ []) ++ (32 ∷ d ++ (32 ∷ (123 ∷ g ++ 125 ∷ 13 ∷ 10 ∷ o) ++ crlf))
     regroup n d g o = append_end n d g o
 
-text_append : (g : List (List ℕ) → ℤ → List ℕ → Command) (flags : List (List ℕ)) (date : ℤ) (message t : List ℕ) → AppendText flags date message t → Marked g (g flags date message) t
+text_append : (g : List (List ℕ) → ℤ → List ℕ → Command) (flags : List (List ℕ)) (date : ℤ) (message t : List ℕ) → AppendText flags date message t
+    → Marked g (g flags date message) t
 text_append g flags date message t h =
     let l = h.message_is in
     let last : List ℕ = (l.digits ++ 125 ∷ 13 ∷ 10 ∷ (l.octets ++ 13 ∷ [])) ++ 10 ∷ [] in

@@ -13,7 +13,8 @@ use Rattle.store_commands.proofs.Answering.{Commands}
 use Rattle.store_commands.proofs.CommandReading.{Arguments, commands, CommandParts, parts_reader}
 use Rattle.store_commands.proofs.FolderSpelling.{Asks, Spelled, login_forth, login_back, create_forth, create_back, delete_forth, delete_back, subscribe_forth, subscribe_back}
 use Rattle.store_commands.proofs.FolderSpelling.{unsubscribe_forth, unsubscribe_back, rename_forth, rename_back, capability_forth, capability_back, enable_forth, enable_back}
-use Rattle.store_commands.proofs.FolderSpelling.{unselect_forth, unselect_back, list_forth, list_atom_forth, list_subscribed_forth, list_atom_subscribed_forth, ListSpelled, list_back}
+use Rattle.store_commands.proofs.FolderSpelling.{unselect_forth, unselect_back, list_forth, list_atom_forth, list_subscribed_forth, list_atom_subscribed_forth, ListSpelled}
+use Rattle.store_commands.proofs.FolderSpelling.{list_back}
 use Rattle.store_commands.proofs.SelectSpelling.{select_forth, select_back, append_forth, append_back}
 use Rattle.store_commands.proofs.MessageSpelling.{expunge_forth, expunge_back, move_forth, move_back, store_forth, store_back}
 use Rattle.store_commands.proofs.FetchSpelling.{fetch_forth, new_back, flags_back, slice_back, body_back}

@@ -1,5 +1,6 @@
 -- What is written is read as the command that was given.
-use Rattle.std.proofs.Common.{◌≡◌, ℕ, ◌+◌, ◌-◌, ◌*◌, ◌/◌, ◌%◌, ◌<◌, ◌≤◌, Bool, true, false, List, [], ◌∷◌, ◌++◌, length, cond, Some, None, refl, sym, ap, subst, ◌∙◌, append_assoc, arith, inl, inr}
+use Rattle.std.proofs.Common.{◌≡◌, ℕ, ◌+◌, ◌-◌, ◌*◌, ◌/◌, ◌%◌, ◌<◌, ◌≤◌, Bool, true, false, List, [], ◌∷◌, ◌++◌, length, cond, Some, None, refl, sym, ap, subst, ◌∙◌, append_assoc}
+use Rattle.std.proofs.Common.{arith, inl, inr}
 use Rattle.std.specs.Prelude.{codes, ℤ}
 use Rattle.std.specs.List.{list_all}
 use Rattle.std.specs.Fmt.{decimal}
@@ -194,7 +195,8 @@ asked (command.FetchNew from modseq) h =
 asked (command.FetchBody uid) h =
     let t2 : List ℕ = codes " (UID BODY.PEEK[]<0.50000000>)" in
     plain_asked (command.FetchBody uid) tt
-    (then_of (codes "UID FETCH ") (decimal uid ++ t2) (words_of (command.FetchBody uid)) (append_assoc (codes "UID FETCH ") (decimal uid) t2) refl (then_of (decimal uid) t2 (decimal uid ++ t2) refl (refl, h) refl))
+    (then_of (codes "UID FETCH ") (decimal uid ++ t2) (words_of (command.FetchBody uid)) (append_assoc (codes "UID FETCH ") (decimal uid) t2) refl
+    (then_of (decimal uid) t2 (decimal uid ++ t2) refl (refl, h) refl))
 asked (command.Store uid true flags) h =
     let t2 : List ℕ = codes " +FLAGS " ++ flags_text flags in
     plain_asked (command.Store uid true flags) tt
@@ -262,7 +264,8 @@ written_read c n more lt h =
     (omega (arith, long), subst (IsCommand (tag_of n) (as_sent c)) (sym (take_at t more (length t) refl)) (written c n lt h))
 
 -- pieces but the last want a literal
-pub pieces_want : (c : Command) (n : ℕ) (sent left : List (List ℕ)) → n < 18446744073709551616 → IsReadable c → command_pieces c n ≡ sent ++ left → (sent ≡ [] → ⊥) → (left ≡ [] → ⊥)
+pub pieces_want : (c : Command) (n : ℕ) (sent left : List (List ℕ)) → n < 18446744073709551616 → IsReadable c → command_pieces c n ≡ sent ++ left → (sent ≡ [] → ⊥)
+    → (left ≡ [] → ⊥)
     → IsReadAs (joined_pieces sent) WantsLiteral
 pieces_want c n [] left lt h e some more = absurd (some refl)
 pieces_want c n (s ∷ sent) left lt h e some more =
