@@ -35,11 +35,17 @@ fn lowered(alloc: Global, name: &[u8]) -> Result<Vec<u8>, AllocError>
     Ok(out)
 }
 
+fn is_recent(name: &[u8]) -> bool
+    ensures { result ≡ bytes_eq name.now (codes "\\recent") }
+{
+    name == b"\\recent".as_slice()
+}
+
 /// Adds a name in lower case, unless it is `\recent`.
 fn add_name(set: &mut BTreeSet<Vec<u8>>, name: Vec<u8>) -> Result<(), AllocError>
     ensures { OnOk result (map (λ v. v.items) set.new.keys ≡ items.add_name (map (λ v. v.items) set.old.keys) name.items) }
 {
-    if name.as_slice() == b"\\recent".as_slice() {
+    if is_recent(&name) {
         return Ok(());
     }
     set.insert(name)?;
@@ -133,6 +139,7 @@ pub fn subscribed(alloc: Global, on: bool, was: &[Bytes]) -> Result<Names, Alloc
 }
 
 /// The octets of all names together, up to the end of their count.
+#[tactic(auto, using(std::proofs::lemmas::List::Sums::fold_more))]
 pub fn total_len(names: &[Bytes]) -> usize
     ensures { result ≡ min (limits.total_length names.now) 18446744073709551615 }
 {

@@ -1,5 +1,5 @@
 // Folders of the mail: by name, by number, those that come and go, and their messages.
-ghost use Rattle.std.specs.Prelude.{◌≡◌, ◌<◌, ◌≤◌, ◌+◌, ◌^◌, MatchOption, None, Some, OnErr, OnOk, IfOk, false, length};
+ghost use Rattle.std.specs.Prelude.{◌≡◌, ◌<◌, ◌≤◌, ◌+◌, ◌^◌, MatchOption, None, Some, OnErr, OnOk, IfOk, false, length, ◌==◌, if◌then◌else◌};
 ghost use Rattle.imap_syntax.specs.Folders.{folder_name};
 ghost use Rattle.honest_store.specs.StoreMail.{folder_called, folder_numbered, IsFolder, IsFolderNamed, StoreFolder, StoreMessage};
 ghost use Rattle.honest_store.specs.WellFormed.{IsStoreMail};
@@ -226,11 +226,21 @@ impl StoredMail {
         source: usize,
         at: usize,
         target: usize,
-    ) -> Result<StoredMessage, AllocError> {
+    ) -> Result<StoredMessage, AllocError>
+        requires source { source < length self.now.folders }
+        requires target { target < length self.now.folders }
+        requires message { (f : StoreFolder) → IsFolderAt self.now source f → at < length f.messages }
+        requires room { (t : StoreFolder) → IsFolderAt self.now target t → t.highest < 9223372036854775807 }
+        ensures { IfOk result (λ copy. (f t : StoreFolder) (m : StoreMessage) → IsFolderAt self.now source f → IsFolderAt self.now target t
+            → IsMessageAt f at m → copy ≡ record m { uid = t.uid_next; modseq = if source == target then t.highest + 2 else t.highest + 1 }) }
+    {
         let folder = &self.folders[target];
-        let ends = if source == target { 1 } else { 0 };
-        let modseq = folder.highest() + ends + 1;
         let uid = folder.uid_next();
+        let modseq = if source == target {
+            folder.highest() + 2
+        } else {
+            folder.highest() + 1
+        };
         self.folders[source].messages()[at].share_as(alloc, uid, modseq)
     }
 

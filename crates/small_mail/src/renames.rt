@@ -2,7 +2,7 @@
 ghost use Rattle.std.specs.Prelude.{◌≡◌, ◌++◌, ℕ, List, IfOk, OnOk, map};
 ghost use Rattle.std.specs.List.{flat_map};
 ghost use Rattle.honest_store.specs.StoreMail.{StoreFolder};
-ghost use Rattle.honest_store.specs.FolderChanges as folders;
+ghost use Rattle.honest_store.specs.FolderChanges.{name_after_rename, new_use};
 
 use crate::folder::StoredFolder;
 use crate::names::{child_name, child_part};
@@ -18,7 +18,7 @@ fn name_after(
     to: &[u8],
     folder: &StoredFolder,
 ) -> Result<Bytes, AllocError>
-    ensures { IfOk result (λ name. name ≡ folders.name_after_rename from.now to.now folder.now) }
+    ensures { IfOk result (λ name. name ≡ name_after_rename from.now to.now folder.now) }
 {
     let name = folder.name();
     if name.as_slice() == from {
@@ -36,8 +36,8 @@ fn push_use(
     folder: &StoredFolder,
     name: &Bytes,
 ) -> Result<(), AllocError>
-    ensures { OnOk result ((from to : List ℕ) → name.now ≡ folders.name_after_rename from to folder.now
-        → uses.new.items ≡ uses.old.items ++ folders.new_use from to folder.now) }
+    ensures { OnOk result ((from to : List ℕ) → name.now ≡ name_after_rename from to folder.now
+        → uses.new.items ≡ uses.old.items ++ new_use from to folder.now) }
 {
     if name.as_slice() != folder.name().as_slice() {
         uses.push(StoredUse::new(name.share()?, folder.validity()))?;
@@ -59,8 +59,8 @@ pub(crate) fn new_names(
     from: &[u8],
     to: &[u8],
 ) -> Result<NewNames, AllocError>
-    ensures names { IfOk result (λ r. r.names.items ≡ map (folders.name_after_rename from.now to.now) folders.now) }
-    ensures uses { IfOk result (λ r. r.uses.items ≡ flat_map (folders.new_use from.now to.now) folders.now) }
+    ensures names { IfOk result (λ r. r.names.items ≡ map (name_after_rename from.now to.now) folders.now) }
+    ensures uses { IfOk result (λ r. r.uses.items ≡ flat_map (new_use from.now to.now) folders.now) }
 {
     let mut names = VecDeque::new(alloc);
     let mut uses = Vec::new(alloc);
