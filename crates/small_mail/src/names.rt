@@ -22,14 +22,11 @@ pub fn told_name(name: &[u8]) -> &[u8]
 }
 
 /// What follows the first text in the second; none where it begins otherwise.
+#[tactic(auto, using(crate::proofs::Prefixes::text_after_is))]
 fn text_after<'a>(front: &[u8], text: &'a [u8]) -> Option<&'a [u8]>
     ensures { MatchOption result (folders.text_after front.now text.now ≡ None) (λ rest. folders.text_after front.now text.now ≡ Some rest.now) }
 {
-    match (front, text) {
-        ([], _) => Some(text),
-        ([c, front @ ..], [d, text @ ..]) if *c == *d => text_after(front, text),
-        _ => None,
-    }
+    text.strip_prefix(front)
 }
 
 /// Of a name below another one, the delimiter and what follows it.

@@ -1,5 +1,0 @@
-use Rattle.std.proofs.Common.{length}
-use Rattle.small_mail.proofs.names.+text_after.Given as goal
-
-abbrev pub decreases-text_after : goal.decreases-text_after
-decreases-text_after l = length l.front.now
