@@ -22,8 +22,8 @@ use Rattle.jmap_core.specs.Response.{IsWhole}
 use Rattle.jmap_core.specs.declared.call.Call.{Call}
 use Rattle.gate_calls.specs.declared.mail.Over.{Over}
 use Rattle.gate_calls.specs.declared.method.Method.{Method}
-use Rattle.gate_calls.specs.declared.method.Method.TheVariants.{CoreEcho, MailboxGet, MailboxChanges, ThreadGet, ThreadChanges}
-use Rattle.gate_calls.specs.declared.method.Method.TheVariants.{EmailGet, EmailChanges, EmailParse}
+use Rattle.gate_calls.specs.declared.method.Method.TheVariants.{CoreEcho, MailboxGet, MailboxChanges, MailboxQuery, MailboxQueryChanges, ThreadGet}
+use Rattle.gate_calls.specs.declared.method.Method.TheVariants.{ThreadChanges, EmailGet, EmailChanges, EmailQuery, EmailQueryChanges, EmailParse}
 use Rattle.gate_calls.specs.Asking.{AsksAndMakes}
 use Rattle.gate_calls.specs.Mailings.{MailAndUploads, AreOf}
 use Rattle.gate_calls.specs.MethodNames.{method_asked}
@@ -68,10 +68,14 @@ reply_asks : (m : Method) (e : MethodError) (uploads : List (List ℕ)) (d : Dat
 reply_asks CoreEcho e uploads d asks r replies = replies.0
 reply_asks MailboxGet e uploads d asks r replies = replies.0
 reply_asks MailboxChanges e uploads d asks r replies = replies.0
+reply_asks MailboxQuery e uploads d asks r replies = replies.0
+reply_asks MailboxQueryChanges e uploads d asks r replies = replies.0
 reply_asks ThreadGet e uploads d asks r replies = replies.0
 reply_asks ThreadChanges e uploads d asks r replies = replies.0
 reply_asks EmailGet e uploads d asks r replies = replies.0
 reply_asks EmailChanges e uploads d asks r replies = replies.0
+reply_asks EmailQuery e uploads d asks r replies = replies.0
+reply_asks EmailQueryChanges e uploads d asks r replies = replies.0
 reply_asks EmailParse e uploads d asks r replies = replies.0
 
 call_asks : {uses : Using} {e : MethodError} {uploads : List (List ℕ)} {earlier : List CallData} {call : CallData} {asks : List BodyAsk} {r : Result Data MethodError}

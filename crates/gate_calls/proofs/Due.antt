@@ -11,13 +11,15 @@ use Rattle.jmap_methods.specs.declared.using.Using.{Using}
 use Rattle.jmap_methods.specs.declared.method_error.MethodError.{MethodError}
 use Rattle.jmap_core.specs.Request.{CallData}
 use Rattle.mail_state.specs.History.{MailHistory}
+use Rattle.query_changes.specs.Replies.{RepliesEmailQueryChanges, RepliesMailboxQueryChanges}
+use Rattle.query_core.specs.Answers.{RepliesEmailQuery, RepliesMailboxQuery}
 use Rattle.read_methods.specs.Replies.{type_state, mailbox_get_reply, thread_get_reply, RepliesMailboxChanges, RepliesThreadChanges, RepliesEmailChanges}
 use Rattle.gate_calls.specs.Calls.{AnswersCall, NoMethod, Unresolved, Resolved, AnswersCalls, NoCalls, MoreCalls, FirstCallsAsk, answered_call}
 use Rattle.gate_calls.specs.Mailings.{Mailing, MailAndUploads}
 use Rattle.gate_calls.specs.Methods.{AtOnce, OverMail, RepliesTo}
 use Rattle.gate_calls.specs.declared.method.Method.{Method}
-use Rattle.gate_calls.specs.declared.method.Method.TheVariants.{CoreEcho, MailboxGet, MailboxChanges, ThreadGet, ThreadChanges}
-use Rattle.gate_calls.specs.declared.method.Method.TheVariants.{EmailGet, EmailChanges, EmailParse}
+use Rattle.gate_calls.specs.declared.method.Method.TheVariants.{CoreEcho, MailboxGet, MailboxChanges, MailboxQuery, MailboxQueryChanges, ThreadGet}
+use Rattle.gate_calls.specs.declared.method.Method.TheVariants.{ThreadChanges, EmailGet, EmailChanges, EmailQuery, EmailQueryChanges, EmailParse}
 
 -- ---- one call
 
@@ -39,11 +41,15 @@ due_reply : (m : Method) (over : MailAndUploads) (d : Data) (asks : List BodyAsk
 due_reply CoreEcho over d asks r replies = no_asks_due (FailsAfter (RepliesTo CoreEcho over d)) asks replies.0
 due_reply MailboxGet over d asks r replies = at_once_due (λ h s. s ≡ mailbox_get_reply h d) over.mail _ asks r replies
 due_reply MailboxChanges over d asks r replies = at_once_due (λ h s. RepliesMailboxChanges h d s) over.mail _ asks r replies
+due_reply MailboxQuery over d asks r replies = at_once_due (λ h s. RepliesMailboxQuery h d s) over.mail _ asks r replies
+due_reply MailboxQueryChanges over d asks r replies = at_once_due (λ h s. RepliesMailboxQueryChanges h d s) over.mail _ asks r replies
 due_reply ThreadGet over d asks r replies = at_once_due (λ h s. s ≡ thread_get_reply h d) over.mail _ asks r replies
 due_reply ThreadChanges over d asks r replies = at_once_due (λ h s. RepliesThreadChanges h d s) over.mail _ asks r replies
 due_reply EmailGet over d asks r replies =
     over_mail_due over.mail _ (λ h. RepliesEmailGet h d) (λ h. due_get (type_state h h.emails) h.numbered.rows d) asks r replies
 due_reply EmailChanges over d asks r replies = at_once_due (λ h s. RepliesEmailChanges h d s) over.mail _ asks r replies
+due_reply EmailQuery over d asks r replies = at_once_due (λ h s. RepliesEmailQuery h d s) over.mail _ asks r replies
+due_reply EmailQueryChanges over d asks r replies = at_once_due (λ h s. RepliesEmailQueryChanges h d s) over.mail _ asks r replies
 due_reply EmailParse over d asks r replies =
     over_mail_due over.mail _ (λ h. RepliesEmailParse h over.uploads d) (λ h. due_parse h.numbered.rows over.uploads d) asks r replies
 

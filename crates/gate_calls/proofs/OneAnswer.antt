@@ -14,11 +14,13 @@ use Rattle.email_get.specs.EmailGet.{RepliesEmailGet}
 use Rattle.email_get.specs.EmailParse.{RepliesEmailParse}
 use Rattle.mail_state.specs.History.{MailHistory}
 use Rattle.gate_calls.specs.declared.method.Method.{Method}
-use Rattle.gate_calls.specs.declared.method.Method.TheVariants.{CoreEcho, MailboxGet, MailboxChanges, ThreadGet, ThreadChanges}
-use Rattle.gate_calls.specs.declared.method.Method.TheVariants.{EmailGet, EmailChanges, EmailParse}
+use Rattle.gate_calls.specs.declared.method.Method.TheVariants.{CoreEcho, MailboxGet, MailboxChanges, MailboxQuery, MailboxQueryChanges, ThreadGet}
+use Rattle.gate_calls.specs.declared.method.Method.TheVariants.{ThreadChanges, EmailGet, EmailChanges, EmailQuery, EmailQueryChanges, EmailParse}
 use Rattle.jmap_methods.specs.declared.using.Using.{Using}
 use Rattle.jmap_methods.specs.declared.method_error.MethodError.{MethodError}
 use Rattle.jmap_core.specs.Request.{CallData}
+use Rattle.query_changes.specs.Replies.{RepliesEmailQueryChanges, RepliesMailboxQueryChanges}
+use Rattle.query_core.specs.Answers.{RepliesEmailQuery, RepliesMailboxQuery}
 use Rattle.read_methods.specs.Changes.{AnswersChanges, Further, no_further, updated_properties}
 use Rattle.gate_calls.specs.Mailings.{Mailing, MailAndUploads}
 use Rattle.gate_calls.specs.Places.{HasPlaces}
@@ -63,11 +65,27 @@ abbrev pub IsOneParse : Type 0
 IsOneParse = (h : MailHistory) (uploads : List (List ℕ)) (d : Data) (asks more also later : List BodyAsk) (r s : Result Data MethodError)
     → RepliesEmailParse h uploads d asks r → RepliesEmailParse h uploads d also s → asks ++ more ≡ also ++ later → (asks ≡ also) × (r ≡ s)
 
+-- what is proved of queries
+abbrev pub IsOneQuery : (MailHistory → Data → Result Data MethodError → Type 0) → Type 0
+IsOneQuery Replies = (h : MailHistory) (d : Data) (r s : Result Data MethodError) → Replies h d r → Replies h d s → r ≡ s
+
+-- and of their changes
+abbrev pub IsOneQueryChanges : (MailHistory → List Entry) → (MailHistory → Data → Result Data MethodError → Type 0) → Type 0
+IsOneQueryChanges entries Replies = (h : MailHistory) (d : Data) (r s : Result Data MethodError) → length (entries h) < 2 ^ 64 → Replies h d r → Replies h d s → r ≡ s
+
+abbrev pub emails_entries : MailHistory → List Entry
+emails_entries h = entries_of h.emails.touches
+
+abbrev pub mailboxes_entries : MailHistory → List Entry
+mailboxes_entries h = entries_of h.mailboxes.touches
+
 -- what is asked first, and what it comes to
 abbrev Same : List BodyAsk → List BodyAsk → Result Data MethodError → Result Data MethodError → Type 0
 Same asks also r s = (asks ≡ also) × (r ≡ s)
 
-module _ (law : ChangesLaw) (gets : IsOneGet) (parses : IsOneParse) where
+module _ (law : ChangesLaw) (gets : IsOneGet) (parses : IsOneParse) (emails : IsOneQuery RepliesEmailQuery) (mailboxes : IsOneQuery RepliesMailboxQuery)
+    (email_changes : IsOneQueryChanges emails_entries RepliesEmailQueryChanges)
+    (mailbox_changes : IsOneQueryChanges mailboxes_entries RepliesMailboxQueryChanges) where
   -- ---- one call
 
   -- for which no body is asked
@@ -86,6 +104,10 @@ module _ (law : ChangesLaw) (gets : IsOneGet) (parses : IsOneParse) where
       by MailboxChanges (Ok h) room a b =
           at_once a.0 b.0 (law mailbox_letter h.epoch (entries_of h.mailboxes.touches) updated_properties d r s (few h.mailboxes room.mailboxes) a.1 b.1)
       by MailboxChanges (Err e) room a b = at_once a.0 b.0 (a.1 ∙ sym b.1)
+      by MailboxQuery (Ok h) room a b = at_once a.0 b.0 (mailboxes h d r s a.1 b.1)
+      by MailboxQuery (Err e) room a b = at_once a.0 b.0 (a.1 ∙ sym b.1)
+      by MailboxQueryChanges (Ok h) room a b = at_once a.0 b.0 (mailbox_changes h d r s (few h.mailboxes room.mailboxes) a.1 b.1)
+      by MailboxQueryChanges (Err e) room a b = at_once a.0 b.0 (a.1 ∙ sym b.1)
       by ThreadGet (Ok h) room a b = at_once a.0 b.0 (a.1 ∙ sym b.1)
       by ThreadGet (Err e) room a b = at_once a.0 b.0 (a.1 ∙ sym b.1)
       by ThreadChanges (Ok h) room a b = at_once a.0 b.0 (law thread_letter h.epoch (entries_of h.threads.touches) no_further d r s (few h.threads room.threads) a.1 b.1)
@@ -94,6 +116,10 @@ module _ (law : ChangesLaw) (gets : IsOneGet) (parses : IsOneParse) where
       by EmailGet (Err e) room a b = at_once a.0 b.0 (a.1 ∙ sym b.1)
       by EmailChanges (Ok h) room a b = at_once a.0 b.0 (law email_letter h.epoch (entries_of h.emails.touches) no_further d r s (few h.emails room.emails) a.1 b.1)
       by EmailChanges (Err e) room a b = at_once a.0 b.0 (a.1 ∙ sym b.1)
+      by EmailQuery (Ok h) room a b = at_once a.0 b.0 (emails h d r s a.1 b.1)
+      by EmailQuery (Err e) room a b = at_once a.0 b.0 (a.1 ∙ sym b.1)
+      by EmailQueryChanges (Ok h) room a b = at_once a.0 b.0 (email_changes h d r s (few h.emails room.emails) a.1 b.1)
+      by EmailQueryChanges (Err e) room a b = at_once a.0 b.0 (a.1 ∙ sym b.1)
       by EmailParse (Ok h) room a b = parses h o.uploads d asks more also later r s a b same
       by EmailParse (Err e) room a b = at_once a.0 b.0 (a.1 ∙ sym b.1)
 

@@ -2,23 +2,29 @@
 use Rattle.std.specs.Prelude.{ℕ, List, [], ◌∷◌, Bool, not, if◌then◌else◌, bytes_eq, codes, Option, Some, None, Result, Ok, Err}
 use Rattle.std.specs.List.{find}
 use Rattle.gate_calls.specs.declared.method.Method.{Method}
-use Rattle.gate_calls.specs.declared.method.Method.TheVariants.{CoreEcho, MailboxGet, MailboxChanges, ThreadGet, ThreadChanges}
-use Rattle.gate_calls.specs.declared.method.Method.TheVariants.{EmailGet, EmailChanges, EmailParse}
+use Rattle.gate_calls.specs.declared.method.Method.TheVariants.{CoreEcho, MailboxGet, MailboxChanges, MailboxQuery, MailboxQueryChanges, ThreadGet}
+use Rattle.gate_calls.specs.declared.method.Method.TheVariants.{ThreadChanges, EmailGet, EmailChanges, EmailQuery, EmailQueryChanges, EmailParse}
 use Rattle.jmap_methods.specs.declared.using.Using.{Using}
 use Rattle.jmap_methods.specs.declared.method_error.MethodError.{MethodError}
 use Rattle.jmap_methods.specs.declared.method_error.MethodError.TheVariants as error
 
 abbrev pub methods : List Method
-methods = CoreEcho ∷ MailboxGet ∷ MailboxChanges ∷ ThreadGet ∷ ThreadChanges ∷ EmailGet ∷ EmailChanges ∷ EmailParse ∷ []
+methods =
+    CoreEcho ∷ MailboxGet ∷ MailboxChanges ∷ MailboxQuery ∷ MailboxQueryChanges ∷ ThreadGet ∷ ThreadChanges ∷ EmailGet ∷ EmailChanges ∷ EmailQuery
+    ∷ EmailQueryChanges ∷ EmailParse ∷ []
 
 abbrev pub name_of : Method → List ℕ
 name_of CoreEcho = codes "Core/echo"
 name_of MailboxGet = codes "Mailbox/get"
 name_of MailboxChanges = codes "Mailbox/changes"
+name_of MailboxQuery = codes "Mailbox/query"
+name_of MailboxQueryChanges = codes "Mailbox/queryChanges"
 name_of ThreadGet = codes "Thread/get"
 name_of ThreadChanges = codes "Thread/changes"
 name_of EmailGet = codes "Email/get"
 name_of EmailChanges = codes "Email/changes"
+name_of EmailQuery = codes "Email/query"
+name_of EmailQueryChanges = codes "Email/queryChanges"
 name_of EmailParse = codes "Email/parse"
 
 -- whether its capability is used

@@ -8,13 +8,16 @@ use Rattle.email_get.specs.EmailParse.{RepliesEmailParse, parse_refused}
 use Rattle.jmap_methods.specs.Echo.{echoed}
 use Rattle.jmap_methods.specs.declared.method_error.MethodError.{MethodError}
 use Rattle.mail_state.specs.History.{MailHistory}
+use Rattle.query_arguments.specs.Asked.{email_query_refused, email_query_changes_refused, mailbox_query_refused, mailbox_query_changes_refused}
+use Rattle.query_changes.specs.Replies.{RepliesEmailQueryChanges, RepliesMailboxQueryChanges}
+use Rattle.query_core.specs.Answers.{RepliesEmailQuery, RepliesMailboxQuery}
 use Rattle.read_methods.specs.Changes.{changes_refused}
 use Rattle.read_methods.specs.Mailboxes.{mailboxes_refused}
 use Rattle.read_methods.specs.Threads.{threads_refused}
 use Rattle.read_methods.specs.Replies.{mailbox_get_reply, thread_get_reply, RepliesMailboxChanges, RepliesThreadChanges, RepliesEmailChanges}
 use Rattle.gate_calls.specs.declared.method.Method.{Method}
-use Rattle.gate_calls.specs.declared.method.Method.TheVariants.{CoreEcho, MailboxGet, MailboxChanges, ThreadGet, ThreadChanges}
-use Rattle.gate_calls.specs.declared.method.Method.TheVariants.{EmailGet, EmailChanges, EmailParse}
+use Rattle.gate_calls.specs.declared.method.Method.TheVariants.{CoreEcho, MailboxGet, MailboxChanges, MailboxQuery, MailboxQueryChanges, ThreadGet}
+use Rattle.gate_calls.specs.declared.method.Method.TheVariants.{ThreadChanges, EmailGet, EmailChanges, EmailQuery, EmailQueryChanges, EmailParse}
 use Rattle.gate_calls.specs.Mailings.{Mailing, MailAndUploads}
 
 -- The refusal of a call by its arguments alone, which stands whatever mail there is; else the error.
@@ -37,8 +40,12 @@ abbrev pub RepliesTo : Method → MailAndUploads → Data → List BodyAsk → R
 RepliesTo CoreEcho over d = AtOnce (λ r. r ≡ echoed d)
 RepliesTo MailboxGet over d = OverMail over.mail (mailboxes_refused d) (λ h. AtOnce (λ r. r ≡ mailbox_get_reply h d))
 RepliesTo MailboxChanges over d = OverMail over.mail (changes_refused d) (λ h. AtOnce (λ r. RepliesMailboxChanges h d r))
+RepliesTo MailboxQuery over d = OverMail over.mail (mailbox_query_refused d) (λ h. AtOnce (λ r. RepliesMailboxQuery h d r))
+RepliesTo MailboxQueryChanges over d = OverMail over.mail (mailbox_query_changes_refused d) (λ h. AtOnce (λ r. RepliesMailboxQueryChanges h d r))
 RepliesTo ThreadGet over d = OverMail over.mail (threads_refused d) (λ h. AtOnce (λ r. r ≡ thread_get_reply h d))
 RepliesTo ThreadChanges over d = OverMail over.mail (changes_refused d) (λ h. AtOnce (λ r. RepliesThreadChanges h d r))
 RepliesTo EmailGet over d = OverMail over.mail (get_emails_refused d) (λ h. RepliesEmailGet h d)
 RepliesTo EmailChanges over d = OverMail over.mail (changes_refused d) (λ h. AtOnce (λ r. RepliesEmailChanges h d r))
+RepliesTo EmailQuery over d = OverMail over.mail (email_query_refused d) (λ h. AtOnce (λ r. RepliesEmailQuery h d r))
+RepliesTo EmailQueryChanges over d = OverMail over.mail (email_query_changes_refused d) (λ h. AtOnce (λ r. RepliesEmailQueryChanges h d r))
 RepliesTo EmailParse over d = OverMail over.mail (parse_refused d) (λ h. RepliesEmailParse h over.uploads d)

@@ -8,6 +8,8 @@ ghost use Rattle.gate_calls.specs.Mailings.{MailAndUploads};
 ghost use Rattle.gate_calls.specs.Places.{HasPlaces};
 
 use email_get::laws::{one_get_answer, one_parse_answer};
+use query_changes::laws::one_query_changes_answer;
+use query_core::laws::one_query_answer;
 use read_methods::laws::one_changes_answer;
 
 /// Over some mail and uploads the calls of a request ask for bodies and have responses in one way: as long as bodies come or don't as before,
@@ -20,4 +22,6 @@ pub fn one_list_of_responses()
     one_changes_answer();
     one_get_answer();
     one_parse_answer();
+    one_query_answer();
+    one_query_changes_answer();
 }

@@ -13,6 +13,10 @@ pub enum Method {
     MailboxGet,
     /// RFC 8621 section 2.2
     MailboxChanges,
+    /// RFC 8621 section 2.3
+    MailboxQuery,
+    /// RFC 8621 section 2.4
+    MailboxQueryChanges,
     /// RFC 8621 section 3.1
     ThreadGet,
     /// RFC 8621 section 3.2
@@ -21,6 +25,10 @@ pub enum Method {
     EmailGet,
     /// RFC 8621 section 4.3
     EmailChanges,
+    /// RFC 8621 section 4.4
+    EmailQuery,
+    /// RFC 8621 section 4.5
+    EmailQueryChanges,
     /// RFC 8621 section 4.9
     EmailParse,
 }
@@ -32,10 +40,14 @@ fn method_of(name: &str) -> Option<Method>
         "Core/echo" => Some(Method::CoreEcho),
         "Mailbox/get" => Some(Method::MailboxGet),
         "Mailbox/changes" => Some(Method::MailboxChanges),
+        "Mailbox/query" => Some(Method::MailboxQuery),
+        "Mailbox/queryChanges" => Some(Method::MailboxQueryChanges),
         "Thread/get" => Some(Method::ThreadGet),
         "Thread/changes" => Some(Method::ThreadChanges),
         "Email/get" => Some(Method::EmailGet),
         "Email/changes" => Some(Method::EmailChanges),
+        "Email/query" => Some(Method::EmailQuery),
+        "Email/queryChanges" => Some(Method::EmailQueryChanges),
         "Email/parse" => Some(Method::EmailParse),
         _ => None,
     }

@@ -18,6 +18,11 @@ use email_bodies::BodySource;
 use email_get::{check_email_get, check_email_parse, email_get, email_parse};
 use jmap_methods::{MethodError, echo};
 use mail_state::MailState;
+use query_changes::{
+    check_email_query_changes, check_mailbox_query_changes, email_query_changes,
+    mailbox_query_changes,
+};
+use query_core::{check_email_query, check_mailbox_query, email_query, mailbox_query};
 use read_methods::{
     check_changes, check_mailbox_get, check_thread_get, email_changes, mailbox_changes,
     mailbox_get, thread_changes, thread_get,
@@ -50,10 +55,18 @@ fn reply_without(
         Method::CoreEcho => echo(arguments),
         Method::MailboxGet => refusal_or(check_mailbox_get(alloc, &arguments), error),
         Method::MailboxChanges => refusal_or(check_changes(&arguments), error),
+        Method::MailboxQuery => refusal_or(check_mailbox_query(alloc, &arguments), error),
+        Method::MailboxQueryChanges => {
+            refusal_or(check_mailbox_query_changes(alloc, &arguments), error)
+        }
         Method::ThreadGet => refusal_or(check_thread_get(alloc, &arguments), error),
         Method::ThreadChanges => refusal_or(check_changes(&arguments), error),
         Method::EmailGet => refusal_or(check_email_get(alloc, &arguments), error),
         Method::EmailChanges => refusal_or(check_changes(&arguments), error),
+        Method::EmailQuery => refusal_or(check_email_query(alloc, &arguments), error),
+        Method::EmailQueryChanges => {
+            refusal_or(check_email_query_changes(alloc, &arguments), error)
+        }
         Method::EmailParse => refusal_or(check_email_parse(alloc, &arguments), error),
     }
 }
@@ -76,10 +89,14 @@ fn reply_over<W, B: BodySource<W>>(
         Method::CoreEcho => echo(arguments),
         Method::MailboxGet => mailbox_get(alloc, state, &arguments),
         Method::MailboxChanges => mailbox_changes(alloc, state, &arguments),
+        Method::MailboxQuery => mailbox_query(alloc, state, &arguments),
+        Method::MailboxQueryChanges => mailbox_query_changes(alloc, state, &arguments),
         Method::ThreadGet => thread_get(alloc, state, &arguments),
         Method::ThreadChanges => thread_changes(alloc, state, &arguments),
         Method::EmailGet => email_get(alloc, state, bodies, world, &arguments),
         Method::EmailChanges => email_changes(alloc, state, &arguments),
+        Method::EmailQuery => email_query(alloc, state, &arguments),
+        Method::EmailQueryChanges => email_query_changes(alloc, state, &arguments),
         Method::EmailParse => email_parse(alloc, state, uploads, bodies, world, &arguments),
     }
 }

@@ -1,5 +1,5 @@
 //! The store's language: reads rows from standard input, octets of a store and commands, and prints where responses end, what
-//! they say, and how commands are written. The legend stands at the top of the file `stdin`, and what has to come of its rows
+//! they say, and how responses and commands are written. The legend stands at the top of the file `stdin`, and what has to come of its rows
 //! in the file `stdout`.
 #![tactic(auto)]
 
@@ -7,6 +7,7 @@
 mod kinds;
 mod responses;
 mod scans;
+mod written;
 
 // Commands.
 mod commands;
@@ -24,6 +25,7 @@ fn take(alloc: Global, line: &str, out: &mut String) -> Result<(), AllocError> {
         "scan" => scans::put_scan(alloc, text, out),
         "limit" => scans::put_limit(alloc, text, out),
         "long" => responses::put_long(alloc, text, out),
+        "told" => written::put_written(alloc, text, out),
         "command" => commands::put_command(alloc, text, out),
         _ => responses::put_row(alloc, word, text, out),
     }

@@ -170,7 +170,7 @@ fn put_set(alloc: Global, text: &str, out: &mut String) -> Result<(), AllocError
 }
 
 /// A text with CR LF.
-fn line_of(alloc: Global, text: &str) -> Result<Vec<u8>, AllocError> {
+pub(crate) fn line_of(alloc: Global, text: &str) -> Result<Vec<u8>, AllocError> {
     let mut octets = octets_of(alloc, text)?;
     octets.extend_from_slice(b"\r\n")?;
     Ok(octets)

@@ -48,7 +48,7 @@ fn day_name(text: &[u8]) -> Option<&[u8]>
 }
 
 /// The number that up to four digits spell.
-fn value(digits: &[u8]) -> u32
+pub fn value_of_digits(digits: &[u8]) -> u32
     requires { length digits.now ≤ 4 }
     ensures value { result ≡ dates.value_from 0 digits.now }
     ensures small { result < 300000 }
@@ -72,7 +72,7 @@ pub(crate) fn number_of(low: usize, high: usize, text: &[u8]) -> Option<u32>
     if high < text.len() {
         return None;
     }
-    Some(value(text))
+    Some(value_of_digits(text))
 }
 
 /// The number at the place, and the place after it.
@@ -147,7 +147,7 @@ fn year_of(text: &[u8]) -> Option<u32>
     if 4 < text.len() {
         return None;
     }
-    Some(whole_year(text.len(), value(text)))
+    Some(whole_year(text.len(), value_of_digits(text)))
 }
 
 /// The year that a number of n digits means.

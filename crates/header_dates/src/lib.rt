@@ -9,4 +9,5 @@ pub mod pieces;
 pub(crate) mod zones;
 
 pub use date::{Clock, Day, Moment};
-pub use moments::as_date;
+pub use dates::value_of_digits;
+pub use moments::{as_date, moment_of};

@@ -64,17 +64,20 @@ fn seconds(day_number: i32, seconds_of_day: u32, zone: i32) -> i64
     requires low { negsuc 1439 ≤ℤ zone }
     requires high { zone ≤ℤ pos 1440 }
     requires small { seconds_of_day < 86400 }
-    ensures { result ≡ day_number *ℤ pos 86400 +ℤ pos seconds_of_day -ℤ (zone *ℤ pos 60) }
+    ensures value { result ≡ day_number *ℤ pos 86400 +ℤ pos seconds_of_day -ℤ (zone *ℤ pos 60) }
+    ensures bound { result ≤ℤ pos 253402387199 }
 {
     day_number as i64 * SECONDS_OF_DAY as i64 + seconds_of_day as i64
         - zone as i64 * SECONDS_OF_MINUTE as i64
 }
 
-/// The moment of a day, a time and a zone, where they exist.
-fn moment_of(day: Day, clock: Clock, zone: i32) -> Option<Moment>
+/// The moment of a day, a time and a zone in minutes east of UTC, where the day and the time exist. A leap second, which
+/// is second 60 (RFC 5322 section 3.3), is read as second 59. No moment is later than a day after the year 9999.
+pub fn moment_of(day: Day, clock: Clock, zone: i32) -> Option<Moment>
     requires low { negsuc 1439 ≤ℤ zone }
     requires high { zone ≤ℤ pos 1440 }
-    ensures { result ≡ dates.moment_of day clock zone }
+    ensures value { result ≡ dates.moment_of day clock zone }
+    ensures bound { IfSome result (λ m. m.seconds ≤ℤ pos 253402387199) }
 {
     if !clock_exists(clock) {
         return None;

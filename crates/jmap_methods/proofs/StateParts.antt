@@ -118,3 +118,10 @@ pub one_place : (epoch p q : ℕ) → p < 2 ^ 64 → q < 2 ^ 64 → state_text (
 one_place epoch p q small fits is =
     let cut = one_cut (hex_text 16 epoch) (decimal p) (hex_text 16 epoch) (decimal q) is (hex_has_no_dash 16 epoch) (hex_has_no_dash 16 epoch) in
     decimal_injective p q small fits cut.1
+
+-- a text that names a place of the epoch has that place's state
+pub named_same : (epoch : ℕ) (text : List ℕ) (named : State) (p : ℕ) → ((of : State) → of.epoch < 2 ^ 64 → of.place < 2 ^ 64 → text ≡ state_text of → of ≡ named)
+    → epoch < 2 ^ 64 → p < 2 ^ 64 → text ≡ state_text (record { epoch = epoch; place = p }) → (epoch ≡ named.epoch) × (p ≡ named.place)
+named_same epoch text named p one fits small is =
+    let same = one (record { epoch = epoch; place = p }) fits small is in
+    (ap (λ (s : State). s.epoch) same, ap (λ (s : State). s.place) same)

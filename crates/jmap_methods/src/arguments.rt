@@ -100,7 +100,8 @@ pub fn texts_or_null<'a>(
     }
 }
 
-fn whole_in(value: &Value) -> Option<i64>
+/// An integer, no further from 0 than `MAX_WHOLE_NUMBER` (RFC 8620 section 1.3).
+pub fn whole_in(value: &Value) -> Option<i64>
     ensures { result ≡ option_and_then whole_in (as_number (view value.now)) }
 {
     let number = value.as_i64()?;

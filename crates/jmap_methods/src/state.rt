@@ -126,3 +126,17 @@ pub fn read_state(text: &str) -> Option<State>
         place: decimal_number(place)?,
     })
 }
+
+/// The place in this epoch whose state has the text, where one has. Takes no memory.
+pub fn read_place(epoch: u64, text: &str) -> Option<u64>
+    ensures one { IfSome result (λ place. (p : ℕ) → p < 2 ^ 64 → text.now ≡ spec.state_text (record { epoch = epoch; place = p }) → p ≡ place) }
+    ensures some { IfSome result (λ place. text.now ≡ spec.state_text (record { epoch = epoch; place = place })) }
+    ensures none { result ≡ None → (p : ℕ) → p < 2 ^ 64 → text.now ≢ spec.state_text (record { epoch = epoch; place = p }) }
+{
+    let named = read_state(text)?;
+    if named.epoch == epoch {
+        Some(named.place)
+    } else {
+        None
+    }
+}

@@ -129,6 +129,13 @@ impl MailState {
         self.epoch
     }
 
+    /// The Emails by number.
+    pub fn emails(&self) -> &BTreeMap<u64, EmailRow>
+        ensures { result.now.entries ≡ self.now.rows.numbered.rows }
+    {
+        self.rows.emails.rows()
+    }
+
     /// The Email of a number.
     pub fn email(&self, number: u64) -> Option<&EmailRow>
         ensures { option_copied result ≡ row_at self.now.rows.numbered.rows number }
@@ -141,6 +148,13 @@ impl MailState {
         ensures { MatchOption result (NoneHasMark self.now.rows.numbered.rows mark) (λ row. IsOfMark self.now.rows.numbered.rows mark row.now) }
     {
         self.rows.emails.email_by_mark(mark)
+    }
+
+    /// The Mailboxes by number.
+    pub fn mailboxes(&self) -> &BTreeMap<u64, MailboxRow>
+        ensures { result.now.entries ≡ self.now.rows.mailboxes }
+    {
+        &self.rows.mailboxes
     }
 
     /// The Mailbox of a number, which is its folder's.

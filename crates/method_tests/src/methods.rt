@@ -5,6 +5,8 @@ use email_properties::{Defaults, email_wanted};
 use gate_calls::{Method, method_named};
 use jmap_methods::{MethodError, Using, echo};
 use mail_state::MailState;
+use query_changes::{email_query_changes, mailbox_query_changes};
+use query_core::{email_query, mailbox_query};
 use read_methods::{email_changes, mailbox_changes, mailbox_get, thread_changes, thread_get};
 use serde_json::Value;
 use std::alloc::{AllocError, Global};
@@ -38,9 +40,13 @@ fn answer_of(
     match method {
         Method::MailboxGet => mailbox_get(alloc, state, arguments),
         Method::MailboxChanges => mailbox_changes(alloc, state, arguments),
+        Method::MailboxQuery => mailbox_query(alloc, state, arguments),
+        Method::MailboxQueryChanges => mailbox_query_changes(alloc, state, arguments),
         Method::ThreadGet => thread_get(alloc, state, arguments),
         Method::ThreadChanges => thread_changes(alloc, state, arguments),
         Method::EmailChanges => email_changes(alloc, state, arguments),
+        Method::EmailQuery => email_query(alloc, state, arguments),
+        Method::EmailQueryChanges => email_query_changes(alloc, state, arguments),
         Method::CoreEcho | Method::EmailGet | Method::EmailParse => echo(arguments.clone()?),
     }
 }

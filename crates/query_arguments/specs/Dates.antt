@@ -1,12 +1,12 @@
 -- Dates in UTC (RFC 8620 section 1.4, RFC 3339 section 5.6), part by part: what stands at the front, and what follows it.
-use Rattle.std.specs.Prelude.{ℕ, ◌+◌, ◌==◌, ◌&&◌, nat_le, Bool, if◌then◌else◌, ℤ, pos, ◌+ℤ◌, ◌*ℤ◌}
-use Rattle.std.specs.Prelude.{List, [], ◌∷◌, length, take, drop, bytes_eq, codes, Option, Some, None}
+use Rattle.std.specs.Prelude.{ℕ, ◌==◌, ◌&&◌, nat_le, Bool, if◌then◌else◌, ℤ, pos, ◌+ℤ◌}
+use Rattle.std.specs.Prelude.{List, [], ◌∷◌, length, take, drop, bytes_eq, codes, Option, Some, None, option_map}
 use Rattle.std.specs.List.{list_all}
 use Rattle.serde_json.specs.Data.{Data}
 use Rattle.serde_json.specs.Find.{as_str}
 use Rattle.text_words.specs.Cuts.{front, back}
 use Rattle.text_words.specs.Octets.{is_digit}
-use Rattle.header_dates.specs.Dates.{value_from, day_exists, clock_exists, day_number, seconds_of_day}
+use Rattle.header_dates.specs.Dates.{value_from, moment_of}
 use Rattle.header_dates.specs.declared.date.Clock.{Clock}
 use Rattle.header_dates.specs.declared.date.Day.{Day}
 
@@ -74,8 +74,7 @@ clock_of n = record { hour = n.first; minute = n.second; second = n.third }
 
 -- since 1970-01-01T00:00:00Z, of a day and a time that exist, and so many more
 abbrev pub seconds_on : Day → Clock → ℕ → Option ℤ
-seconds_on d c more =
-    if day_exists d && clock_exists c then Some (day_number d *ℤ pos 86400 +ℤ pos (seconds_of_day c + more)) else None
+seconds_on d c more = option_map (λ m. m.seconds +ℤ pos more) (moment_of d c (pos 0))
 
 -- The first whole second from the date on: what was received at a whole second was before it just where it was before the date.
 -- Second 60 is read as 59, so that what was received at 59 isn't before it.

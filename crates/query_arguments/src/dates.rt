@@ -1,23 +1,14 @@
 // Dates in UTC (RFC 8620 section 1.4, RFC 3339 section 5.6).
-ghost use Rattle.std.specs.Prelude.{◌≡◌, ◌<◌, ◌≤◌, ◌+ℤ◌, ◌*ℤ◌, pos, ◌+◌, false, true, IfSome, MatchOption, option_map, length};
-ghost use Rattle.jiff_core.specs.Calendar.{IsEpochDay};
-ghost use Rattle.header_dates.specs.Dates.{clock_exists as exists, day_exists, day_number as number_of_day, seconds_of_day as seconds_in, value_from};
+ghost use Rattle.std.specs.Prelude.{◌≡◌, ◌≤◌, IfSome, option_map};
 ghost use Rattle.serde_json.specs.View.{view};
 ghost use Rattle.query_arguments.specs.Dates as dates;
 
-use header_dates::{Clock, Day};
-use jiff_core::civil::Date;
+use header_dates::{Clock, Day, moment_of, value_of_digits};
 use serde_json::Value;
 use text_words::{Digit, are_all, cut};
 
 /// How many digits a year has.
 const YEAR_DIGITS: usize = 4;
-
-const SECONDS_OF_DAY: u32 = 86_400;
-
-const SECONDS_OF_HOUR: u32 = 3_600;
-
-const SECONDS_OF_MINUTE: u32 = 60;
 
 /// What follows the octet at the front.
 fn after(octet: u8, text: &[u8]) -> Option<&[u8]>
@@ -27,19 +18,6 @@ fn after(octet: u8, text: &[u8]) -> Option<&[u8]>
         [] => None,
         [first, rest @ ..] => { if *first == octet { Some(rest) } else { None } }
     }
-}
-
-/// The number that up to four digits spell.
-fn value_of(digits: &[u8]) -> u32
-    requires { length digits.now ≤ 4 }
-    ensures value { result ≡ value_from 0 digits.now }
-    ensures small { result < 300000 }
-{
-    let mut value: u32 = 0;
-    for digit in digits {
-        value = 10 * value + (*digit as u32).saturating_sub(b'0' as u32);
-    }
-    value
 }
 
 /// The number of so many digits at the front, and what follows them.
@@ -52,7 +30,7 @@ fn number_at(digits: usize, text: &[u8]) -> Option<(u32, &[u8])>
     }
     let (front, rest) = text.split_at(digits);
     if are_all(&Digit, front) {
-        Some((value_of(front), rest))
+        Some((value_of_digits(front), rest))
     } else {
         None
     }
@@ -124,62 +102,14 @@ fn fraction_in(text: &[u8]) -> Option<u32>
     }
 }
 
-fn clock_exists(clock: Clock) -> bool
-    ensures { result ≡ exists clock }
-{
-    clock.hour <= 23 && clock.minute <= 59 && clock.second <= 60
-}
-
-/// The seconds since midnight. Second 60 is 59.
-fn seconds_of_day(clock: Clock) -> u32
-    requires hour { clock.hour ≤ 23 }
-    requires minute { clock.minute ≤ 59 }
-    ensures value { result ≡ seconds_in clock }
-    ensures small { result < 86400 }
-{
-    clock.hour * SECONDS_OF_HOUR + clock.minute * SECONDS_OF_MINUTE + clock.second.min(59)
-}
-
-/// The days since 1970-01-01 of a day, where the calendar has it.
-fn day_number(day: Day) -> Option<i32>
-    ensures value { MatchOption result (day_exists day ≡ false) (λ n. (day_exists day ≡ true) × (n ≡ number_of_day day)) }
-    ensures bound { IfSome result IsEpochDay }
-{
-    if day.year > 9_999 {
-        return None;
-    }
-    if day.month > 12 {
-        return None;
-    }
-    if day.day > 31 {
-        return None;
-    }
-    match Date::new(day.year as i16, day.month as i8, day.day as i8) {
-        Err(_) => None,
-        Ok(date) => Some(date.to_unix_epoch_day()),
-    }
-}
-
-fn seconds(day_number: i32, seconds_of_day: u32, more: u32) -> i64
-    requires day { IsEpochDay day_number }
-    requires small { seconds_of_day < 86400 }
-    requires one { more ≤ 1 }
-    ensures { result ≡ day_number *ℤ pos 86400 +ℤ pos (seconds_of_day + more) }
-{
-    day_number as i64 * SECONDS_OF_DAY as i64 + (seconds_of_day + more) as i64
-}
-
 /// The seconds since 1970 of a day and a time, where they exist, and so many more.
 fn seconds_on(day: Day, clock: Clock, more: u32) -> Option<i64>
     requires { more ≤ 1 }
     ensures { result ≡ dates.seconds_on day clock more }
 {
-    if !clock_exists(clock) {
-        return None;
-    }
-    match day_number(day) {
+    match moment_of(day, clock, 0) {
         None => None,
-        Some(number) => Some(seconds(number, seconds_of_day(clock), more)),
+        Some(moment) => Some(moment.seconds + more as i64),
     }
 }
 

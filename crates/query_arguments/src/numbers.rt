@@ -7,9 +7,9 @@ ghost use Rattle.jmap_methods.specs.declared.method_error.MethodError.TheVariant
 ghost use Rattle.query_arguments.specs.Parts as spec;
 
 use crate::asked::AskedPart;
-use crate::values::{integer_of, natural_of};
+use crate::values::natural_of;
 use gate_world::Text;
-use jmap_methods::MethodError;
+use jmap_methods::{MethodError, whole_in};
 use serde_json::Value;
 use std::alloc::Global;
 
@@ -19,7 +19,7 @@ fn integer_at(arguments: &Value, key: &str) -> Result<i64, MethodError>
 {
     match arguments.get(key) {
         None => Ok(0),
-        Some(value) => match integer_of(value) {
+        Some(value) => match whole_in(value) {
             None => Err(MethodError::InvalidArguments),
             Some(number) => Ok(number),
         },

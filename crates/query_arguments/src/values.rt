@@ -10,7 +10,7 @@ ghost use Rattle.jmap_methods.specs.Ids.{mailbox_letter};
 ghost use Rattle.query_arguments.specs.Values as values;
 
 use gate_world::Bytes;
-use jmap_methods::{MAILBOX_LETTER, MAX_WHOLE_NUMBER, read_id, texts_in};
+use jmap_methods::{MAILBOX_LETTER, read_id, texts_in, whole_in};
 use serde_json::Value;
 use std::alloc::{AllocError, Global};
 use std::collections::BTreeSet;
@@ -62,23 +62,11 @@ pub(crate) fn list_of_texts(alloc: Global, value: &Value) -> Result<Option<Vec<&
     }
 }
 
-/// An integer, no further from 0 than `MAX_WHOLE_NUMBER`.
-pub(crate) fn integer_of(value: &Value) -> Option<i64>
-    ensures { result ≡ values.integer_of (view value.now) }
-{
-    let number = value.as_i64()?;
-    if -MAX_WHOLE_NUMBER <= number && number <= MAX_WHOLE_NUMBER {
-        Some(number)
-    } else {
-        None
-    }
-}
-
 /// An integer from 0 to `MAX_WHOLE_NUMBER`.
 pub(crate) fn natural_of(value: &Value) -> Option<u64>
     ensures { result ≡ values.natural_of (view value.now) }
 {
-    let number = integer_of(value)?;
+    let number = whole_in(value)?;
     if number < 0 {
         None
     } else {

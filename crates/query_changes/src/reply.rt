@@ -1,6 +1,6 @@
 // What is answered, of the ids that were touched and the list as it is now.
-ghost use Rattle.std.specs.Prelude.{◌≡◌, ◌<◌, false, IfOk, OnOk};
-ghost use Rattle.serde_json.specs.Data.{no_members, put as put_data, string};
+ghost use Rattle.std.specs.Prelude.{◌≡◌, ◌<◌, false, IfOk};
+ghost use Rattle.serde_json.specs.Data.{no_members};
 ghost use Rattle.serde_json.specs.View.{view, members_view};
 ghost use Rattle.serde_json.specs.Written.{has_float};
 ghost use Rattle.jmap_methods.specs.Outcome.{Agrees};
@@ -11,7 +11,7 @@ ghost use Rattle.query_changes.specs.reading.Found.{told_or_refused};
 
 use crate::told::{is_no_more_than, now_in, were_there};
 use crate::touched::Touched;
-use jmap_methods::{ACCOUNT_ID, MethodError, State, id_list, id_value, state_text};
+use jmap_methods::{ACCOUNT_ID, MethodError, State, id_list, id_value, put_text, state_text};
 use query_core::put_total;
 use serde_json::{Map, Value, json, put};
 use std::alloc::{AllocError, Global};
@@ -34,17 +34,6 @@ fn added_list(alloc: Global, letter: char, added: &[(u64, u64)]) -> Result<Value
         objects.push(added_item(alloc, letter, entry.0, entry.1)?)?;
     }
     Ok(Value::Array(objects))
-}
-
-fn put_text(
-    members: &mut Map<String, Value>,
-    alloc: Global,
-    key: &str,
-    text: &str,
-) -> Result<(), AllocError>
-    ensures { OnOk result (members_view members.new.entries ≡ put_data key.now (string text.now) (members_view members.old.entries)) }
-{
-    put(members, alloc, key, Value::try_from_str(alloc, text)?)
 }
 
 /// The members of an answer but for the total.

@@ -1,12 +1,11 @@
 // What was touched since the state that is named.
-ghost use Rattle.std.specs.Prelude.{◌≡◌, ◌≢◌, ◌⊎◌, ◌<◌, ◌^◌, ℕ, None, IfErr, IfOk, IfSome};
-ghost use Rattle.jmap_methods.specs.State.{state_text as text_of_state};
+ghost use Rattle.std.specs.Prelude.{◌≡◌, ◌⊎◌, IfErr, IfOk};
 ghost use Rattle.jmap_methods.specs.declared.method_error.MethodError.TheVariants.{Memory};
 ghost use Rattle.query_changes.specs.reading.Found.{FindsNone, TouchedSince};
 
 use change_list::{ChangeList, SinceError};
 use gate_world::Listed;
-use jmap_methods::{MethodError, State, read_state};
+use jmap_methods::{MethodError, State, read_place};
 
 /// What was touched since a state of a type.
 #[derive(Drop)]
@@ -15,20 +14,6 @@ pub(crate) struct Touched {
     pub last: State,
     /// The ids, ascending, each with whether it was there.
     pub ids: Listed<(u64, bool)>,
-}
-
-/// The place that a state of this epoch names.
-fn place_named(epoch: u64, since: &str) -> Option<u64>
-    ensures one { IfSome result (λ place. (p : ℕ) → p < 2 ^ 64 → since.now ≡ text_of_state (record { epoch = epoch; place = p }) → p ≡ place) }
-    ensures some { IfSome result (λ place. since.now ≡ text_of_state (record { epoch = epoch; place = place })) }
-    ensures none { result ≡ None → (p : ℕ) → p < 2 ^ 64 → since.now ≢ text_of_state (record { epoch = epoch; place = p }) }
-{
-    let named = read_state(since)?;
-    if named.epoch == epoch {
-        Some(named.place)
-    } else {
-        None
-    }
 }
 
 /// What was touched since the state that is named, where all that was touched after it is still kept.
@@ -44,7 +29,7 @@ pub(crate) fn touched_since(
         epoch,
         place: list.place(),
     };
-    let Some(place) = place_named(epoch, since) else {
+    let Some(place) = read_place(epoch, since) else {
         return Err(MethodError::CannotCalculateChanges);
     };
     match list.touched(place) {

@@ -1,6 +1,6 @@
 // What a query answers of a list.
 ghost use Rattle.std.specs.Prelude.{◌≡◌, ◌<◌, IfOk, OnOk, codes, length, if◌then◌else◌};
-ghost use Rattle.serde_json.specs.Data.{number, put as put_data, string, unsigned};
+ghost use Rattle.serde_json.specs.Data.{number, put as put_data, unsigned};
 ghost use Rattle.serde_json.specs.View.{view, members_view};
 ghost use Rattle.jmap_methods.specs.Outcome.{Agrees};
 ghost use Rattle.jmap_methods.specs.declared.method_error.MethodError.TheVariants.{Memory};
@@ -8,22 +8,11 @@ ghost use Rattle.query_core.specs.Answers.{query_data};
 ghost use Rattle.query_core.specs.reading.ListAnswers.{list_answer};
 
 use crate::parts::part_of;
-use jmap_methods::{ACCOUNT_ID, MethodError, id_list};
+use jmap_methods::{ACCOUNT_ID, MethodError, id_list, put_text};
 use query_arguments::AskedPart;
 use query_lists::Window;
 use serde_json::{Map, Value, put};
 use std::alloc::{AllocError, Global};
-
-fn put_text(
-    members: &mut Map<String, Value>,
-    alloc: Global,
-    key: &str,
-    text: &str,
-) -> Result<(), AllocError>
-    ensures { OnOk result (members_view members.new.entries ≡ put_data key.now (string text.now) (members_view members.old.entries)) }
-{
-    put(members, alloc, key, Value::try_from_str(alloc, text)?)
-}
 
 /// Adds `total`, where it is asked.
 pub fn put_total(

@@ -1,9 +1,7 @@
 // The list of a query of Emails.
-ghost use Rattle.std.specs.Prelude.{◌≡◌, ◌++◌, ◌∷◌, [], IfOk, OnOk, Some, if◌then◌else◌, map};
-ghost use Rattle.change_list.specs.Advance.{row_at};
+ghost use Rattle.std.specs.Prelude.{◌≡◌, ◌++◌, ◌∷◌, [], IfOk, OnOk, if◌then◌else◌, map};
 ghost use Rattle.served_maps.specs.Past.{served};
 ghost use Rattle.mail_maps.specs.Serve.{email_of};
-ghost use Rattle.mail_maps.specs.declared.row.EmailRow as declared;
 ghost use Rattle.mail_conditions.specs.Entries.{emails_at};
 ghost use Rattle.mail_state.specs.History.{MailHistory};
 ghost use Rattle.mail_state.specs.State.{IsStateOf};
@@ -26,33 +24,18 @@ use query_arguments::{AskedList, EmailCondition, Filter};
 use query_lists::{GroupedRow, first_of_each};
 use std::alloc::{AllocError, Global};
 
-/// Adds the Email of a number, where there is one.
-fn put_email<'a>(
-    state: &'a MailState,
-    number: u64,
-    entries: &mut Vec<EmailEntry<'a>>,
-) -> Result<(), AllocError>
-    ensures { OnOk result ((row : declared.EmailRow) → row_at state.now.rows.numbered.rows number ≡ Some row
-        → emails_at entries.new.items ≡ emails_at entries.old.items ++ (number, email_of row) ∷ []) }
-{
-    match state.email(number) {
-        None => Ok(()),
-        Some(row) => {
-            entries.push(EmailEntry { number, row })?;
-            Ok(())
-        }
-    }
-}
-
 /// All Emails, by number.
 fn email_entries<'a>(alloc: Global, state: &'a MailState) -> Result<Vec<EmailEntry<'a>>, AllocError>
     ensures rows { IfOk result (λ v. emails_at v.items ≡ served email_of state.now.rows.numbered.rows) }
     ensures ascending { IfOk result (λ v. AscendByNumber (emails_at v.items)) }
 {
-    let numbers = state.numbers(MailType::Email)?;
-    let mut entries = Vec::with_capacity(alloc, numbers.len())?;
-    for number in &numbers {
-        put_email(state, *number, &mut entries)?;
+    let count = state.count(MailType::Email);
+    let mut entries = Vec::with_capacity(alloc, count)?;
+    for (number, row) in state.emails().iter() {
+        entries.push(EmailEntry {
+            number: *number,
+            row,
+        })?;
     }
     Ok(entries)
 }

@@ -1,9 +1,7 @@
 // The list of a query of Mailboxes.
-ghost use Rattle.std.specs.Prelude.{◌≡◌, ◌++◌, ◌∷◌, [], IfOk, OnOk, Some, if◌then◌else◌};
-ghost use Rattle.change_list.specs.Advance.{row_at};
+ghost use Rattle.std.specs.Prelude.{◌≡◌, ◌++◌, ◌∷◌, [], IfOk, OnOk, if◌then◌else◌};
 ghost use Rattle.served_maps.specs.Past.{served};
 ghost use Rattle.mail_maps.specs.Serve.{mailbox_of};
-ghost use Rattle.mail_maps.specs.declared.row.MailboxRow as declared;
 ghost use Rattle.mail_conditions.specs.Mailboxes.{MailboxMatches};
 ghost use Rattle.mail_orders.specs.Entries.{mailboxes_at};
 ghost use Rattle.mail_state.specs.History.{MailHistory};
@@ -36,24 +34,6 @@ impl<'a> Tested<MailboxCondition> for MailboxEntry<'a> {
     }
 }
 
-/// Adds the Mailbox of a number, where there is one.
-fn put_mailbox<'a>(
-    state: &'a MailState,
-    number: u64,
-    entries: &mut Vec<MailboxEntry<'a>>,
-) -> Result<(), AllocError>
-    ensures { OnOk result ((row : declared.MailboxRow) → row_at state.now.rows.mailboxes number ≡ Some row
-        → mailboxes_at entries.new.items ≡ mailboxes_at entries.old.items ++ (number, mailbox_of row) ∷ []) }
-{
-    match state.mailbox(number) {
-        None => Ok(()),
-        Some(row) => {
-            entries.push(MailboxEntry { number, row })?;
-            Ok(())
-        }
-    }
-}
-
 /// All Mailboxes, by number.
 fn mailbox_entries<'a>(
     alloc: Global,
@@ -62,10 +42,13 @@ fn mailbox_entries<'a>(
     ensures rows { IfOk result (λ v. mailboxes_at v.items ≡ served mailbox_of state.now.rows.mailboxes) }
     ensures ascending { IfOk result (λ v. AscendByNumber (mailboxes_at v.items)) }
 {
-    let numbers = state.numbers(MailType::Mailbox)?;
-    let mut entries = Vec::with_capacity(alloc, numbers.len())?;
-    for number in &numbers {
-        put_mailbox(state, *number, &mut entries)?;
+    let count = state.count(MailType::Mailbox);
+    let mut entries = Vec::with_capacity(alloc, count)?;
+    for (number, row) in state.mailboxes().iter() {
+        entries.push(MailboxEntry {
+            number: *number,
+            row,
+        })?;
     }
     Ok(entries)
 }

@@ -17,15 +17,6 @@ use Rattle.read_methods.specs.reading.Found.{Finds, Refuses, NamesNothing, InKep
 abbrev text_of : ℕ → ℕ → List ℕ
 text_of epoch place = state_text (record { epoch = epoch; place = place })
 
--- ---- the state that is named
-
--- a text that names a place of the epoch has that place's state
-pub named_same : (epoch : ℕ) (text : List ℕ) (named : State) (p : ℕ) → ((of : State) → of.epoch < 2 ^ 64 → of.place < 2 ^ 64 → text ≡ state_text of → of ≡ named)
-    → epoch < 2 ^ 64 → p < 2 ^ 64 → text ≡ text_of epoch p → (epoch ≡ named.epoch) × (p ≡ named.place)
-named_same epoch text named p one fits small is =
-    let same = one (record { epoch = epoch; place = p }) fits small is in
-    (ap (λ (s : State). s.epoch) same, ap (λ (s : State). s.place) same)
-
 -- ---- what is found
 
 module _ (epoch : ℕ) (k : Kept) (d : Data) where

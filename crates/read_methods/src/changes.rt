@@ -1,5 +1,5 @@
 // The three /changes.
-ghost use Rattle.std.specs.Prelude.{◌≡◌, ◌≢◌, ◌<◌, ◌^◌, ℕ, false, None, IfOk, IfSome, OnOk};
+ghost use Rattle.std.specs.Prelude.{◌≡◌, ◌<◌, false, IfOk, OnOk};
 ghost use Rattle.serde_json.specs.Data.{put as put_data, string, no_members};
 ghost use Rattle.serde_json.specs.View.{view, members_view};
 ghost use Rattle.serde_json.specs.Written.{has_float};
@@ -18,7 +18,7 @@ ghost use Rattle.read_methods.specs.reading.Found.{Finds, AnswersFound};
 use change_list::{ChangeList, Changes, SinceError};
 use jmap_methods::{
     ACCOUNT_ID, EMAIL_LETTER, MAILBOX_LETTER, MethodError, State, THREAD_LETTER, check_account,
-    id_list, most_or_null, read_state, state_text, text_at,
+    id_list, most_or_null, put_text, read_place, state_text, text_at,
 };
 use mail_state::{MailState, MailType};
 use serde_json::{Map, Value, json, put};
@@ -50,20 +50,6 @@ pub fn check_changes(arguments: &Value) -> Result<(), MethodError>
     Ok(())
 }
 
-/// The place that a state of this epoch names.
-fn place_named(epoch: u64, since: &str) -> Option<u64>
-    ensures one { IfSome result (λ place. (p : ℕ) → p < 2 ^ 64 → since.now ≡ text_of_state (record { epoch = epoch; place = p }) → p ≡ place) }
-    ensures some { IfSome result (λ place. since.now ≡ text_of_state (record { epoch = epoch; place = place })) }
-    ensures none { result ≡ None → (p : ℕ) → p < 2 ^ 64 → since.now ≢ text_of_state (record { epoch = epoch; place = p }) }
-{
-    let named = read_state(since)?;
-    if named.epoch == epoch {
-        Some(named.place)
-    } else {
-        None
-    }
-}
-
 /// What changed since the state that was named.
 #[derive(Drop)]
 struct Found<'a> {
@@ -83,7 +69,7 @@ fn find<'a>(epoch: u64, list: &ChangeList, arguments: &'a Value) -> Result<Found
         epoch,
         place: list.place(),
     };
-    let Some(place) = place_named(epoch, since) else {
+    let Some(place) = read_place(epoch, since) else {
         return Err(MethodError::CannotCalculateChanges);
     };
     match list.since(place, most) {
@@ -96,17 +82,6 @@ fn find<'a>(epoch: u64, list: &ChangeList, arguments: &'a Value) -> Result<Found
         Err(SinceError::AfterEnd { .. }) => Err(MethodError::CannotCalculateChanges),
         Err(SinceError::Memory) => Err(MethodError::Memory),
     }
-}
-
-fn put_text(
-    members: &mut Map<String, Value>,
-    alloc: Global,
-    key: &str,
-    text: &str,
-) -> Result<(), AllocError>
-    ensures { OnOk result (members_view members.new.entries ≡ put_data key.now (string text.now) (members_view members.old.entries)) }
-{
-    put(members, alloc, key, Value::try_from_str(alloc, text)?)
 }
 
 fn put_ids(

@@ -3,23 +3,20 @@
 //! rows in the file `stdout`.
 #![tactic(auto)]
 
-// Mail as it is told, the state that follows it, and what it serves as text.
+// The state that follows the mail which is told, and what it serves as text.
 mod served;
 mod shown;
-mod told;
 
-// A slow program beside it, copies that clients have, and mail that changes at random.
+// A slow program beside it, and copies that clients have.
 mod copies;
 mod plain;
-mod random;
 
 use copies::Copy;
 use plain::Plain;
-use random::Random;
+use random_mail::{Random, Told};
 use served::{Served, places};
 use std::alloc::{AllocError, Global};
 use std::io;
-use told::Told;
 use told_dialogues::{first_number, first_word};
 
 /// What the rows so far have left.
@@ -29,6 +26,7 @@ struct Rows {
     served: Served,
     plain: Plain,
     copies: Vec<Copy>,
+    random: Random,
     headers: Vec<String>,
     alloc: Global,
 }
@@ -40,6 +38,7 @@ impl Rows {
             served: Served::new(alloc, epoch)?,
             plain: Plain::new(alloc),
             copies: Vec::new(alloc),
+            random: Random::new(alloc),
             headers: Vec::new(alloc),
             alloc,
         })
@@ -133,10 +132,10 @@ impl Rows {
     fn put_walk(&mut self, text: &str, out: &mut String) -> Result<(), AllocError> {
         let (seed, rest) = first_number(text);
         let (steps, _) = first_number(rest);
-        let mut random = Random::new(self.alloc, seed);
+        self.random.begin(seed);
         for at in 0..steps {
             let at = at.saturating_add(1);
-            let (word, text) = random.change(&self.told.mirror)?;
+            let (word, text) = self.random.change(&self.told.mirror)?;
             if word != "" {
                 self.told.take(word, &text)?;
             }
@@ -149,7 +148,7 @@ impl Rows {
         write!(
             out,
             "the same: {:?}, places {places:?}, next {}",
-            random.drawn, self.plain.next
+            self.random.drawn, self.plain.next
         )
     }
 
@@ -179,6 +178,10 @@ impl Rows {
             "header" => {
                 self.headers.push(String::from_str(self.alloc, rest)?)?;
                 Ok(())
+            }
+            "some" => {
+                let (kind, text) = first_word(rest);
+                self.random.add(kind, text)
             }
             "step" | "sizes" | "rights" | "read" | "orders" | "walk" => {
                 self.answer(word, rest, out)

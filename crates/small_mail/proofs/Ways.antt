@@ -8,8 +8,8 @@ use Rattle.std.proofs.lemmas.Option.{get_or_from_slice_get, slice_get_within, sl
 use Rattle.honest_store.specs.StoreMail.{StoreMessage, StoreFolder, StoreMail, NameUse}
 use Rattle.honest_store.specs.WellFormed.{AscendByUid, IsStoreMail}
 use Rattle.honest_store.specs.MessageChanges.{folder_with, folder_without}
-use Rattle.small_mail.specs.Changes.{mail_with, mail_without}
-use Rattle.small_mail.specs.Limits.{is_last_change, is_last_message}
+use Rattle.small_answers.specs.Changes.{mail_with, mail_without}
+use Rattle.small_answers.specs.Limits.{is_last_change, is_last_message}
 use Rattle.small_mail.specs.Places.{IsFolderAt, IsMessageAt}
 use Rattle.small_mail.proofs.Mails.{folder_at, mail_of}
 use Rattle.small_mail.proofs.Moves.{ended, put, moved_between, moved_within, numbers_there}

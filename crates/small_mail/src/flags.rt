@@ -5,7 +5,7 @@ ghost use Rattle.imap_syntax.specs.Octets as classes;
 ghost use Rattle.imap_syntax.specs.Items as items;
 ghost use Rattle.honest_store.specs.Attributes as attributes;
 ghost use Rattle.honest_store.specs.MessageCommands as commands;
-ghost use Rattle.small_mail.specs.Limits as limits;
+ghost use Rattle.small_answers.specs.Limits as limits;
 
 use gate_world::{Bytes, Names};
 use imap_values::lower;

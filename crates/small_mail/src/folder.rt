@@ -3,8 +3,8 @@ ghost use Rattle.std.specs.Prelude.{◌≡◌, ◌<◌, ◌+◌, ◌++◌, ◌�
 ghost use Rattle.honest_store.specs.StoreMail.{message_numbered, StoreMessage};
 ghost use Rattle.honest_store.specs.WellFormed.{AscendByUid};
 ghost use Rattle.honest_store.specs.MessageChanges.{folder_with, folder_flagged};
-ghost use Rattle.small_mail.specs.Changes.{empty_folder, hierarchy_delimiter, next_modseq};
-ghost use Rattle.small_mail.specs.Limits as limits;
+ghost use Rattle.small_answers.specs.Changes.{empty_folder, hierarchy_delimiter, next_modseq};
+ghost use Rattle.small_answers.specs.Limits as limits;
 ghost use Rattle.small_mail.specs.Places.{IsMessageAt};
 
 use crate::message::{StoredMessage, StoredUid};
@@ -30,7 +30,7 @@ pub struct StoredFolder {
 impl Model for StoredFolder {
     ghost use Rattle.std.specs.Prelude.{Some, true};
     ghost use Rattle.honest_store.specs.StoreMail.{StoreFolder};
-    ghost use Rattle.small_mail.specs.Changes.{hierarchy_delimiter};
+    ghost use Rattle.small_answers.specs.Changes.{hierarchy_delimiter};
 
     ghost Value = { StoreFolder };
 

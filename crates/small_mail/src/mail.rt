@@ -3,8 +3,8 @@ ghost use Rattle.std.specs.Prelude.{◌≡◌, ◌<◌, ◌≤◌, ◌+◌, ◌^
 ghost use Rattle.imap_syntax.specs.Folders.{folder_name};
 ghost use Rattle.honest_store.specs.StoreMail.{folder_called, folder_numbered, IsFolder, IsFolderNamed, StoreFolder, StoreMessage};
 ghost use Rattle.honest_store.specs.WellFormed.{IsStoreMail};
-ghost use Rattle.small_mail.specs.Changes as changes;
-ghost use Rattle.small_mail.specs.Limits as limits;
+ghost use Rattle.small_answers.specs.Changes as changes;
+ghost use Rattle.small_answers.specs.Limits as limits;
 ghost use Rattle.small_mail.specs.Places.{IsFolderAt, IsMessageAt};
 
 use crate::flags::subscribed;

@@ -2,7 +2,7 @@
 ghost use Rattle.std.specs.Prelude.{◌≡◌, ◌++◌, IfOk, MatchOption, None, Some};
 ghost use Rattle.imap_syntax.specs.Folders.{folder_name};
 ghost use Rattle.honest_store.specs.FolderChanges as folders;
-ghost use Rattle.small_mail.specs.Changes.{hierarchy_delimiter};
+ghost use Rattle.small_answers.specs.Changes.{hierarchy_delimiter};
 
 use imap_values::is_key;
 use std::alloc::{AllocError, Global};

@@ -1,14 +1,22 @@
 //! What it costs to serve mail. `state_speed MESSAGES EACH` makes mail of MESSAGES messages in memory, with EACH in each
 //! conversation and with headers of some 1,400 octets. It reads their headers alone, takes them into a state, and then takes
-//! changes of one message at a time into it, the same mail again, and one new message at a time.
+//! changes of one message at a time into it, the same mail again, and one new message at a time. `state_speed MESSAGES EACH FILTER`
+//! takes them in, and times queries of Emails beside sorts of the same keys, and one by FILTER, a filter of Emails as JSON.
 #![tactic(auto)]
 
 mod made_mail;
+
+// Queries.
+mod plain;
+mod queries;
+mod timed;
 
 use made_mail::{inbox, tell_new, tell_seen};
 use mail_header::fields;
 use mail_state::{MailState, MailType};
 use process_watch::{Watch, resident};
+use queries::{say_changes, say_filter, say_queries};
+use read_methods::type_text;
 use std::alloc::Global;
 use std::env;
 use told_mail::Mirror;
@@ -132,6 +140,27 @@ fn measure(rt: &HostRuntime, messages: u32, each: u32) -> Result<(), anyhow::Err
     say_rows(rt, &state)
 }
 
+/// Times queries, and what they answer of one new message and of one that is changed.
+fn measure_queries(
+    rt: &HostRuntime,
+    messages: u32,
+    each: u32,
+    filter: &str,
+) -> Result<(), anyhow::Error> {
+    let mut mirror = inbox(rt.alloc(), messages, each)?;
+    let state = take_in(rt, &mirror, messages)?;
+    say_queries(rt, &state)?;
+    say_filter(rt, &state, filter)?;
+    let since = type_text(rt.alloc(), &state, MailType::Email)?;
+    tell_new(rt.alloc(), &mut mirror, messages, each)?;
+    let state = take(rt, &mirror, state, "one new message")?;
+    say_changes(rt, &state, since.as_str())?;
+    let since = type_text(rt.alloc(), &state, MailType::Email)?;
+    tell_seen(rt.alloc(), &mut mirror, messages / 2)?;
+    let state = take(rt, &mirror, state, "one message changed")?;
+    say_changes(rt, &state, since.as_str())
+}
+
 fn number(word: String) -> u32 {
     word.parse::<u32>().unwrap_or(0)
 }
@@ -139,10 +168,13 @@ fn number(word: String) -> u32 {
 fn main(rt: HostRuntime) -> Result<(), anyhow::Error> {
     let mut words = env::args(&rt)?;
     let _ = words.next();
-    match (words.next(), words.next()) {
-        (Some(messages), Some(each)) => measure(&rt, number(messages), number(each)),
+    match (words.next(), words.next(), words.next()) {
+        (Some(messages), Some(each), Some(filter)) => {
+            measure_queries(&rt, number(messages), number(each), &filter)
+        }
+        (Some(messages), Some(each), None) => measure(&rt, number(messages), number(each)),
         _ => {
-            println!(rt; "usage: state_speed MESSAGES EACH")?;
+            println!(rt; "usage: state_speed MESSAGES EACH, or state_speed MESSAGES EACH FILTER")?;
             Ok(())
         }
     }

@@ -3,9 +3,11 @@ use Rattle.serde_json.specs.View.{view}
 use Rattle.jmap_methods.specs.Echo.{echoed}
 use Rattle.mail_state.specs.History.{MailHistory}
 use Rattle.mail_state.specs.State.{IsStateOf}
+use Rattle.query_changes.specs.Replies.{RepliesEmailQueryChanges, RepliesMailboxQueryChanges}
+use Rattle.query_core.specs.Answers.{RepliesEmailQuery, RepliesMailboxQuery}
 use Rattle.read_methods.specs.Replies.{mailbox_get_reply, thread_get_reply, RepliesMailboxChanges, RepliesThreadChanges, RepliesEmailChanges}
-use Rattle.gate_calls.specs.declared.method.Method.TheVariants.{CoreEcho, MailboxGet, MailboxChanges, ThreadGet, ThreadChanges}
-use Rattle.gate_calls.specs.declared.method.Method.TheVariants.{EmailGet, EmailChanges, EmailParse}
+use Rattle.gate_calls.specs.declared.method.Method.TheVariants.{CoreEcho, MailboxGet, MailboxChanges, MailboxQuery, MailboxQueryChanges, ThreadGet}
+use Rattle.gate_calls.specs.declared.method.Method.TheVariants.{ThreadChanges, EmailGet, EmailChanges, EmailQuery, EmailQueryChanges, EmailParse}
 use Rattle.gate_calls.proofs.Meaning.{agrees_meets, at_once, just_meets, replies_by}
 use Rattle.gate_calls.proofs.methods.reply_over.Goals as goal
 
@@ -73,6 +75,50 @@ returns-in-EmailChanges-clause-meant g c =
     (at_once A L {J = λ h. IsStateOf h c.args.state.now} (λ (h : MailHistory) r. RepliesEmailChanges h (view c.args.arguments) r)
     (c.args.bodies.now, c.args.world.now) c.email_changes.result
     (λ h stands. c.email_changes.ensures.exact h stands))
+
+pub returns-in-MailboxQuery-clause-meant : goal.returns-in-MailboxQuery-clause-meant
+returns-in-MailboxQuery-clause-meant g c =
+    let A = g.B.BodySource.answers in
+    let L = g.B.BodySource.lacks in
+    replies_by A L (λ (h : MailHistory). IsStateOf h c.args.state.now) MailboxQuery c.args.method (λ (h : MailHistory). record { mail = Ok h; uploads = c.args.uploads.now })
+    (view c.args.arguments)
+    _ _ c.mailbox_query.result c.in-MailboxQuery.is
+    (at_once A L {J = λ h. IsStateOf h c.args.state.now} (λ (h : MailHistory) r. RepliesMailboxQuery h (view c.args.arguments) r)
+    (c.args.bodies.now, c.args.world.now) c.mailbox_query.result
+    (λ h stands. c.mailbox_query.ensures.exact h stands))
+
+pub returns-in-MailboxQueryChanges-clause-meant : goal.returns-in-MailboxQueryChanges-clause-meant
+returns-in-MailboxQueryChanges-clause-meant g c =
+    let A = g.B.BodySource.answers in
+    let L = g.B.BodySource.lacks in
+    replies_by A L (λ (h : MailHistory). IsStateOf h c.args.state.now) MailboxQueryChanges c.args.method (λ (h : MailHistory). record { mail = Ok h; uploads = c.args.uploads.now })
+    (view c.args.arguments)
+    _ _ c.mailbox_query_changes.result c.in-MailboxQueryChanges.is
+    (at_once A L {J = λ h. IsStateOf h c.args.state.now} (λ (h : MailHistory) r. RepliesMailboxQueryChanges h (view c.args.arguments) r)
+    (c.args.bodies.now, c.args.world.now) c.mailbox_query_changes.result
+    (λ h stands. c.mailbox_query_changes.ensures.exact h stands))
+
+pub returns-in-EmailQuery-clause-meant : goal.returns-in-EmailQuery-clause-meant
+returns-in-EmailQuery-clause-meant g c =
+    let A = g.B.BodySource.answers in
+    let L = g.B.BodySource.lacks in
+    replies_by A L (λ (h : MailHistory). IsStateOf h c.args.state.now) EmailQuery c.args.method (λ (h : MailHistory). record { mail = Ok h; uploads = c.args.uploads.now })
+    (view c.args.arguments)
+    _ _ c.email_query.result c.in-EmailQuery.is
+    (at_once A L {J = λ h. IsStateOf h c.args.state.now} (λ (h : MailHistory) r. RepliesEmailQuery h (view c.args.arguments) r)
+    (c.args.bodies.now, c.args.world.now) c.email_query.result
+    (λ h stands. c.email_query.ensures.exact h stands))
+
+pub returns-in-EmailQueryChanges-clause-meant : goal.returns-in-EmailQueryChanges-clause-meant
+returns-in-EmailQueryChanges-clause-meant g c =
+    let A = g.B.BodySource.answers in
+    let L = g.B.BodySource.lacks in
+    replies_by A L (λ (h : MailHistory). IsStateOf h c.args.state.now) EmailQueryChanges c.args.method (λ (h : MailHistory). record { mail = Ok h; uploads = c.args.uploads.now })
+    (view c.args.arguments)
+    _ _ c.email_query_changes.result c.in-EmailQueryChanges.is
+    (at_once A L {J = λ h. IsStateOf h c.args.state.now} (λ (h : MailHistory) r. RepliesEmailQueryChanges h (view c.args.arguments) r)
+    (c.args.bodies.now, c.args.world.now) c.email_query_changes.result
+    (λ h stands. c.email_query_changes.ensures.exact h stands))
 
 pub returns-in-EmailGet-clause-meant : goal.returns-in-EmailGet-clause-meant
 returns-in-EmailGet-clause-meant g c =

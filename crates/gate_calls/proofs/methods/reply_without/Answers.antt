@@ -3,8 +3,9 @@ use Rattle.serde_json.specs.View.{view}
 use Rattle.email_get.specs.EmailGet.{get_emails_refused}
 use Rattle.email_get.specs.EmailParse.{parse_refused}
 use Rattle.jmap_methods.specs.Echo.{echoed}
-use Rattle.gate_calls.specs.declared.method.Method.TheVariants.{CoreEcho, MailboxGet, MailboxChanges, ThreadGet, ThreadChanges}
-use Rattle.gate_calls.specs.declared.method.Method.TheVariants.{EmailGet, EmailChanges, EmailParse}
+use Rattle.gate_calls.specs.declared.method.Method.TheVariants.{CoreEcho, MailboxGet, MailboxChanges, MailboxQuery, MailboxQueryChanges, ThreadGet}
+use Rattle.gate_calls.specs.declared.method.Method.TheVariants.{ThreadChanges, EmailGet, EmailChanges, EmailQuery, EmailQueryChanges, EmailParse}
+use Rattle.query_arguments.specs.Asked.{email_query_refused, email_query_changes_refused, mailbox_query_refused, mailbox_query_changes_refused}
 use Rattle.read_methods.specs.Changes.{changes_refused}
 use Rattle.read_methods.specs.Mailboxes.{mailboxes_refused}
 use Rattle.read_methods.specs.Threads.{threads_refused}
@@ -53,6 +54,30 @@ returns-in-EmailChanges-clause-meant c = λ uploads.
     without EmailChanges c.args.method (record { mail = Err c.args.error; uploads = uploads }) (view c.args.arguments) c.refusal_or-in-EmailChanges.result c.in-EmailChanges.is
     (once (λ r. r ≡ unless_refused (changes_refused (view c.args.arguments)) c.args.error) c.refusal_or-in-EmailChanges.result
     (c.refusal_or-in-EmailChanges.ensures.meant (changes_refused (view c.args.arguments)) (is_refusal _ _ c.check_changes-in-EmailChanges.ensures)))
+
+pub returns-in-MailboxQuery-clause-meant : goal.returns-in-MailboxQuery-clause-meant
+returns-in-MailboxQuery-clause-meant c = λ uploads.
+    without MailboxQuery c.args.method (record { mail = Err c.args.error; uploads = uploads }) (view c.args.arguments) c.refusal_or-in-MailboxQuery.result c.in-MailboxQuery.is
+    (once (λ r. r ≡ unless_refused (mailbox_query_refused (view c.args.arguments)) c.args.error) c.refusal_or-in-MailboxQuery.result
+    (c.refusal_or-in-MailboxQuery.ensures.meant (mailbox_query_refused (view c.args.arguments)) c.check_mailbox_query.ensures))
+
+pub returns-in-MailboxQueryChanges-clause-meant : goal.returns-in-MailboxQueryChanges-clause-meant
+returns-in-MailboxQueryChanges-clause-meant c = λ uploads.
+    without MailboxQueryChanges c.args.method (record { mail = Err c.args.error; uploads = uploads }) (view c.args.arguments) c.refusal_or-in-MailboxQueryChanges.result c.in-MailboxQueryChanges.is
+    (once (λ r. r ≡ unless_refused (mailbox_query_changes_refused (view c.args.arguments)) c.args.error) c.refusal_or-in-MailboxQueryChanges.result
+    (c.refusal_or-in-MailboxQueryChanges.ensures.meant (mailbox_query_changes_refused (view c.args.arguments)) c.check_mailbox_query_changes.ensures))
+
+pub returns-in-EmailQuery-clause-meant : goal.returns-in-EmailQuery-clause-meant
+returns-in-EmailQuery-clause-meant c = λ uploads.
+    without EmailQuery c.args.method (record { mail = Err c.args.error; uploads = uploads }) (view c.args.arguments) c.refusal_or-in-EmailQuery.result c.in-EmailQuery.is
+    (once (λ r. r ≡ unless_refused (email_query_refused (view c.args.arguments)) c.args.error) c.refusal_or-in-EmailQuery.result
+    (c.refusal_or-in-EmailQuery.ensures.meant (email_query_refused (view c.args.arguments)) c.check_email_query.ensures))
+
+pub returns-in-EmailQueryChanges-clause-meant : goal.returns-in-EmailQueryChanges-clause-meant
+returns-in-EmailQueryChanges-clause-meant c = λ uploads.
+    without EmailQueryChanges c.args.method (record { mail = Err c.args.error; uploads = uploads }) (view c.args.arguments) c.refusal_or-in-EmailQueryChanges.result c.in-EmailQueryChanges.is
+    (once (λ r. r ≡ unless_refused (email_query_changes_refused (view c.args.arguments)) c.args.error) c.refusal_or-in-EmailQueryChanges.result
+    (c.refusal_or-in-EmailQueryChanges.ensures.meant (email_query_changes_refused (view c.args.arguments)) c.check_email_query_changes.ensures))
 
 pub returns-in-EmailParse-clause-meant : goal.returns-in-EmailParse-clause-meant
 returns-in-EmailParse-clause-meant c = λ uploads.

@@ -1,5 +1,5 @@
 use Rattle.std.proofs.Common.{◌≡◌, min, take}
-use Rattle.small_mail.specs.Limits as limits
+use Rattle.small_answers.specs.Limits as limits
 use Rattle.small_mail.proofs.flags.total_len.Given as goal
 
 abbrev pub invariant-loop-name : goal.invariant-loop-name

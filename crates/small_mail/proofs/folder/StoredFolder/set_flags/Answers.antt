@@ -3,7 +3,7 @@ use Rattle.honest_store.specs.StoreMail.{StoreMessage, StoreFolder}
 use Rattle.honest_store.specs.WellFormed.{AscendByUid}
 use Rattle.honest_store.specs.MessageChanges.{folder_flagged}
 use Rattle.small_mail.specs.Places.{IsMessageAt}
-use Rattle.small_mail.specs.Changes.{hierarchy_delimiter}
+use Rattle.small_answers.specs.Changes.{hierarchy_delimiter}
 use Rattle.small_mail.proofs.Messages.{flagged_folder}
 use Rattle.small_mail.proofs.folder.StoredFolder.set_flags.Goals as goal
 

@@ -1,0 +1,22 @@
+//! What the small store answers may be sent, as clauses of functions that do nothing.
+ghost use Rattle.std.specs.Prelude.{ℕ, List, All};
+ghost use Rattle.imap_syntax.specs.declared.command.Command.{Command};
+ghost use Rattle.honest_store.specs.Sessions.{StoreAnswer, StoreSession};
+ghost use Rattle.store_responses.specs.Sendable.{IsSendable, IsSendableTag};
+ghost use Rattle.small_answers.specs.Changes.{first_mail};
+ghost use Rattle.small_answers.specs.Answers.{AnswersCommand};
+ghost use Rattle.small_answers.specs.SmallMail.{IsSmallMail};
+ghost use Rattle.small_responses.specs.SendableMail.{HasSendableParts, IsSendableMail, sent_responses};
+
+/// Each response of the small store's answer has a spelling.
+pub fn answers_may_be_sent()
+    ensures { (before after : StoreSession) (c : Command) (a : StoreAnswer) (tag : List ℕ) → IsSmallMail before.mail → IsSendableMail before.mail
+        → HasSendableParts c → AnswersCommand before c a after → IsSendableTag tag → All IsSendable (sent_responses tag a) }
+{}
+
+/// The mail stays so that it can be told, whatever is answered.
+pub fn mail_may_be_told()
+    ensures first { IsSendableMail first_mail }
+    ensures answers { (before after : StoreSession) (c : Command) (a : StoreAnswer) → IsSendableMail before.mail
+        → HasSendableParts c → AnswersCommand before c a after → IsSendableMail after.mail }
+{}
