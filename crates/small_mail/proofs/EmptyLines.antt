@@ -2,12 +2,9 @@
 use Rattle.std.proofs.Common.{◌≡◌, ℕ, suc, ◌+◌, ◌<◌, ◌≤◌, Bool, true, false, List, [], ◌∷◌, ◌++◌, length, take, drop, get_or, refl, sym, ap, ◌∙◌, arith, ◌==◌, if◌then◌else◌, length-drop}
 use Rattle.std.specs.Prelude.{nat_lt, ◌&&◌}
 use Rattle.std.proofs.lemmas.List.{append_assoc, append-nil, drop-drop, drop-take, take-append-drop, take-take, take_more, get_or-drop}
+use Rattle.std.proofs.Math.Seq.{take-add}
 use Rattle.text_words.specs.LineEnds.{line_end_len}
 use Rattle.honest_store.specs.Headers.{begins_with_empty_line, empty_line, through_empty_line}
-
-take_add : (n m : ℕ) (xs : List ℕ) → take (n + m) xs ≡ take n xs ++ take m (drop n xs)
-take_add n m xs = sym (take-append-drop n (take (n + m) xs)) ∙ (ap (λ (ys : List ℕ). ys ++ drop n (take (n + m) xs)) (take-take n (n + m) xs (omega arith))
-    ∙ ap (λ (ys : List ℕ). take n xs ++ ys) (drop-take n m xs))
 
 module _ (octets rest more : List ℕ) (at first : ℕ) (rest_is : rest ≡ drop at octets) (parts : rest ≡ first ∷ more)
     (so_far : take at octets ++ through_empty_line rest ≡ through_empty_line octets) where
@@ -27,7 +24,7 @@ module _ (octets rest more : List ℕ) (at first : ℕ) (rest_is : rest ≡ drop
   pub line_found : (empty : ℕ) → first ≡ 10 → empty ≡ line_end_len more → begins_with_empty_line more ≡ true → take (at + 1 + empty) octets ≡ through_empty_line octets
   line_found empty lf empty_is begins =
       let cut : at + 1 + empty ≡ at + suc empty = omega arith in
-      ap (λ (n : ℕ). take n octets) cut ∙ (take_add at (suc empty) octets ∙ (ap (λ (t : List ℕ). take at octets ++ take (suc empty) t) left
+      ap (λ (n : ℕ). take n octets) cut ∙ (take-add at (suc empty) octets ∙ (ap (λ (t : List ℕ). take at octets ++ take (suc empty) t) left
       ∙ (ap (λ (n : ℕ). take at octets ++ first ∷ take n more) empty_is
       ∙ (ap (λ (b : Bool). take at octets ++ (if b then first ∷ empty_line more else first ∷ through_empty_line more)) (sym (both first lf))
       ∙ ahead))))

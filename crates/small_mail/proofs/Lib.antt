@@ -8,3 +8,4 @@ pub mod Folders
 pub mod Mails
 pub mod Moves
 pub mod Ways
+pub mod NewNames

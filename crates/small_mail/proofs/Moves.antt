@@ -158,16 +158,17 @@ pub same_read : (fs : List StoreFolder) (p : ℕ) (x y : StoreFolder) → p < le
 same_read fs p x y within x_is y_is = x_is ∙ (get_or_default fs p x y within ∙ sym y_is)
 
 -- the copy comes, the message doesn't end, and the copy is taken back
-pub moved_back : (fs : List StoreFolder) (source target : ℕ) (x y kept w back : StoreFolder) (copy : StoreMessage) → target < length fs → x ≡ get_or fs target x
-    → y ≡ get_or (set fs target (folder_with x copy (copy.uid + 1))) source y → kept ≡ y
-    → w ≡ get_or (set (set fs target (folder_with x copy (copy.uid + 1))) source kept) target w
-    → ((ms : List StoreMessage) (m : StoreMessage) → w.messages ≡ ms ++ m ∷ [] → back ≡ record w { highest = x.highest; uid_next = x.uid_next; messages = ms })
-    → set (set (set fs target (folder_with x copy (copy.uid + 1))) source kept) target back ≡ fs
-moved_back fs source target x y kept w back copy within x_is y_is kept_is w_is back_is =
-    let g : StoreFolder = folder_with x copy (copy.uid + 1) in
+pub moved_back : (fs : List StoreFolder) (source target : ℕ) (x g y kept w back : StoreFolder) (copy : StoreMessage) (uid_next highest : ℕ) → target < length fs
+    → x ≡ get_or fs target x → g ≡ folder_with x copy (copy.uid + 1) → y ≡ get_or (set fs target g) source y → kept ≡ y
+    → w ≡ get_or (set (set fs target g) source kept) target w
+    → ((ms : List StoreMessage) (m : StoreMessage) → w.messages ≡ ms ++ m ∷ [] → back ≡ record w { highest = highest; uid_next = uid_next; messages = ms })
+    → uid_next ≡ x.uid_next → highest ≡ x.highest → set (set (set fs target g) source kept) target back ≡ fs
+moved_back fs source target x g y kept w back copy uid_next highest within x_is g_is y_is kept_is w_is back_is uid_next_is highest_is =
     let still : set (set fs target g) source kept ≡ set fs target g = ap (λ (h : StoreFolder). set (set fs target g) source h) (kept_is ∙ y_is) ∙ set-get_or (set fs target g) source y in
-    let w_g : w ≡ g = w_is ∙ (ap (λ (gs : List StoreFolder). get_or gs target w) still ∙ get_or-set_same fs target g w within) in
+    let w_g : w ≡ folder_with x copy (copy.uid + 1) =
+        w_is ∙ (ap (λ (gs : List StoreFolder). get_or gs target w) still ∙ (get_or-set_same fs target g w within ∙ g_is)) in
     let back_x : back ≡ x = back_is x.messages copy (ap (λ (h : StoreFolder). h.messages) w_g)
-        ∙ ap (λ (h : StoreFolder). record h { highest = x.highest; uid_next = x.uid_next; messages = x.messages }) w_g in
+        ∙ (ap (λ (h : StoreFolder). record h { highest = highest; uid_next = uid_next; messages = x.messages }) w_g
+        ∙ (λ i. record x { highest = highest_is i; uid_next = uid_next_is i })) in
     ap (λ (gs : List StoreFolder). set gs target back) still ∙ (ap (λ (h : StoreFolder). set (set fs target g) target h) back_x
     ∙ (set-set fs target g x ∙ (ap (λ (h : StoreFolder). set fs target h) x_is ∙ set-get_or fs target x)))
