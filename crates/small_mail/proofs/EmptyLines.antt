@@ -1,10 +1,15 @@
 -- A walk over the lines of a message up to its first empty one.
-use Rattle.std.proofs.Common.{◌≡◌, ℕ, suc, ◌+◌, ◌<◌, ◌≤◌, Bool, true, false, List, [], ◌∷◌, ◌++◌, length, take, drop, get_or, refl, sym, ap, ◌∙◌, arith, ◌==◌, if◌then◌else◌, length-drop}
-use Rattle.std.specs.Prelude.{nat_lt, ◌&&◌}
-use Rattle.std.proofs.lemmas.List.{append_assoc, append-nil, drop-drop, drop-take, take-append-drop, take-take, take_more, get_or-drop}
+use Rattle.std.proofs.Common.{◌≡◌, ℕ, suc, ◌+◌, ◌-◌, ◌≤◌, Bool, true, false, List, [], ◌∷◌, ◌++◌, length, take, drop, get_or, sym, ap, ◌∙◌, arith, ◌==◌, if◌then◌else◌, length-drop}
+use Rattle.std.specs.Prelude.{◌&&◌}
+use Rattle.std.proofs.lemmas.List.{append_assoc, append-nil, drop-drop, take_all, take_more, get_or-drop}
 use Rattle.std.proofs.Math.Seq.{take-add}
 use Rattle.text_words.specs.LineEnds.{line_end_len}
 use Rattle.honest_store.specs.Headers.{begins_with_empty_line, empty_line, through_empty_line}
+
+-- a slice's first octet and what is behind it
+pub first_and_more : (rest : List ℕ) → 1 ≤ length rest → rest ≡ get_or rest 0 0 ∷ take (length rest - 1) (drop 1 rest)
+first_and_more [] some = absurd (omega (arith, some))
+first_and_more (c ∷ t) some = ap (λ (u : List ℕ). c ∷ u) (sym (take_all (length (c ∷ t) - 1) t (omega arith)))
 
 module _ (octets rest more : List ℕ) (at first : ℕ) (rest_is : rest ≡ drop at octets) (parts : rest ≡ first ∷ more)
     (so_far : take at octets ++ through_empty_line rest ≡ through_empty_line octets) where

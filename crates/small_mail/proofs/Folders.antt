@@ -1,5 +1,5 @@
 -- A folder by its place, by its number and by its name.
-use Rattle.std.proofs.Common.{◌≡◌, ◌≢◌, ℕ, true, false, not, List, map, filter, set, Some, None, find, refl, sym, ap, ◌∙◌, subst, eq-eqb, ne_eqb, ◌==◌, bytes_eq, if◌then◌else◌, AllPairs}
+use Rattle.std.proofs.Common.{◌≡◌, ◌≢◌, ℕ, false, not, List, map, filter, set, Some, None, find, refl, sym, ap, ◌∙◌, subst, eq-eqb, ne_eqb, ◌==◌, bytes_eq, if◌then◌else◌, AllPairs}
 use Rattle.std.specs.Prelude.{Bool}
 use Rattle.std.specs.List.{remove, slice_get}
 use Rattle.std.proofs.lemmas.Bool.{false_from_ne_true}

@@ -1,9 +1,9 @@
 -- The mail after a change of the folder at a place.
-use Rattle.std.proofs.Common.{◌≡◌, ℕ, ◌<◌, List, [], length, map, set, get_or, Some, refl, sym, ap, ◌∙◌, subst, ◌==◌, if◌then◌else◌}
+use Rattle.std.proofs.Common.{◌≡◌, ℕ, ◌<◌, List, [], length, map, set, get_or, Some, refl, ap, ◌∙◌, subst, ◌==◌, if◌then◌else◌}
 use Rattle.std.specs.List.{slice_get}
 use Rattle.std.proofs.lemmas.Option.{get_or_from_slice_get, slice_get_within, slice_get_read}
-use Rattle.honest_store.specs.StoreMail.{StoreMessage, StoreFolder, StoreMail, NameUse}
-use Rattle.honest_store.specs.WellFormed.{AscendByUid, IsStoreFolder, IsStoreMail}
+use Rattle.honest_store.specs.StoreMail.{StoreFolder, StoreMail, NameUse}
+use Rattle.honest_store.specs.WellFormed.{IsStoreFolder, IsStoreMail}
 use Rattle.honest_store.specs.MessageChanges.{with_store_folder}
 use Rattle.small_mail.proofs.Folders.{put_is}
 

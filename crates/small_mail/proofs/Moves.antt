@@ -1,5 +1,5 @@
 -- A message that ends at its place, and one that comes to another folder.
-use Rattle.std.proofs.Common.{◌≡◌, ◌≢◌, ℕ, ◌+◌, ◌<◌, max, Bool, true, false, not, List, [], ◌∷◌, ◌++◌, Option, Some, None, length, map, filter, set, get_or, refl, sym, ap, ◌∙◌, subst, arith, eq-eqb, eqb-true, ◌==◌, ◌≤◌, if◌then◌else◌, AllPairs}
+use Rattle.std.proofs.Common.{◌≡◌, ◌≢◌, ℕ, ◌+◌, ◌<◌, max, Bool, true, false, List, [], ◌∷◌, ◌++◌, Option, Some, None, length, map, set, get_or, refl, sym, ap, ◌∙◌, subst, arith, eq-eqb, eqb-true, ◌==◌, ◌≤◌, if◌then◌else◌, AllPairs}
 use Rattle.std.specs.List.{remove, slice_get}
 use Rattle.std.specs.Option.{option_map}
 use Rattle.std.proofs.lemmas.Bool.{false≢true}

@@ -1,7 +1,7 @@
 -- Names that folders get, one folder after another.
-use Rattle.std.proofs.Common.{◌≡◌, ℕ, ◌+◌, ◌<◌, List, [], ◌∷◌, ◌++◌, length, map, take, drop, set, get_or, refl, sym, ap, ◌∙◌, arith}
+use Rattle.std.proofs.Common.{◌≡◌, ℕ, ◌+◌, ◌<◌, List, [], ◌∷◌, ◌++◌, length, map, take, drop, set, get_or, sym, ap, ◌∙◌, arith}
 use Rattle.std.specs.List.{flat_map}
-use Rattle.std.proofs.lemmas.List.{drop-drop, drop_more, flat_map_more, get_or-drop, get_or-map, get_or_at, length-map, length-take, map_more, take_more}
+use Rattle.std.proofs.lemmas.List.{drop-drop, drop_more, flat_map_more, get_or-map, get_or_at, length-map, length-take, map_more, take_more}
 use Rattle.std.proofs.lemmas.List.Edits.{map_over_more}
 use Rattle.honest_store.specs.StoreMail.{StoreFolder, NameUse}
 

@@ -1,5 +1,5 @@
 -- Lists of which one element alone passes a test, by its place.
-use Rattle.std.proofs.Common.{◌≡◌, ℕ, zero, suc, ◌<◌, Bool, true, false, not, cond, List, [], ◌∷◌, length, map, filter, find, set, get_or, Some, refl, sym, ap, subst, arith, if◌then◌else◌, All, AllPairs}
+use Rattle.std.proofs.Common.{◌≡◌, ℕ, zero, suc, ◌<◌, Bool, true, false, not, cond, List, [], ◌∷◌, length, map, filter, set, get_or, refl, sym, ap, subst, arith, if◌then◌else◌, AllPairs}
 use Rattle.std.specs.List.{AllByRecursion, remove}
 use Rattle.std.proofs.lemmas.List.Elements.{recursion_from_All}
 

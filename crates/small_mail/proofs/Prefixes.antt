@@ -1,5 +1,5 @@
 -- What follows a text in another.
-use Rattle.std.proofs.Common.{◌≡◌, ℕ, Bool, true, false, List, [], ◌∷◌, Option, Some, None, length, take, drop, bytes_eq, refl, sym, ap, ◌∙◌, eqb-true, eq-eqb, ◌==◌, if◌then◌else◌}
+use Rattle.std.proofs.Common.{◌≡◌, ℕ, Bool, true, false, List, [], ◌∷◌, Some, None, length, take, drop, bytes_eq, refl, sym, ap, ◌∙◌, eqb-true, eq-eqb, ◌==◌, if◌then◌else◌}
 use Rattle.std.specs.Prelude.{◌&&◌}
 use Rattle.std.proofs.lemmas.Bool.{false_from_ne_true, false≢true}
 use Rattle.honest_store.specs.FolderChanges.{text_after}

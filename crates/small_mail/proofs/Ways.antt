@@ -1,11 +1,11 @@
 -- The way of a message from one folder of the mail to another: its numbers fit, and the mail is the one that is due.
-use Rattle.std.proofs.Common.{◌≡◌, ◌≢◌, ℕ, zero, suc, ◌+◌, ◌<◌, ◌≤◌, Bool, true, false, List, [], ◌∷◌, ◌++◌, Some, length, map, set, get_or, refl, sym, ap, ◌∙◌, subst, arith, eq-eqb, eqb-true, ◌==◌, if◌then◌else◌}
+use Rattle.std.proofs.Common.{◌≡◌, ◌≢◌, ℕ, zero, suc, ◌+◌, ◌<◌, Bool, true, false, List, [], ◌∷◌, Some, length, map, set, get_or, refl, sym, ap, ◌∙◌, arith, eq-eqb, eqb-true, ◌==◌, if◌then◌else◌}
 use Rattle.std.proofs.lemmas.List.{length-map}
 use Rattle.std.specs.List.{slice_get}
 use Rattle.std.proofs.lemmas.Bool.{false≢true, leb-false, or_parts}
 use Rattle.std.specs.Prelude.{nat_le}
 use Rattle.std.proofs.lemmas.List.{get_or-set_same, get_or-set_other, length_push}
-use Rattle.std.proofs.lemmas.Option.{get_or_from_slice_get, slice_get_within, slice_get-get_or}
+use Rattle.std.proofs.lemmas.Option.{get_or_from_slice_get, slice_get_within}
 use Rattle.honest_store.specs.StoreMail.{StoreMessage, StoreFolder, StoreMail, NameUse}
 use Rattle.honest_store.specs.WellFormed.{AscendByUid, IsStoreMail}
 use Rattle.honest_store.specs.MessageChanges.{folder_with, folder_without}

@@ -1,4 +1,4 @@
-use Rattle.std.proofs.Common.{◌≡◌, ◌+◌, ℕ, Some, set, subst, sym, true}
+use Rattle.std.proofs.Common.{◌≡◌, ◌+◌, Some, set, subst, sym, true}
 use Rattle.honest_store.specs.StoreMail.{StoreMessage, StoreFolder}
 use Rattle.honest_store.specs.WellFormed.{AscendByUid}
 use Rattle.honest_store.specs.MessageChanges.{folder_flagged}

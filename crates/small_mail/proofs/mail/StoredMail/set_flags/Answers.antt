@@ -1,6 +1,6 @@
-use Rattle.std.proofs.Common.{◌∙◌, ◌+◌, List, Some, ap, refl}
+use Rattle.std.proofs.Common.{◌∙◌, ◌+◌, ap, refl}
 use Rattle.std.specs.List.{slice_get}
-use Rattle.honest_store.specs.StoreMail.{StoreFolder, StoreMessage}
+use Rattle.honest_store.specs.StoreMail.{StoreFolder}
 use Rattle.honest_store.specs.MessageChanges.{folder_flagged}
 use Rattle.small_mail.proofs.Mails.{folder_at, read_at, read_is, changed_is}
 use Rattle.small_mail.proofs.mail.StoredMail.set_flags.Goals as goal
