@@ -1,7 +1,7 @@
 -- A walk over the lines of a message up to its first empty one.
 use Rattle.std.proofs.Common.{◌≡◌, ℕ, suc, ◌+◌, ◌-◌, ◌≤◌, Bool, true, false, List, [], ◌∷◌, ◌++◌, length, take, drop, get_or, sym, ap, ◌∙◌, arith, ◌==◌, if◌then◌else◌, length-drop}
 use Rattle.std.specs.Prelude.{◌&&◌}
-use Rattle.std.proofs.lemmas.List.{append_assoc, append-nil, drop-drop, take_all, take_more, get_or-drop}
+use Rattle.std.proofs.lemmas.List.{append_assoc, drop-drop, take_all, take_more, get_or-drop}
 use Rattle.std.proofs.Math.Seq.{take-add}
 use Rattle.text_words.specs.LineEnds.{line_end_len}
 use Rattle.honest_store.specs.Headers.{begins_with_empty_line, empty_line, through_empty_line}
@@ -47,7 +47,3 @@ module _ (octets rest more : List ℕ) (at first : ℕ) (rest_is : rest ≡ drop
       ∙ ap (λ (c : ℕ). take at octets ++ c ∷ []) here)
       ∙ (append_assoc (take at octets) (first ∷ []) (through_empty_line more)
       ∙ (ap (λ (b : Bool). take at octets ++ (if b then first ∷ empty_line more else first ∷ through_empty_line more)) (sym fails) ∙ ahead))
-
--- the end comes first
-pub line_nowhere : (octets : List ℕ) (at : ℕ) → take at octets ++ through_empty_line [] ≡ through_empty_line octets → take at octets ≡ through_empty_line octets
-line_nowhere octets at so_far = sym (append-nil (take at octets)) ∙ so_far

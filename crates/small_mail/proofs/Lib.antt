@@ -8,4 +8,4 @@ pub mod Folders
 pub mod Mails
 pub mod Moves
 pub mod Ways
-pub mod NewNames
+pub mod NamesGiven

@@ -17,9 +17,6 @@ use Rattle.small_mail.proofs.Moves.{ended, put, moved_between, moved_within, num
 
 -- ---- numbers that aren't at their end
 
-pub change_room : (f : StoreFolder) → is_last_change f ≡ false → f.highest < 9223372036854775807
-change_room f fits = leb-false 9223372036854775807 f.highest fits
-
 pub message_room : (f : StoreFolder) → is_last_message f ≡ false → (f.highest < 9223372036854775807) × (f.uid_next < 4294967295)
 message_room f fits =
     let both = or_parts (is_last_change f) (nat_le 4294967295 f.uid_next) fits in

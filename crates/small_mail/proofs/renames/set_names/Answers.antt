@@ -1,6 +1,6 @@
 use Rattle.std.proofs.Common.{◌∙◌, ◌<◌, arith, length, ap, sym}
 use Rattle.honest_store.specs.StoreMail.{StoreFolder}
-use Rattle.small_mail.proofs.NewNames.{name_given, name_left, names_left}
+use Rattle.small_mail.proofs.NamesGiven.{name_given, name_left, names_left}
 use Rattle.small_mail.proofs.renames.set_names.Goals as goal
 use Rattle.small_mail.proofs.renames.set_names.Goals.{in-Some, in_default}
 

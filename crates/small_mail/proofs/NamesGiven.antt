@@ -1,24 +1,8 @@
--- Names that folders get, one folder after another.
+-- A loop that gives each folder the name at its place.
 use Rattle.std.proofs.Common.{◌≡◌, ℕ, ◌+◌, ◌<◌, List, [], ◌∷◌, ◌++◌, length, map, take, drop, set, get_or, sym, ap, ◌∙◌, arith}
-use Rattle.std.specs.List.{flat_map}
-use Rattle.std.proofs.lemmas.List.{drop-drop, drop_more, flat_map_more, get_or-map, get_or_at, length-map, length-take, map_more, take_more}
+use Rattle.std.proofs.lemmas.List.{drop-drop, drop_more, get_or-map, get_or_at, length-map, length-take}
 use Rattle.std.proofs.lemmas.List.Edits.{map_over_more}
-use Rattle.honest_store.specs.StoreMail.{StoreFolder, NameUse}
-
--- ---- what is gathered of each
-
-pub names_more : (f : StoreFolder → List ℕ) (fs : List StoreFolder) (names more : List (List ℕ)) (name : List ℕ) (i : ℕ) (x : StoreFolder) → i < length fs
-    → x ≡ get_or fs i x → names ≡ map f (take i fs) → name ≡ f x → more ≡ names ++ name ∷ [] → more ≡ map f (take (i + 1) fs)
-names_more f fs names more name i x l is so_far name_is added =
-    added ∙ (ap (λ (ns : List (List ℕ)). ns ++ name ∷ []) so_far ∙ (ap (λ (n : List ℕ). map f (take i fs) ++ n ∷ []) (name_is ∙ ap f is) ∙ sym (map_more f fs i x l)))
-
-pub uses_more : (f : StoreFolder → List NameUse) (fs : List StoreFolder) (uses more : List NameUse) (i : ℕ) (x : StoreFolder) → i < length fs
-    → x ≡ get_or fs i x → uses ≡ flat_map f (take i fs) → more ≡ uses ++ f x → more ≡ flat_map f (take (i + 1) fs)
-uses_more f fs uses more i x l is so_far added =
-    added ∙ (ap (λ (us : List NameUse). us ++ f x) so_far ∙ (flat_map_more f [] (take i fs) x
-    ∙ sym (ap (flat_map f) (take_more fs i x l ∙ ap (λ (y : StoreFolder). take i fs ++ y ∷ []) (sym is)))))
-
--- ---- a loop that gives each folder the name at its place
+use Rattle.honest_store.specs.StoreMail.{StoreFolder}
 
 module _ (name_of : StoreFolder → List ℕ) (fs folders : List StoreFolder) (names : List (List ℕ)) (i : ℕ) (within : i < length fs) where
   named : StoreFolder → StoreFolder
