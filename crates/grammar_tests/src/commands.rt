@@ -111,7 +111,7 @@ fn long_of(alloc: Global, word: &str, text: &str) -> Result<Option<Command>, All
 }
 
 /// The command that a text asks.
-fn command_of(alloc: Global, text: &str) -> Result<Option<Command>, AllocError> {
+pub(crate) fn command_of(alloc: Global, text: &str) -> Result<Option<Command>, AllocError> {
     let (word, rest) = first_word(text);
     if let Some(command) = short_of(word, rest) {
         return Ok(Some(command));
@@ -122,22 +122,25 @@ fn command_of(alloc: Global, text: &str) -> Result<Option<Command>, AllocError> 
     long_of(alloc, word, rest)
 }
 
-fn put_pieces(
+/// Adds the pieces of the command under the tag of this number, with `|` before each.
+pub(crate) fn put_text(
     alloc: Global,
     command: &Command,
     tag: u64,
     out: &mut String,
 ) -> Result<(), AllocError> {
     let pieces = write_command(alloc, command, tag)?;
-    put_joined(out, &pieces)?;
-    out.push('\n')
+    put_joined(out, &pieces)
 }
 
 /// Adds the pieces in which a command is written, with `|` before each.
 pub(crate) fn put_command(alloc: Global, text: &str, out: &mut String) -> Result<(), AllocError> {
     let (tag, text) = first_number(text);
     match command_of(alloc, text)? {
-        Some(command) => put_pieces(alloc, &command, tag, out),
+        Some(command) => {
+            put_text(alloc, &command, tag, out)?;
+            out.push('\n')
+        }
         None => writeln!(out, "no command"),
     }
 }

@@ -1,6 +1,6 @@
-//! The store's language: reads rows from standard input, octets of a store and commands, and prints where responses end, what
-//! they say, and how responses and commands are written. The legend stands at the top of the file `stdin`, and what has to come of its rows
-//! in the file `stdout`.
+//! The store's language: reads rows from standard input, octets of a store, responses and commands, and prints where responses end,
+//! what they say, how they are written, and how commands are written and read. The legend stands at the top of the file `stdin`, and
+//! what has to come of its rows in the file `stdout`.
 #![tactic(auto)]
 
 // Responses.
@@ -11,6 +11,7 @@ mod written;
 
 // Commands.
 mod commands;
+mod requests;
 
 use std::alloc::{AllocError, Global};
 use std::io;
@@ -27,6 +28,8 @@ fn take(alloc: Global, line: &str, out: &mut String) -> Result<(), AllocError> {
         "long" => responses::put_long(alloc, text, out),
         "told" => written::put_written(alloc, text, out),
         "command" => commands::put_command(alloc, text, out),
+        "asks" => requests::put_asked(alloc, text, out),
+        "back" => requests::put_back(alloc, text, out),
         _ => responses::put_row(alloc, word, text, out),
     }
 }

@@ -32,6 +32,7 @@ use Rattle.small_answers.proofs.Changed.{flagged_small, message_is, put_found, w
 use Rattle.small_answers.proofs.Replies.{on, sees}
 use Rattle.small_responses.specs.SendableMail.{HasSendableParts, IsSendableFolder, IsSendableMail, sent_responses}
 use Rattle.small_responses.proofs.FlagNames.{flags_after_names}
+use Rattle.small_responses.proofs.SeenFlag.{beside_few}
 use Rattle.small_responses.proofs.TextsKept.{flagged_kept, message_told, without_kept}
 use Rattle.small_responses.proofs.MailTold.{within}
 use Rattle.small_responses.proofs.Sent.{IsShortCode, IsTellable, absent_short, append_short, body_sent, change_sent, closed_short, coded_sent, copy_short, each_tellable}
@@ -171,7 +172,7 @@ module _ (mail : StoreMail) (n uid : ℕ) (small : IsSmallMail mail) (told : IsS
         let after_small : IsSmallMail after =
         flagged_small mail n uid f m small there held flags (room e) (flags_after_kept add asked m.flags (message_is mail n uid f m small there held).flags) in
         let after_told : IsSendableMail after =
-        flagged_kept mail f m.uid flags told f_told (flags_after_names add asked m.flags names (message_told f uid m f_told held).flags) few in
+        flagged_kept mail f m.uid flags told f_told (flags_after_names add asked m.flags names (message_told f uid m f_told held).flags) (beside_few flags few) in
         sent_with (record { mail = after; selected = Some n }) (told_change g.messages m.uid)
         (numbered after after_small after_told (λ h. AllByRecursion IsSendable (told_change h.messages m.uid))
         (λ h is h_small h_told. change_told h is h_small h_told m.uid) n g

@@ -156,7 +156,7 @@ count_bound : (word : List ℕ) (o : Option ℕ) → length word ≤ 11 → IfSo
 count_bound word None few h = omega arith
 count_bound word (Some n) few h = omega (arith, length-append word (32 ∷ decimal n), number_length n h, few)
 
-flags_bound : (o : Option (List (List ℕ))) → IfSome o (λ ns. AllNames ns × (total_length ns ≤ text_limit)) → with_spaces (flags_text o) ≤ 2000020
+flags_bound : (o : Option (List (List ℕ))) → IfSome o (λ ns. AllNames ns × (total_length ns ≤ text_limit + 5)) → with_spaces (flags_text o) ≤ 2000020
 flags_bound None h = omega arith
 flags_bound (Some ns) h = omega (arith, length-append (joined ns) (41 ∷ []), joined_length ns, names_length ns h.0, h.1)
 
@@ -184,7 +184,7 @@ octets_bound word (Some s) few h =
 -- what the items of a FETCH are within
 pub record AreFew (items : FetchItems) : Type 0 where
   pub uid : IfSome items.uid (λ n. n < 2 ^ 63)
-  pub flags : IfSome items.flags (λ ns. AllNames ns × (total_length ns ≤ text_limit))
+  pub flags : IfSome items.flags (λ ns. AllNames ns × (total_length ns ≤ text_limit + 5))
   pub modseq : IfSome items.modseq (λ n. n < 2 ^ 63)
   pub size : IfSome items.size (λ n. n < 2 ^ 63)
   pub header : IfSome items.header (λ s. length s ≤ 50000000)

@@ -23,6 +23,7 @@ use Rattle.small_answers.proofs.FoldersFound.{called_is, numbered_is}
 use Rattle.small_answers.proofs.Replies.{on, sees}
 use Rattle.small_responses.specs.SendableMail.{HasSendableParts, IsSendableMessage, IsSendableFolder, IsSendableMail}
 use Rattle.small_responses.proofs.FlagNames.{flags_after_names, kept_are_names}
+use Rattle.small_responses.proofs.SeenFlag.{beside_few}
 use Rattle.small_responses.proofs.TextsKept.{created_kept, deleted_kept, flagged_kept, message_told, renamed_kept, subscribed_kept, with_kept, without_kept}
 
 -- of a reply: the mail after it can be told
@@ -60,9 +61,9 @@ module _ (mail : StoreMail) (n uid : ℕ) (add : Bool) (asked : List (List ℕ))
   stored_if f m there held false =
       let f_is : IsSendableFolder f = numbered_is IsSendableFolder mail n f told there in
       flagged_kept mail f m.uid (flags_after add asked m.flags) told f_is (flags_after_names add asked m.flags names (message_told f uid m f_is held).flags)
-      (within (total_length (flags_after add asked m.flags))
+      (beside_few (flags_after add asked m.flags) (within (total_length (flags_after add asked m.flags))
       (λ above. free (FlagsTooLong (subst (λ (o : Option StoreMessage). text_limit < total_length (flags_of_store add asked o))
-      (sym (sees mail n uid f (Some m) there held)) above))))
+      (sym (sees mail n uid f (Some m) there held)) above)))))
 
   stored_at : (f : StoreFolder) → folder_numbered mail.folders n ≡ Some f → (o : Option StoreMessage) → message_numbered f.messages uid ≡ o
       → IsTold (store_reply (on mail n) f add asked o)
@@ -160,7 +161,7 @@ told_after s (command.Move uid name) told parts free = moved_by s.mail s.selecte
 told_after s (command.Expunge uid) told parts free = expunged_by s.mail s.selected uid told
 told_after s (command.Append name flags date message) told parts free =
     appended_to s name (sent_message flags date message 0 0) (folder_called s.mail.folders name) refl told
-    (record { flags = kept_are_names flags parts.0; few = within (total_length (kept flags)) (λ above. free (FlagsTooLong above)); octets = parts.1 })
+    (record { flags = kept_are_names flags parts.0; few = beside_few (kept flags) (within (total_length (kept flags)) (λ above. free (FlagsTooLong above))); octets = parts.1 })
 told_after s (command.Create name) told parts free = created_kept s.mail (folder_name name) (next_validity s.mail) told (names_within s (command.Create name) free).0
 told_after s (command.Delete name) told parts free = deleted_kept s.mail (folder_name name) told
 told_after s (command.Rename from to) told parts free = renamed_kept s.mail (folder_name from) (folder_name to) told (names_within s (command.Rename from to) free).1

@@ -32,6 +32,7 @@ use Rattle.small_answers.proofs.Elements.{each_both}
 use Rattle.small_answers.proofs.Truths.{above}
 use Rattle.small_responses.specs.SendableMail.{AreOctets, IsSendableFolder, IsSendableMessage}
 use Rattle.small_responses.proofs.FlagNames.{kept_are_names}
+use Rattle.small_responses.proofs.SeenFlag.{few_with_seen}
 use Rattle.small_responses.proofs.Lengths.{AreFew, escaped_length, items_bound, joined_length, number_length}
 
 -- ---- messages
@@ -40,7 +41,7 @@ use Rattle.small_responses.proofs.Lengths.{AreFew, escaped_length, items_bound, 
 pub record IsTellable (m : StoreMessage) : Type 0 where
   pub uid : IsNonZeroNumber m.uid
   pub flags : AreSendableNames m.flags
-  pub few : total_length m.flags ≤ text_limit
+  pub few : total_length m.flags ≤ text_limit + 5
   pub modseq : m.modseq < 2 ^ 63
   pub date : nearest_date m.date ≡ m.date
   pub size : m.size < 2 ^ 63
@@ -58,7 +59,7 @@ module _ (f : StoreFolder) (is : IsStoreFolder f) (small : IsSmallFolder f) (tol
       record {
         uid = (omega (arith, some), omega (arith, below, next));
         flags = record { names = more.0.flags; as_kept = m_is.flags };
-        few = more.0.few;
+        few = few_with_seen m.flags m_is.flags more.0.few;
         modseq = omega (arith, highest, fits);
         date = m_is.date;
         size = m_is.size;

@@ -15,7 +15,7 @@ use Rattle.small_answers.proofs.Elements.{each_both, each_mapped, each_parted, e
 use Rattle.small_answers.proofs.Searches.{found_is}
 use Rattle.small_answers.proofs.MailKept.{each_put, put}
 use Rattle.small_answers.proofs.FoldersKept.{each_flagged}
-use Rattle.small_responses.specs.SendableMail.{IsSendableMessage, IsSendableFolder, IsSendableMail}
+use Rattle.small_responses.specs.SendableMail.{beside_seen, IsSendableMessage, IsSendableFolder, IsSendableMail}
 
 -- ---- messages
 
@@ -43,7 +43,7 @@ without_is_told f u is = record { name = is.name; attributes = is.attributes; me
 pub without_kept : (mail : StoreMail) (f : StoreFolder) (u : ℕ) → IsSendableMail mail → IsSendableFolder f → IsSendableMail (mail_without mail (Some f) u)
 without_kept mail f u told is = put_kept mail (folder_without f u (next_modseq f)) told (without_is_told f u is)
 
-pub flagged_is_told : (f : StoreFolder) (u : ℕ) (flags : List (List ℕ)) → IsSendableFolder f → AllNames flags → total_length flags ≤ text_limit
+pub flagged_is_told : (f : StoreFolder) (u : ℕ) (flags : List (List ℕ)) → IsSendableFolder f → AllNames flags → total_length (beside_seen flags) ≤ text_limit
     → IsSendableFolder (folder_flagged f u flags (next_modseq f))
 flagged_is_told f u flags is names few = record {
   name = is.name;
@@ -55,7 +55,7 @@ flagged_is_told f u flags is names few = record {
 }
 
 pub flagged_kept : (mail : StoreMail) (f : StoreFolder) (u : ℕ) (flags : List (List ℕ)) → IsSendableMail mail → IsSendableFolder f → AllNames flags
-    → total_length flags ≤ text_limit
+    → total_length (beside_seen flags) ≤ text_limit
     → IsSendableMail (mail_flagged mail (Some f) u flags)
 flagged_kept mail f u flags told is names few = put_kept mail (folder_flagged f u flags (next_modseq f)) told (flagged_is_told f u flags is names few)
 

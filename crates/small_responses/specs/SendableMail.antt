@@ -1,5 +1,5 @@
 -- What must hold of the small store's mail, so that each of its responses has a spelling (RFC 9051 section 9).
-use Rattle.std.specs.Prelude.{◌≡◌, ◌⊎◌, ℕ, ◌<◌, ◌≤◌, [], ◌∷◌, ◌++◌, List, length, codes, All}
+use Rattle.std.specs.Prelude.{◌≡◌, ◌⊎◌, ℕ, ◌<◌, ◌≤◌, [], ◌∷◌, ◌++◌, List, length, codes, All, not, filter, bytes_eq}
 use Rattle.imap_syntax.specs.declared.command.Command.{Command}
 use Rattle.imap_syntax.specs.declared.command.Command.TheVariants as command
 use Rattle.imap_syntax.specs.declared.response.Response.{Response}
@@ -8,13 +8,18 @@ use Rattle.imap_syntax.specs.Items.{AllNames}
 use Rattle.honest_store.specs.StoreMail.{StoreMessage, StoreFolder, StoreMail}
 use Rattle.honest_store.specs.Sessions.{StoreAnswer}
 use Rattle.small_answers.specs.Limits.{text_limit, total_length}
+use Rattle.small_answers.specs.OwnersCalls.{seen_flag}
 
 abbrev pub AreOctets : List ℕ → Type 0
 AreOctets t = All (λ c. c < 256) t
 
+-- the flags but `\seen`, which the owner may set beside flags that are at their limit
+abbrev pub beside_seen : List (List ℕ) → List (List ℕ)
+beside_seen flags = filter (λ f. not (bytes_eq f seen_flag)) flags
+
 pub record IsSendableMessage (m : StoreMessage) : Type 0 where
   pub flags : AllNames m.flags
-  pub few : total_length m.flags ≤ text_limit
+  pub few : total_length (beside_seen m.flags) ≤ text_limit
   pub octets : AreOctets m.octets
 
 -- it is subscribed or not, and has no other attribute

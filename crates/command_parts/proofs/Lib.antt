@@ -1,0 +1,16 @@
+pub mod Loops
+pub mod Readers
+pub mod Chains
+pub mod Lexing
+pub mod Literals
+pub mod Choosing
+pub mod Stepping
+pub mod TagReading
+pub mod FlagReading
+pub mod NumeralReading
+pub mod NameReading
+pub mod Branches
+pub mod LiteralReading
+pub mod Parts
+pub mod DateReading
+pub mod Heads

@@ -1,0 +1,15 @@
+pub mod FolderCommands
+pub mod MessageCommands
+pub mod CommandReading
+pub mod RequestHeads
+pub mod Answering
+pub mod FolderSpelling
+pub mod SelectSpelling
+pub mod MessageSpelling
+pub mod FetchSpelling
+pub mod Spelling
+pub mod Pieces
+pub mod DateWriting
+pub mod FlagWriting
+pub mod Writing
+pub mod Asking
