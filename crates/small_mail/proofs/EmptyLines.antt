@@ -42,7 +42,7 @@ module _ (octets rest more : List ℕ) (at first : ℕ) (rest_is : rest ≡ drop
   none_yet fails =
       let plus : at ≡ at + 0 = omega arith in
       let here : get_or octets at first ≡ first =
-          ap (λ (n : ℕ). get_or octets n first) plus ∙ (sym (get_or-drop at octets 0 first) ∙ ap (λ (t : List ℕ). get_or t 0 first) left) in
+      ap (λ (n : ℕ). get_or octets n first) plus ∙ (sym (get_or-drop at octets 0 first) ∙ ap (λ (t : List ℕ). get_or t 0 first) left) in
       ap (λ (t : List ℕ). t ++ through_empty_line more) (take_more octets at first (omega (arith, one_more))
       ∙ ap (λ (c : ℕ). take at octets ++ c ∷ []) here)
       ∙ (append_assoc (take at octets) (first ∷ []) (through_empty_line more)

@@ -52,4 +52,5 @@ module _ (fs : List StoreFolder) (p : ℕ) (f : StoreFolder) (there : slice_get 
 
 pub subscribed_none : (fs : List StoreFolder) (name : List ℕ) (on : Bool) → find (λ (x : StoreFolder). bytes_eq x.name name) fs ≡ None → map (with_subscription name on) fs ≡ fs
 subscribed_none fs name on none =
-    map_none (λ (x : StoreFolder). bytes_eq x.name name) (λ x. record x { attributes = subscribed on x.attributes }) fs (not_found (λ (x : StoreFolder). bytes_eq x.name name) fs none)
+    map_none (λ (x : StoreFolder). bytes_eq x.name name) (λ x. record x { attributes = subscribed on x.attributes }) fs
+    (not_found (λ (x : StoreFolder). bytes_eq x.name name) fs none)

@@ -46,6 +46,6 @@ pub flagged_folder : (f : StoreFolder) (at : ℕ) (x z m : StoreMessage) (flags 
 flagged_folder f at x z m flags ascend x_is z_is there =
     let x_m : x ≡ m = x_is ∙ get_or_from_slice_get f.messages at m x there in
     let changed : set f.messages at z ≡ flagged_messages f.messages m.uid flags (f.highest + 1) =
-        ap (λ (y : StoreMessage). set f.messages at y) (z_is ∙ ap (λ (y : StoreMessage). with_flags_at y flags (f.highest + 1)) x_m)
-        ∙ flagged_is f.messages at m ascend there flags (f.highest + 1) in
+    ap (λ (y : StoreMessage). set f.messages at y) (z_is ∙ ap (λ (y : StoreMessage). with_flags_at y flags (f.highest + 1)) x_m)
+    ∙ flagged_is f.messages at m ascend there flags (f.highest + 1) in
     ap (λ (ms : List StoreMessage). record f { highest = f.highest + 1; messages = ms }) changed

@@ -1,5 +1,6 @@
 -- A message that ends at its place, and one that comes to another folder.
-use Rattle.std.proofs.Common.{◌≡◌, ◌≢◌, ℕ, ◌+◌, ◌<◌, max, Bool, true, false, List, [], ◌∷◌, ◌++◌, Option, Some, None, length, map, set, get_or, refl, sym, ap, ◌∙◌, subst, arith, eq-eqb, eqb-true, ◌==◌, ◌≤◌, if◌then◌else◌, AllPairs}
+use Rattle.std.proofs.Common.{◌≡◌, ◌≢◌, ℕ, ◌+◌, ◌<◌, max, Bool, true, false, List, [], ◌∷◌, ◌++◌, Option, Some, None}
+use Rattle.std.proofs.Common.{length, map, set, get_or, refl, sym, ap, ◌∙◌, subst, arith, eq-eqb, eqb-true, ◌==◌, ◌≤◌, if◌then◌else◌, AllPairs}
 use Rattle.std.specs.List.{remove, slice_get}
 use Rattle.std.specs.Option.{option_map}
 use Rattle.std.proofs.lemmas.Bool.{false≢true}
@@ -86,11 +87,11 @@ module _ (fs : List StoreFolder) (source at target : ℕ) (f t : StoreFolder) (m
       let x_t : x ≡ t = x_is ∙ (sym (get_or-set_other fs source target gone x (λ e. other (sym e))) ∙ at_target x) in
       let y_f : y ≡ f = y_is ∙ (get_or-set_other fs target source (folder_with x copy (copy.uid + 1)) y other ∙ get_or_from_slice_get fs source f y from) in
       let z_gone : z ≡ gone = z_is m (ap (λ (g : StoreFolder). slice_get g.messages at) y_f ∙ there)
-          ∙ (ap (λ (g : StoreFolder). ended g at m.uid (f.highest + 1)) y_f ∙ ended_is f at m ascend there) in
+      ∙ (ap (λ (g : StoreFolder). ended g at m.uid (f.highest + 1)) y_f ∙ ended_is f at m ascend there) in
       let copied : copy ≡ record m { uid = t.uid_next; modseq = t.highest + 1 } =
-          copy_is ∙ ap (λ (g : StoreFolder). record m { uid = g.uid_next; modseq = g.highest + 1 }) x_t in
+      copy_is ∙ ap (λ (g : StoreFolder). record m { uid = g.uid_next; modseq = g.highest + 1 }) x_t in
       let come_is : folder_with x copy (copy.uid + 1) ≡ come =
-          ap (λ (g : StoreFolder). folder_with g copy (copy.uid + 1)) x_t ∙ ap (λ (c : StoreMessage). folder_with t c (c.uid + 1)) copied in
+      ap (λ (g : StoreFolder). folder_with g copy (copy.uid + 1)) x_t ∙ ap (λ (c : StoreMessage). folder_with t c (c.uid + 1)) copied in
       ap (λ (g : StoreFolder). set (set fs target g) source z) come_is ∙ (ap (λ (g : StoreFolder). set (set fs target come) source g) z_gone
       ∙ (set_comm fs target source come gone (λ e. other (sym e)) ∙ sym due_is))
 
@@ -101,8 +102,8 @@ module _ (fs : List StoreFolder) (source at target : ℕ) (f t : StoreFolder) (m
   ended_put =
       let top : max (f.highest + 1 + 1) (f.highest + 1) ≡ f.highest + 1 + 1 = omega arith in
       let left : remove (f.messages ++ copied ∷ []) at ≡ gone.messages ++ copied ∷ [] =
-          remove-append_left f.messages (copied ∷ []) at (slice_get_within f.messages at m there)
-          ∙ ap (λ (ms : List StoreMessage). ms ++ copied ∷ []) (removed_is f.messages at m ascend there) in
+      remove-append_left f.messages (copied ∷ []) at (slice_get_within f.messages at m there)
+      ∙ ap (λ (ms : List StoreMessage). ms ++ copied ∷ []) (removed_is f.messages at m ascend there) in
       λ i. record f {
         highest = top i;
         uid_next = f.uid_next + 1;
@@ -121,17 +122,17 @@ module _ (fs : List StoreFolder) (source at target : ℕ) (f t : StoreFolder) (m
       let x_f : x ≡ f = x_is ∙ (ap (λ (n : ℕ). get_or fs n x) (sym same) ∙ get_or_from_slice_get fs source f x from) in
       let plus : f.highest + 2 ≡ f.highest + 1 + 1 = omega arith in
       let copy_f : copy ≡ copied = copy_is ∙ (ap (λ (g : StoreFolder). record m { uid = g.uid_next; modseq = g.highest + 2 }) x_f
-          ∙ ap (λ (q : ℕ). record m { uid = f.uid_next; modseq = q }) plus) in
+      ∙ ap (λ (q : ℕ). record m { uid = f.uid_next; modseq = q }) plus) in
       let with_copy : folder_with x copy (copy.uid + 1) ≡ folder_with f copied (f.uid_next + 1) =
-          ap (λ (g : StoreFolder). folder_with g copy (copy.uid + 1)) x_f ∙ ap (λ (c : StoreMessage). folder_with f c (c.uid + 1)) copy_f in
+      ap (λ (g : StoreFolder). folder_with g copy (copy.uid + 1)) x_f ∙ ap (λ (c : StoreMessage). folder_with f c (c.uid + 1)) copy_f in
       let y_g : y ≡ folder_with f copied (f.uid_next + 1) = y_is ∙ (ap (λ (n : ℕ). get_or (set fs n (folder_with x copy (copy.uid + 1))) source y) (sym same)
-          ∙ (get_or-set_same fs source (folder_with x copy (copy.uid + 1)) y within ∙ with_copy)) in
+      ∙ (get_or-set_same fs source (folder_with x copy (copy.uid + 1)) y within ∙ with_copy)) in
       let held : slice_get (f.messages ++ copied ∷ []) at ≡ Some m = in_front f.messages at m copied there in
       let z_g : z ≡ folder_with gone copied (f.uid_next + 1) = z_is m (ap (λ (h : StoreFolder). slice_get h.messages at) y_g ∙ held)
-          ∙ (ap (λ (h : StoreFolder). ended h at m.uid (f.highest + 1)) y_g ∙ ended_put) in
+      ∙ (ap (λ (h : StoreFolder). ended h at m.uid (f.highest + 1)) y_g ∙ ended_put) in
       let t_gone : t ≡ gone = sym (at_target t) ∙ (ap (λ (n : ℕ). get_or (set fs source gone) n t) (sym same) ∙ get_or-set_same fs source gone t within) in
       let come_is : folder_with gone copied (f.uid_next + 1) ≡ come =
-          sym (ap (λ (h : StoreFolder). folder_with h (record m { uid = h.uid_next; modseq = h.highest + 1 }) (h.uid_next + 1)) t_gone) in
+      sym (ap (λ (h : StoreFolder). folder_with h (record m { uid = h.uid_next; modseq = h.highest + 1 }) (h.uid_next + 1)) t_gone) in
       ap (λ (n : ℕ). set (set fs n (folder_with x copy (copy.uid + 1))) source z) (sym same)
       ∙ (set-set fs source (folder_with x copy (copy.uid + 1)) z ∙ (ap (λ (h : StoreFolder). set fs source h) (z_g ∙ come_is)
       ∙ (sym (set-set fs source gone come) ∙ (ap (λ (n : ℕ). set (set fs source gone) n come) same ∙ sym due_is))))
@@ -145,9 +146,10 @@ module _ (fs : List StoreFolder) (source at target : ℕ) (f t : StoreFolder) (m
           let same : source ≡ target = eqb-true source target e in
           let x_f : x ≡ f = x_is ∙ (ap (λ (n : ℕ). get_or fs n x) (sym same) ∙ get_or_from_slice_get fs source f x from) in
           let t_gone : t ≡ gone = sym (at_target t) ∙ (ap (λ (n : ℕ). get_or (set fs source gone) n t) (sym same)
-              ∙ get_or-set_same fs source gone t (slice_get_within fs source f from)) in
-          (ap (λ (g : StoreFolder). g.uid_next) x_f ∙ sym (ap (λ (g : StoreFolder). g.uid_next) t_gone),
-              omega (arith, ap (λ (g : StoreFolder). g.highest) x_f, ap (λ (g : StoreFolder). g.highest) t_gone))
+          ∙ get_or-set_same fs source gone t (slice_get_within fs source f from)) in (
+            ap (λ (g : StoreFolder). g.uid_next) x_f ∙ sym (ap (λ (g : StoreFolder). g.uid_next) t_gone),
+            omega (arith, ap (λ (g : StoreFolder). g.highest) x_f, ap (λ (g : StoreFolder). g.highest) t_gone),
+          )
       by false e =
           let other : target ≢ source = λ same. false≢true (sym e ∙ eq-eqb source target (sym same)) in
           let x_t : x ≡ t = x_is ∙ (sym (get_or-set_other fs source target gone x other) ∙ at_target x) in
@@ -164,11 +166,12 @@ pub moved_back : (fs : List StoreFolder) (source target : ℕ) (x g y kept w bac
     → ((ms : List StoreMessage) (m : StoreMessage) → w.messages ≡ ms ++ m ∷ [] → back ≡ record w { highest = highest; uid_next = uid_next; messages = ms })
     → uid_next ≡ x.uid_next → highest ≡ x.highest → set (set (set fs target g) source kept) target back ≡ fs
 moved_back fs source target x g y kept w back copy uid_next highest within x_is g_is y_is kept_is w_is back_is uid_next_is highest_is =
-    let still : set (set fs target g) source kept ≡ set fs target g = ap (λ (h : StoreFolder). set (set fs target g) source h) (kept_is ∙ y_is) ∙ set-get_or (set fs target g) source y in
+    let still : set (set fs target g) source kept ≡ set fs target g =
+    ap (λ (h : StoreFolder). set (set fs target g) source h) (kept_is ∙ y_is) ∙ set-get_or (set fs target g) source y in
     let w_g : w ≡ folder_with x copy (copy.uid + 1) =
-        w_is ∙ (ap (λ (gs : List StoreFolder). get_or gs target w) still ∙ (get_or-set_same fs target g w within ∙ g_is)) in
+    w_is ∙ (ap (λ (gs : List StoreFolder). get_or gs target w) still ∙ (get_or-set_same fs target g w within ∙ g_is)) in
     let back_x : back ≡ x = back_is x.messages copy (ap (λ (h : StoreFolder). h.messages) w_g)
-        ∙ (ap (λ (h : StoreFolder). record h { highest = highest; uid_next = uid_next; messages = x.messages }) w_g
-        ∙ (λ i. record x { highest = highest_is i; uid_next = uid_next_is i })) in
+    ∙ (ap (λ (h : StoreFolder). record h { highest = highest; uid_next = uid_next; messages = x.messages }) w_g
+    ∙ (λ i. record x { highest = highest_is i; uid_next = uid_next_is i })) in
     ap (λ (gs : List StoreFolder). set gs target back) still ∙ (ap (λ (h : StoreFolder). set (set fs target g) target h) back_x
     ∙ (set-set fs target g x ∙ (ap (λ (h : StoreFolder). set fs target h) x_is ∙ set-get_or fs target x)))

@@ -1,5 +1,6 @@
 -- Lists of which one element alone passes a test, by its place.
-use Rattle.std.proofs.Common.{◌≡◌, ℕ, zero, suc, ◌<◌, Bool, true, false, not, cond, List, [], ◌∷◌, length, map, filter, set, get_or, refl, sym, ap, subst, arith, if◌then◌else◌, AllPairs}
+use Rattle.std.proofs.Common.{◌≡◌, ℕ, zero, suc, ◌<◌, Bool, true, false, not, cond, List, []}
+use Rattle.std.proofs.Common.{◌∷◌, length, map, filter, set, get_or, refl, sym, ap, subst, arith, if◌then◌else◌, AllPairs}
 use Rattle.std.specs.List.{AllByRecursion, remove}
 use Rattle.std.proofs.lemmas.List.Elements.{recursion_from_All}
 
@@ -60,5 +61,7 @@ module _ {X : Type 0} (same : X → X → Bool) (R : X → X → Type 0) (itself
   pub only_apart : (xs : List X) (n : ℕ) (d : X) → AllPairs R xs → n < length xs → OnlyPasses (λ x. same x (get_or xs n d)) xs n
   only_apart [] n d h l = absurd (omega (arith, l))
   only_apart (x ∷ xs) zero d h l = (itself x, none_behind x xs (recursion_from_All (R x) xs (λ k e m. h 0 (suc k) e (omega arith) (omega (arith, m)))))
-  only_apart (x ∷ xs) (suc n) d h l = (before x (get_or xs n d) (h 0 (suc n) d (omega arith) (omega (arith, l))),
-      only_apart xs n d (λ i j e less within. h (suc i) (suc j) e (omega (arith, less)) (omega (arith, within))) (omega (arith, l)))
+  only_apart (x ∷ xs) (suc n) d h l = (
+    before x (get_or xs n d) (h 0 (suc n) d (omega arith) (omega (arith, l))),
+    only_apart xs n d (λ i j e less within. h (suc i) (suc j) e (omega (arith, less)) (omega (arith, within))) (omega (arith, l)),
+  )

@@ -1,5 +1,6 @@
 -- The way of a message from one folder of the mail to another: its numbers fit, and the mail is the one that is due.
-use Rattle.std.proofs.Common.{◌≡◌, ◌≢◌, ℕ, zero, suc, ◌+◌, ◌<◌, Bool, true, false, List, [], ◌∷◌, Some, length, map, set, get_or, refl, sym, ap, ◌∙◌, arith, eq-eqb, eqb-true, ◌==◌, if◌then◌else◌}
+use Rattle.std.proofs.Common.{◌≡◌, ◌≢◌, ℕ, zero, suc, ◌+◌, ◌<◌, Bool, true, false, List, [], ◌∷◌}
+use Rattle.std.proofs.Common.{Some, length, map, set, get_or, refl, sym, ap, ◌∙◌, arith, eq-eqb, eqb-true, ◌==◌, if◌then◌else◌}
 use Rattle.std.proofs.lemmas.List.{length-map}
 use Rattle.std.specs.List.{slice_get}
 use Rattle.std.proofs.lemmas.Bool.{false≢true, leb-false, or_parts}
@@ -41,7 +42,7 @@ module _ (mail : StoreMail) (source at target : ℕ) (whole : IsStoreMail mail) 
       let t = element (map (put gone) mail.folders) target (omega (arith, to, length-map mail.folders (put gone))) in
       let fits = message_room t.0 (room f.0 t.0 m.0 f.1 m.1 t.1) in
       let numbers = numbers_there mail.folders source at target f.0 t.0 m.0 whole.numbers (folder_at mail source f.0 whole f.1).ascend f.1 m.1 t.1 x
-          (sym (get_or_from_slice_get mail.folders target x x there)) in
+      (sym (get_or_from_slice_get mail.folders target x x there)) in
       (omega (arith, fits.0, numbers.1), omega (arith, fits.1, numbers.0))
 
 -- the message stands at its place while the copy has come
@@ -55,7 +56,7 @@ still_there fs source target at f x g y copy from l x_is g_is y_is = by (source 
         let x_f : x ≡ f = x_is ∙ (ap (λ (n : ℕ). get_or fs n x) (sym same) ∙ get_or_from_slice_get fs source f x from) in
         let y_g : y ≡ g = y_is ∙ (ap (λ (n : ℕ). get_or (set fs n g) source y) (sym same) ∙ get_or-set_same fs source g y (slice_get_within fs source f from)) in
         let count : length y.messages ≡ length f.messages + 1 =
-            ap (λ (h : StoreFolder). length h.messages) (y_g ∙ (g_is ∙ ap (λ (h : StoreFolder). folder_with h copy (copy.uid + 1)) x_f)) ∙ length_push f.messages copy in
+        ap (λ (h : StoreFolder). length h.messages) (y_g ∙ (g_is ∙ ap (λ (h : StoreFolder). folder_with h copy (copy.uid + 1)) x_f)) ∙ length_push f.messages copy in
         omega (arith, l, count)
     by false e =
         let other : source ≢ target = λ same. false≢true (sym e ∙ eq-eqb source target same) in
@@ -76,11 +77,11 @@ moved_mail fs us mail source at target f t x g y z m copy q is whole from there 
     let ascend = (folder_at mail source f whole from).ascend in
     let x_is : x ≡ get_or mail.folders target x = sym (get_or_from_slice_get mail.folders target x x at_x) in
     let y_at : y ≡ get_or (set mail.folders target (folder_with x copy (copy.uid + 1))) source y =
-        y_is ∙ (ap (λ (gs : List StoreFolder). get_or (set gs target g) source y) folders ∙ ap (λ (h : StoreFolder). get_or (set mail.folders target h) source y) g_is) in
+    y_is ∙ (ap (λ (gs : List StoreFolder). get_or (set gs target g) source y) folders ∙ ap (λ (h : StoreFolder). get_or (set mail.folders target h) source y) g_is) in
     let z_at : (n : StoreMessage) → slice_get y.messages at ≡ Some n → z ≡ ended y at n.uid (f.highest + 1) =
-        λ n e. z_is n e ∙ ap (λ (k : ℕ). ended y at n.uid k) q_is in
+    λ n e. z_is n e ∙ ap (λ (k : ℕ). ended y at n.uid k) q_is in
     let due : set (set mail.folders target (folder_with x copy (copy.uid + 1))) source z ≡ map (put come) (map (put gone) mail.folders) =
-        by (source == target) refl copy_is x_is y_at z_at ascend in
+    by (source == target) refl copy_is x_is y_at z_at ascend in
     ap (λ (gs : List StoreFolder). mail_of (set (set gs target g) source z) us) folders
     ∙ (ap (λ (h : StoreFolder). mail_of (set (set mail.folders target h) source z) us) g_is
     ∙ (ap (λ (gs : List StoreFolder). mail_of gs us) due
@@ -96,4 +97,5 @@ moved_mail fs us mail source at target f t x g y z m copy q is whole from there 
     by true e copy_is x_is y_at z_at ascend =
         moved_within mail.folders source at target f t m whole.numbers ascend from there to x y z copy (eqb-true source target e) x_is copy_is y_at z_at
     by false e copy_is x_is y_at z_at ascend =
-        moved_between mail.folders source at target f t m whole.numbers ascend from there to x y z copy (λ same. false≢true (sym e ∙ eq-eqb source target same)) x_is copy_is y_at z_at
+        moved_between mail.folders source at target f t m whole.numbers ascend from there to x y z copy
+        (λ same. false≢true (sym e ∙ eq-eqb source target same)) x_is copy_is y_at z_at

@@ -31,7 +31,8 @@ fn text_after<'a>(front: &[u8], text: &'a [u8]) -> Option<&'a [u8]>
 
 /// Of a name below another one, the delimiter and what follows it.
 pub fn child_part<'a>(parent: &[u8], name: &'a [u8]) -> Option<&'a [u8]>
-    ensures { MatchOption result (folders.child_part parent.now (Some hierarchy_delimiter) name.now ≡ None) (λ rest. folders.child_part parent.now (Some hierarchy_delimiter) name.now ≡ Some rest.now) }
+    ensures { MatchOption result (folders.child_part parent.now (Some hierarchy_delimiter) name.now ≡ None)
+        (λ rest. folders.child_part parent.now (Some hierarchy_delimiter) name.now ≡ Some rest.now) }
 {
     let Some(rest) = text_after(parent, name) else {
         return None;

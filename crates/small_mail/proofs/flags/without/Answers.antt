@@ -10,7 +10,7 @@ loop-name-preserved c =
     let those = c.args.those.now in
     let n = c.name-item.result in
     let hit : c.has_name.result ≡ list_any (λ g. bytes_eq n g) those =
-        c.has_name.ensures ∙ (ap (λ (m : List ℕ). list_any (λ f. bytes_eq f m) those) c.as_slice.ensures ∙ list_any_turned n those) in
+    c.has_name.ensures ∙ (ap (λ (m : List ℕ). list_any (λ f. bytes_eq f m) those) c.as_slice.ensures ∙ list_any_turned n those) in
     let test : not (list_any (λ g. bytes_eq n g) those) ≡ not c.has_name.result = ap not (sym hit) in
     filter_more (λ (f : List ℕ). not (list_any (λ g. bytes_eq f g) those)) c.args.names.now c.loop-name.left c.if-not-has_name.left c.loop-name.name-index n
     (omega arith) c.name-item.is c.loop-name.invariant

@@ -24,5 +24,5 @@ returns c =
     } in
     let ascend : AscendByUid 0 f.messages = subst (λ (g : StoreFolder). AscendByUid 0 g.messages) (sym c.self.view_is) c.requires.order in
     subst (λ (g : StoreFolder). (m : StoreMessage) → IsMessageAt g c.args.at m
-        → record f { highest = f.highest + 1; messages = set f.messages c.args.at c.set_flags.new.self } ≡ folder_flagged g m.uid c.args.flags (g.highest + 1)) c.self.view_is
+    → record f { highest = f.highest + 1; messages = set f.messages c.args.at c.set_flags.new.self } ≡ folder_flagged g m.uid c.args.flags (g.highest + 1)) c.self.view_is
     (λ m there. flagged_folder f c.args.at c.index_mut.result.now c.set_flags.new.self m c.args.flags ascend c.index_mut.ensures.value c.set_flags.ensures there)

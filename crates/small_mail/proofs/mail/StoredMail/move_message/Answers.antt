@@ -46,9 +46,9 @@ returns-in-Err-clause-err c =
     let x = c.index_mut.result.now in
     let within : c.args.target < length fs = omega (arith, c.requires.target, ap (λ (m : StoreMail). length m.folders) c.self.view_is) in
     let uid_next : c.uid_next-uid_next.result ≡ x.uid_next =
-        c.uid_next-uid_next.ensures ∙ ap (λ (g : StoreFolder). g.uid_next) (same_read fs c.args.target c.index-2.result.now x within c.index-2.ensures c.index_mut.ensures.value) in
+    c.uid_next-uid_next.ensures ∙ ap (λ (g : StoreFolder). g.uid_next) (same_read fs c.args.target c.index-2.result.now x within c.index-2.ensures c.index_mut.ensures.value) in
     let highest : c.highest-highest.result ≡ x.highest =
-        c.highest-highest.ensures ∙ ap (λ (g : StoreFolder). g.highest) (same_read fs c.args.target c.index-3.result.now x within c.index-3.ensures c.index_mut.ensures.value) in
+    c.highest-highest.ensures ∙ ap (λ (g : StoreFolder). g.highest) (same_read fs c.args.target c.index-3.result.now x within c.index-3.ensures c.index_mut.ensures.value) in
     ap (λ (gs : List StoreFolder). mail_of gs c.self.inside.uses.items)
     (moved_back fs c.args.source c.args.target x c.put_message.new.self c.index_mut-2.result.now c.end_message.new.self c.index_mut-in-Err.result.now c.take_back.new.self
     c.in_ok-copy.copy c.uid_next-uid_next.result c.highest-highest.result within c.index_mut.ensures.value c.in_ok-put_message.ensures.ok c.index_mut-2.ensures.value

@@ -12,7 +12,7 @@ returns-then-eq c =
     let shown : c.deref-folder-items.result.now ≡ fs = c.deref-folder-items.ensures.value ∙ ap (λ (m : StoreMail). m.folders) c.self.view_is in
     let test : c.eq.result ≡ bytes_eq f.name name = c.eq.ensures ∙ ap (λ (t : List ℕ). bytes_eq t name) (c.as_slice.ensures ∙ c.name.ensures.name) in
     let here = found_here (λ (x : StoreFolder). bytes_eq x.name name) fs place f (omega (arith, c.loop-place-test.true, ap length shown))
-        (c.folder-item.is ∙ ap (λ (xs : List StoreFolder). get_or xs place f) shown) c.loop-place.invariant (sym test ∙ c.if-eq.true) in
+    (c.folder-item.is ∙ ap (λ (xs : List StoreFolder). get_or xs place f) shown) c.loop-place.invariant (sym test ∙ c.if-eq.true) in
     (f, here.0, subst (λ (t : List ℕ). find (λ (x : StoreFolder). bytes_eq x.name t) fs ≡ Some f) c.told_name-name.ensures here.1)
 
 pub loop-place-preserved : goal.loop-place-preserved

@@ -10,6 +10,6 @@ returns-then-validity-number c =
     let f = c.folder-item.result in
     let shown : c.deref-folder-items.result.now ≡ fs = c.deref-folder-items.ensures.value ∙ ap (λ (m : StoreMail). m.folders) c.self.view_is in
     let here = found_here (λ (x : StoreFolder). x.number == c.args.number) fs place f (omega (arith, c.loop-place-test.true, ap length shown))
-        (c.folder-item.is ∙ ap (λ (xs : List StoreFolder). get_or xs place f) shown) c.loop-place.invariant
-        (eq-eqb f.number c.args.number (sym c.validity.ensures.number ∙ c.if-validity-number.true)) in
+    (c.folder-item.is ∙ ap (λ (xs : List StoreFolder). get_or xs place f) shown) c.loop-place.invariant
+    (eq-eqb f.number c.args.number (sym c.validity.ensures.number ∙ c.if-validity-number.true)) in
     (f, here.0, here.1)

@@ -27,8 +27,10 @@ returns-clause-ok c = λ f at_f.
     let uid : c.uid_next-uid.result ≡ f.uid_next = c.uid_next-uid.ensures ∙ ap (λ (g : StoreFolder). g.uid_next) x_f in
     let highest : c.highest.result ≡ f.highest = c.highest.ensures ∙ ap (λ (g : StoreFolder). g.highest) x_f in
     let message_is : c.new-message.result ≡ message f.uid_next f.highest =
-        c.new-message.ensures ∙ (ap (λ (d : ℤ). dated c.uid_next-uid.result c.highest.result d) (to_z-of_z w64 c.args.date c.ranges.date)
-        ∙ ap (λ (u : ℕ). message u c.highest.result) uid ∙ ap (λ (q : ℕ). message f.uid_next q) highest) in
-    (uid, changed_is fs us mail c.self.view_is c.args.place f (folder_with f (message f.uid_next f.highest) (f.uid_next + 1)) c.put_message.new.self c.requires.whole at_f refl
-    (c.in_ok-put_message.ensures.ok ∙ (ap (λ (g : StoreFolder). folder_with g c.new-message.result (c.new-message.result.uid + 1)) x_f
-    ∙ ap (λ (n : StoreMessage). folder_with f n (n.uid + 1)) message_is)))
+    c.new-message.ensures ∙ (ap (λ (d : ℤ). dated c.uid_next-uid.result c.highest.result d) (to_z-of_z w64 c.args.date c.ranges.date)
+    ∙ ap (λ (u : ℕ). message u c.highest.result) uid ∙ ap (λ (q : ℕ). message f.uid_next q) highest) in (
+      uid,
+      changed_is fs us mail c.self.view_is c.args.place f (folder_with f (message f.uid_next f.highest) (f.uid_next + 1)) c.put_message.new.self c.requires.whole at_f refl
+          (c.in_ok-put_message.ensures.ok ∙ (ap (λ (g : StoreFolder). folder_with g c.new-message.result (c.new-message.result.uid + 1)) x_f
+          ∙ ap (λ (n : StoreMessage). folder_with f n (n.uid + 1)) message_is)),
+    )

@@ -30,8 +30,8 @@ returns-clause-ok c =
     let x_f = read_is fs us mail c.self.view_is place x f.0 f.1 c.index_mut-folder.ensures.value in
     let changed : StoreFolder → StoreFolder = λ (g : StoreFolder). record g { attributes = subscribed c.args.on g.attributes } in
     let changed_is : c.set_attributes.new.self ≡ changed f.0 =
-        c.set_attributes.ensures ∙ (ap (λ (names : List (List ℕ)). record x { attributes = names })
-        (c.in_ok-attributes.ensures ∙ ap (λ (names : List (List ℕ)). subscribed c.args.on names) (c.as_slice.ensures ∙ c.attributes.ensures)) ∙ ap changed x_f) in
+    c.set_attributes.ensures ∙ (ap (λ (names : List (List ℕ)). record x { attributes = names })
+    (c.in_ok-attributes.ensures ∙ ap (λ (names : List (List ℕ)). subscribed c.args.on names) (c.as_slice.ensures ∙ c.attributes.ensures)) ∙ ap changed x_f) in
     ap (λ (g : StoreFolder). mail_of (set fs place g) us) changed_is
     ∙ (ap (λ (m : StoreMail). mail_of (set m.folders place (changed f.0)) us) c.self.view_is
     ∙ (ap (λ (gs : List StoreFolder). mail_of gs us) (subscribed_is mail.folders place f.0 f.1 name c.args.on c.requires.names f.2)
