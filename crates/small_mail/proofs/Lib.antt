@@ -1,0 +1,11 @@
+pub mod Only
+pub mod Found
+pub mod KeptNames
+pub mod Prefixes
+pub mod EmptyLines
+pub mod Messages
+pub mod Folders
+pub mod Mails
+pub mod Moves
+pub mod Ways
+pub mod NamesGiven

@@ -1,0 +1,151 @@
+// Flags in kept form: lower case, sorted by octets, each once, without `\recent` (RFC 9051 section 2.3.2).
+ghost use Rattle.std.specs.Prelude.{◌≡◌, ◌++◌, [], ◌∷◌, map, bytes_eq, codes, filter, min, not, IfOk, OnOk};
+ghost use Rattle.std.specs.List.{list_any};
+ghost use Rattle.imap_syntax.specs.Octets as classes;
+ghost use Rattle.imap_syntax.specs.Items as items;
+ghost use Rattle.honest_store.specs.Attributes as attributes;
+ghost use Rattle.honest_store.specs.MessageCommands as commands;
+ghost use Rattle.small_answers.specs.Limits as limits;
+
+use gate_world::{Bytes, Names};
+use imap_values::lower;
+use std::alloc::{AllocError, Global};
+use std::collections::BTreeSet;
+
+/// The octets that a name may have, and the flags of a message together.
+pub const MAX_TEXT_OCTETS: usize = 1_000_000;
+
+/// The flag of a message that was read.
+pub const SEEN: &[u8] = b"\\seen";
+
+/// The flag of a message that an EXPUNGE ends.
+pub const DELETED: &[u8] = b"\\deleted";
+
+/// The attribute of a folder that is subscribed.
+const SUBSCRIBED: &[u8] = b"\\subscribed";
+
+/// The name in lower case.
+fn lowered(alloc: Global, name: &[u8]) -> Result<Vec<u8>, AllocError>
+    ensures { IfOk result (λ v. v.items ≡ map classes.lower name.now) }
+{
+    let mut out = Vec::with_capacity(alloc, name.len())?;
+    for c in name {
+        out.push(lower(*c))?;
+    }
+    Ok(out)
+}
+
+fn is_recent(name: &[u8]) -> bool
+    ensures { result ≡ bytes_eq name.now (codes "\\recent") }
+{
+    name == b"\\recent".as_slice()
+}
+
+/// Adds a name in lower case, unless it is `\recent`.
+fn add_name(set: &mut BTreeSet<Vec<u8>>, name: Vec<u8>) -> Result<(), AllocError>
+    ensures { OnOk result (map (λ v. v.items) set.new.keys ≡ items.add_name (map (λ v. v.items) set.old.keys) name.items) }
+{
+    if is_recent(&name) {
+        return Ok(());
+    }
+    set.insert(name)?;
+    Ok(())
+}
+
+/// Adds names, each in lower case.
+fn add_names(alloc: Global, set: &mut BTreeSet<Vec<u8>>, names: &[Bytes]) -> Result<(), AllocError>
+    ensures { OnOk result (map (λ v. v.items) set.new.keys ≡ items.kept_from (map (λ v. v.items) set.old.keys) names.now) }
+{
+    for name in names {
+        let name = lowered(alloc, name.as_slice())?;
+        add_name(set, name)?;
+    }
+    Ok(())
+}
+
+/// The names in order.
+fn names_of(alloc: Global, set: BTreeSet<Vec<u8>>) -> Result<Names, AllocError>
+    ensures { IfOk result (λ names. names ≡ map (λ v. v.items) set.keys) }
+{
+    let mut names = Names::new(alloc);
+    for name in set {
+        names.push(Bytes::from_vec(name)?)?;
+    }
+    Ok(names)
+}
+
+/// These names, and those, in kept form.
+pub fn kept(alloc: Global, these: &[Bytes], those: &[Bytes]) -> Result<Names, AllocError>
+    ensures { IfOk result (λ names. names ≡ items.kept (these.now ++ those.now)) }
+{
+    let mut set = BTreeSet::new(alloc);
+    add_names(alloc, &mut set, these)?;
+    add_names(alloc, &mut set, those)?;
+    names_of(alloc, set)
+}
+
+/// Whether the name is among these.
+pub fn has_name(names: &[Bytes], name: &[u8]) -> bool
+    ensures { result ≡ list_any (λ f. bytes_eq f name.now) names.now }
+{
+    for one in names {
+        if one.as_slice() == name {
+            return true;
+        }
+    }
+    false
+}
+
+/// The names that aren't among those.
+pub fn without(alloc: Global, names: &[Bytes], those: &[Bytes]) -> Result<Names, AllocError>
+    ensures { IfOk result (λ left. left ≡ filter (λ f. not (list_any (λ g. bytes_eq f g) those.now)) names.now) }
+{
+    let mut left = Names::new(alloc);
+    for name in names {
+        if !has_name(those, name.as_slice()) {
+            left.push(name.share()?)?;
+        }
+    }
+    Ok(left)
+}
+
+/// The flags of a message with those that are asked, or without them (section 6.4.6).
+pub fn flags_after(
+    alloc: Global,
+    add: bool,
+    asked: &[Bytes],
+    was: &[Bytes],
+) -> Result<Names, AllocError>
+    ensures { IfOk result (λ flags. flags ≡ commands.flags_after add asked.now was.now) }
+{
+    if add {
+        return kept(alloc, was, asked);
+    }
+    let asked = kept(alloc, asked, &[])?;
+    without(alloc, was, asked.as_slice())
+}
+
+/// The attributes of a folder with `\subscribed`, or without it (section 7.3.1).
+pub fn subscribed(alloc: Global, on: bool, was: &[Bytes]) -> Result<Names, AllocError>
+    ensures { IfOk result (λ names. names ≡ attributes.subscribed on was.now) }
+{
+    let mut word = Names::new(alloc);
+    word.push(Bytes::copy_of(alloc, SUBSCRIBED)?)?;
+    if on {
+        kept(alloc, word.as_slice(), was)
+    } else {
+        without(alloc, was, word.as_slice())
+    }
+}
+
+/// The octets of all names together, up to the end of their count.
+#[tactic(auto, using(std::proofs::lemmas::List::Sums::fold_more))]
+pub fn total_len(names: &[Bytes]) -> usize
+    ensures { result ≡ min (limits.total_length names.now) 18446744073709551615 }
+{
+    let mut total: usize = 0;
+    for name in names {
+        total = total.saturating_add(name.as_slice().len());
+    }
+    total
+}
