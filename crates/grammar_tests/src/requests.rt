@@ -78,7 +78,9 @@ fn joined(alloc: Global, pieces: &[Bytes]) -> Result<Vec<u8>, AllocError> {
 fn is_whole(read: &CommandRead, octets: &[u8], asked: &Command) -> bool {
     match read {
         CommandRead::Whole {
-            length, command, ..
+            length,
+            command,
+            ..
         } => *length == octets.len() && command == asked,
         _ => false,
     }
