@@ -3,3 +3,4 @@ pub mod KeyLemmas
 pub mod OrderLaws
 pub mod RowLemmas
 pub mod DecidingLemmas
+pub mod FoldLemmas

@@ -42,12 +42,29 @@ fn order_of_none(other: &[u8]) -> Ordering
     }
 }
 
+/// What is left of two texts behind a front that is the same of both, by eight octets at a time.
+fn past_same<'a>(one: &'a [u8], other: &'a [u8]) -> (&'a [u8], &'a [u8])
+    ensures { text_cmp result.0.now result.1.now ≡ text_cmp one.now other.now }
+{
+    let mut left = one;
+    let mut right = other;
+    while 8 <= left.len() && 8 <= right.len() {
+        let (first, left_rest) = left.split_at(8);
+        let (second, right_rest) = right.split_at(8);
+        if first != second {
+            return (left, right);
+        }
+        left = left_rest;
+        right = right_rest;
+    }
+    (left, right)
+}
+
 /// How the texts compare.
 fn compare(one: &[u8], other: &[u8]) -> Ordering
     ensures { result ≡ text_cmp one.now other.now }
 {
-    let mut left = one;
-    let mut right = other;
+    let (mut left, mut right) = past_same(one, other);
     loop {
         match left {
             [] => return order_of_none(right),
