@@ -1,5 +1,5 @@
 -- What the small store answers is what an honest store may answer, and its mail stays the small store's.
-use Rattle.std.proofs.Common.{◌≡◌, ℕ, Bool, true, ◌&&◌, nat_le, ◌==◌, List, Option, Some, None, All}
+use Rattle.std.proofs.Common.{◌≡◌, ℕ, Bool, true, ◌==◌, List, Option, Some, None, All}
 use Rattle.std.proofs.lemmas.List.Elements.{All-weaker}
 use Rattle.imap_syntax.specs.declared.command.Command.{Command}
 use Rattle.imap_syntax.specs.declared.command.Command.TheVariants as command
@@ -10,7 +10,7 @@ use Rattle.honest_store.specs.Sessions.{StoreSession, StoreAnswer}
 use Rattle.honest_store.specs.Honest.{Honest}
 use Rattle.small_answers.specs.Changes.{selected_folder}
 use Rattle.small_answers.specs.Causes.{RefusalCause}
-use Rattle.small_answers.specs.ToldResponses.{body_response, flags_response, header_response, is_from_on}
+use Rattle.small_answers.specs.ToldResponses.{body_response, flags_response, header_response, is_from_on, is_between}
 use Rattle.small_answers.specs.Answers.{AnswersCommand, Refused, Accepted, fetch_reply, reply_in, select_reply}
 use Rattle.small_answers.specs.SmallMail.{IsAskable, IsSmallFolder, IsSmallMail}
 use Rattle.small_answers.proofs.Refusals.{refusals_are_honest}
@@ -58,7 +58,7 @@ good s command.FetchFlags small ask free = record {
 }
 good s (command.FetchSlice from to modseq) small ask free = record {
   honest = slice_honest s.mail small.well_formed from to modseq s.selected free;
-  small = fetch_leaves s (selected_folder s) (λ ms u. nat_le from u && nat_le u to) (header_response modseq) small;
+  small = fetch_leaves s (selected_folder s) (λ ms. is_between from to) (header_response modseq) small;
 }
 good s (command.FetchNew from modseq) small ask free = record {
   honest = new_honest s.mail small.well_formed from modseq s.selected free;
