@@ -4,3 +4,6 @@ pub mod Places
 pub mod Stores
 pub mod Moving
 pub mod Calls
+pub mod Telling
+pub mod Elements
+pub mod Replying

@@ -1,3 +1,2 @@
--- The octets of an answer stand in Texts. reading/ is for private clauses and proofs.
-pub mod Texts
+-- What the store answers stands in small_answers. reading/ is for private clauses and proofs.
 pub mod reading

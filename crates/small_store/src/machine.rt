@@ -11,8 +11,9 @@ ghost use Rattle.small_mail.specs.Places.{IsFolderAt};
 ghost use Rattle.small_answers.specs.Answers as answers;
 ghost use Rattle.small_answers.specs.Answers.{AnswersCommand, ok_reply};
 ghost use Rattle.small_answers.specs.Causes.{RefusalCause};
-ghost use Rattle.small_answers.specs.SmallMail.{IsAskable, IsSmallMail};
-ghost use Rattle.small_store.specs.Texts.{text_of_answer};
+ghost use Rattle.small_answers.specs.SmallMail.{IsSmallMail};
+ghost use Rattle.small_responses.specs.AnswerTexts.{text_of_answer};
+ghost use Rattle.small_responses.specs.Tellable.{IsTellableCommand, IsTellableMail};
 ghost use Rattle.small_store.specs.reading.Steps.{Gives, ReadsMessages, UsesMessages};
 ghost use Rattle.store_responses.specs.ResponseTexts.{text_of_response};
 
@@ -50,7 +51,7 @@ impl StoreMachine {
     /// INBOX and Archive, both empty, with the UIDVALIDITIES 1 and 2, and no folder selected.
     pub fn new(alloc: Global) -> Result<StoreMachine, AllocError>
         ensures first { IfOk result (λ s. s ≡ first_session) }
-        ensures small { IfOk result (λ s. IsSmallMail s.mail) }
+        ensures tellable { IfOk result (λ s. IsTellableMail s.mail) }
     {
         let mail = StoredMail::new(alloc)?;
         Ok(StoreMachine {
@@ -60,14 +61,21 @@ impl StoreMachine {
         })
     }
 
+    /// A session begins over the mail as it is, with no folder selected.
+    pub fn begin_session(&mut self)
+        ensures { self.new ≡ answers.unselected self.old }
+    {
+        self.selected = None;
+    }
+
     /// The octets of the answer to the command, under its tag. Where memory is wanting, the answer is lost, and the command has
     /// done all that it does or nothing.
     pub fn answer(&mut self, tag: &[u8], command: &Command) -> Result<Vec<u8>, AllocError>
-        requires small { IsSmallMail self.old.mail }
-        requires askable { IsAskable command.now }
+        requires tellable { IsTellableMail self.old.mail }
+        requires command { IsTellableCommand command.now }
         ensures ok { IfOk result (λ octets. (a : StoreAnswer) × AnswersCommand self.old command.now a self.new × (octets.items ≡ text_of_answer tag.now a)) }
         ensures err { OnErr result ((self.new ≡ self.old) ⊎ ((a : StoreAnswer) × AnswersCommand self.old command.now a self.new)) }
-        ensures small { IsSmallMail self.new.mail }
+        ensures tellable { IsTellableMail self.new.mail }
     {
         let tag = Bytes::copy_of(self.alloc, tag)?;
         let alloc = self.alloc;
@@ -77,11 +85,11 @@ impl StoreMachine {
 
     /// What the command is answered. Where memory is wanting nothing changes.
     pub fn respond(&mut self, command: &Command) -> Result<Answer, AllocError>
-        requires small { IsSmallMail self.old.mail }
-        requires askable { IsAskable command.now }
+        requires tellable { IsTellableMail self.old.mail }
+        requires command { IsTellableCommand command.now }
         ensures ok { IfOk result (λ a. AnswersCommand self.old command.now a self.new) }
         ensures err { OnErr result (self.new ≡ self.old) }
-        ensures small { IsSmallMail self.new.mail }
+        ensures tellable { IsTellableMail self.new.mail }
     {
         if self.refuses(command)? {
             return Ok(self.refuse(command));

@@ -4,7 +4,7 @@ ghost use Rattle.honest_store.specs.StoreMail.{StoreFolder, StoreMessage};
 ghost use Rattle.honest_store.specs.WellFormed.{nearest_date};
 ghost use Rattle.small_mail.specs.Places.{IsFolderAt, IsMessageAt};
 ghost use Rattle.small_answers.specs.OwnersCalls as calls;
-ghost use Rattle.small_answers.specs.SmallMail.{IsSmallMail};
+ghost use Rattle.small_responses.specs.Tellable.{IsTellableMail};
 
 use crate::StoreMachine;
 use crate::messages::is_full_for_move;
@@ -58,12 +58,12 @@ impl StoreMachine {
         message: &[u8],
         date: i64,
     ) -> Result<bool, AllocError>
-        requires small { IsSmallMail self.old.mail }
+        requires tellable { IsTellableMail self.old.mail }
         requires date { nearest_date date ≡ date }
         requires fits { length message.now < 2 ^ 63 }
         ensures ok { IfOk result (λ done. calls.CallGives self.old.mail (calls.delivered self.old.mail folder.now message.now date) done self.new.mail) }
         ensures selected { self.new.selected ≡ self.old.selected }
-        ensures small { IsSmallMail self.new.mail }
+        ensures tellable { IsTellableMail self.new.mail }
         ensures err { OnErr result (self.new ≡ self.old) }
     {
         let Some(place) = self.mail.place_named(folder) else {
@@ -81,10 +81,10 @@ impl StoreMachine {
     /// Sets `\Seen` of the message at the place among all, from 0 on, or takes it. False where none is there, or a number would
     /// pass its end.
     pub fn toggle_seen(&mut self, at: usize) -> Result<bool, AllocError>
-        requires small { IsSmallMail self.old.mail }
+        requires tellable { IsTellableMail self.old.mail }
         ensures ok { IfOk result (λ done. calls.CallGives self.old.mail (calls.seen_toggled self.old.mail (calls.message_at_place self.old.mail at)) done self.new.mail) }
         ensures selected { self.new.selected ≡ self.old.selected }
-        ensures small { IsSmallMail self.new.mail }
+        ensures tellable { IsTellableMail self.new.mail }
         ensures err { OnErr result (self.new ≡ self.old) }
     {
         let Some((place, at)) = place_among_all(&self.mail, at) else {
@@ -105,10 +105,10 @@ impl StoreMachine {
     /// Moves the message at the place to the other of INBOX and Archive. False as in `toggle_seen`, and where that folder isn't
     /// there.
     pub fn shift(&mut self, at: usize) -> Result<bool, AllocError>
-        requires small { IsSmallMail self.old.mail }
+        requires tellable { IsTellableMail self.old.mail }
         ensures ok { IfOk result (λ done. calls.CallGives self.old.mail (calls.shifted self.old.mail (calls.message_at_place self.old.mail at)) done self.new.mail) }
         ensures selected { self.new.selected ≡ self.old.selected }
-        ensures small { IsSmallMail self.new.mail }
+        ensures tellable { IsTellableMail self.new.mail }
         ensures err { OnErr result (self.new ≡ self.old) }
     {
         let Some((source, at)) = place_among_all(&self.mail, at) else {
@@ -128,10 +128,10 @@ impl StoreMachine {
 
     /// Ends the message at the place. False as in `toggle_seen`.
     pub fn expunge(&mut self, at: usize) -> Result<bool, AllocError>
-        requires small { IsSmallMail self.old.mail }
+        requires tellable { IsTellableMail self.old.mail }
         ensures ok { IfOk result (λ done. calls.CallGives self.old.mail (calls.message_expunged self.old.mail (calls.message_at_place self.old.mail at)) done self.new.mail) }
         ensures selected { self.new.selected ≡ self.old.selected }
-        ensures small { IsSmallMail self.new.mail }
+        ensures tellable { IsTellableMail self.new.mail }
         ensures err { OnErr result (self.new ≡ self.old) }
     {
         let Some((place, at)) = place_among_all(&self.mail, at) else {
