@@ -7,3 +7,5 @@ pub mod Calls
 pub mod Telling
 pub mod Elements
 pub mod Replying
+pub mod Seeing
+pub mod Refusing

@@ -114,6 +114,10 @@ fn take(
             *store = StoreMachine::new(alloc)?;
             writeln!(out, "{line}")
         }
+        "begin" => {
+            store.begin_session();
+            Ok(())
+        }
         "ask" => ask(alloc, store, rest, out),
         "octets" => ask_octets(alloc, store, rest, out),
         _ => match owner_does(alloc, store, word, rest)? {
