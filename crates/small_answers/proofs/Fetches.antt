@@ -96,7 +96,8 @@ passes_from from ms m within (inr last) =
 pub flags_told : (ms : List StoreMessage) → TellsMessages (Some ms) (λ ms m. Unit {0}) TellsFlags (map (flags_response ms) (with_uids (λ u. true) ms))
 flags_told ms = all_told (flags_response ms) (λ m. true) ms (λ ms m. Unit {0}) TellsFlags (λ m. (refl, refl)) (each_of (λ m. Unit {0} → true ≡ true) (λ m asked. refl) ms)
 
-pub slice_told : (from to : ℕ) (b : Bool) (ms : List StoreMessage) → TellsMessages (Some ms) (IsBetween from to) (TellsHeader b) (map (header_response b ms) (with_uids (is_between from to) ms))
+pub slice_told : (from to : ℕ) (b : Bool) (ms : List StoreMessage)
+    → TellsMessages (Some ms) (IsBetween from to) (TellsHeader b) (map (header_response b ms) (with_uids (is_between from to) ms))
 slice_told from to b ms =
     all_told (header_response b ms) (λ m. is_between from to m.uid) ms (IsBetween from to) (TellsHeader b) (header_has b ms)
     (each_of (λ m. IsBetween from to ms m → is_between from to m.uid ≡ true)

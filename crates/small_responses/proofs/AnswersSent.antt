@@ -19,8 +19,8 @@ use Rattle.small_answers.specs.Changes.{mail_flagged, mail_without, next_modseq,
 use Rattle.small_answers.specs.Limits.{is_last_change, text_limit, total_length}
 use Rattle.store_responses.specs.Sendable.{IsNonZeroNumber, IsSendable, IsSendableTag}
 use Rattle.small_answers.specs.Causes.{RefusalCause, FlagsTooLong, NumberSpent, IsAtEnd, are_same_names, changes_flags, ends_message, flags_of_store}
-use Rattle.small_answers.specs.ToldResponses.{body_response, change_response, changes_since, closed_responses, flags_response, folder_responses, header_response, is_from_on, is_between}
-use Rattle.small_answers.specs.ToldResponses.{known_changes, list_response, set_of, with_uids}
+use Rattle.small_answers.specs.ToldResponses.{body_response, change_response, changes_since, closed_responses, flags_response, folder_responses, header_response}
+use Rattle.small_answers.specs.ToldResponses.{is_between, is_from_on, known_changes, list_response, set_of, with_uids}
 use Rattle.small_answers.specs.Answers.{AnswersCommand, Refused, Accepted, Reply, append_reply, expunge_reply, expunged_reply, fetch_reply, flags_reply, move_reply, move_reply_to}
 use Rattle.small_answers.specs.Answers.{ok_reply, reply_in, reply_with, select_reply, store_reply, told_change}
 use Rattle.small_answers.specs.SmallMail.{IsSmallFolder, IsSmallMail}
