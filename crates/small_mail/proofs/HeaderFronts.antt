@@ -4,13 +4,13 @@ use Rattle.std.specs.Prelude.{◌&&◌, nat_lt}
 use Rattle.text_words.specs.LineEnds.{begins_with_lf, line_end_len}
 use Rattle.honest_store.specs.Headers.{begins_with_empty_line, empty_line, through_empty_line, header_section}
 
-take_none : (n : ℕ) → take n [] ≡ []
+take_none : (n : ℕ) → take {A = ℕ} n [] ≡ []
 take_none zero = refl
 take_none (suc n) = refl
 
 first_alone : (d : ℕ) (u : List ℕ) → take 1 (through_empty_line (d ∷ u)) ≡ d ∷ []
 first_alone d u =
-    elim (d == 10) && begins_with_empty_line u as (λ b. take 1 (if b then d ∷ empty_line u else d ∷ through_empty_line u) ≡ d ∷ []) [
+    elim ((d == 10) && begins_with_empty_line u) as (λ b. take 1 (if b then d ∷ empty_line u else d ∷ through_empty_line u) ≡ d ∷ []) [
       | true ↦ refl
       | false ↦ refl
     ]
@@ -50,13 +50,14 @@ both_begin c false x y = refl
 through_of_front : (n : ℕ) (t : List ℕ) → through_empty_line (take n t) ≡ take n (through_empty_line t)
 through_of_front zero t = refl
 through_of_front (suc n) [] = refl
-through_of_front (suc n) (c ∷ t) = by (c == 10)
+through_of_front (suc n) (c ∷ t) = by (c == 10) (through_of_front n t)
   where
-    by : (lf : Bool) → (if lf && begins_with_empty_line (take n t) then c ∷ empty_line (take n t) else c ∷ through_empty_line (take n t))
+    by : (lf : Bool) → through_empty_line (take n t) ≡ take n (through_empty_line t)
+        → (if lf && begins_with_empty_line (take n t) then c ∷ empty_line (take n t) else c ∷ through_empty_line (take n t))
         ≡ take (suc n) (if lf && begins_with_empty_line t then c ∷ empty_line t else c ∷ through_empty_line t)
-    by false = ap (λ (u : List ℕ). c ∷ u) (through_of_front n t)
-    by true = both_begin c (begins_with_empty_line (take n t)) (empty_line (take n t)) (through_empty_line (take n t))
-        ∙ (ap (λ (u : List ℕ). c ∷ u) (section_of_front n t (through_of_front n t))
+    by false same = ap (λ (u : List ℕ). c ∷ u) same
+    by true same = both_begin c (begins_with_empty_line (take n t)) (empty_line (take n t)) (through_empty_line (take n t))
+        ∙ (ap (λ (u : List ℕ). c ∷ u) (section_of_front n t same)
         ∙ ap (take (suc n)) (sym (both_begin c (begins_with_empty_line t) (empty_line t) (through_empty_line t))))
 
 pub header_of_front : (n : ℕ) (t : List ℕ) → header_section (take n t) ≡ take n (header_section t)

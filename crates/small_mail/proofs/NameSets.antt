@@ -39,6 +39,6 @@ any_found n [] = refl
 any_found n (k ∷ ks) = ap (λ (b : Bool). b || list_any (is_at (λ (k : Vec ℕ Global). slice_cmp nat_cmp n k.items)) ks) (is_eq-slice_cmp n k.items)
     ∙ ap (λ (b : Bool). bytes_eq n k.items || b) (any_found n ks)
 
-any_more : (n : List ℕ) (xs : List (List ℕ)) (x : List ℕ) → list_any (bytes_eq n) (xs ++ x ∷ []) ≡ (bytes_eq n x || list_any (bytes_eq n) xs)
+pub any_more : (n : List ℕ) (xs : List (List ℕ)) (x : List ℕ) → list_any (bytes_eq n) (xs ++ x ∷ []) ≡ (bytes_eq n x || list_any (bytes_eq n) xs)
 any_more n [] x = refl
 any_more n (y ∷ xs) x = ap (λ (b : Bool). bytes_eq n y || b) (any_more n xs x) ∙ turned (bytes_eq n y) (bytes_eq n x) (list_any (bytes_eq n) xs)

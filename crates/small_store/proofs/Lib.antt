@@ -9,3 +9,7 @@ pub mod Elements
 pub mod Replying
 pub mod Seeing
 pub mod Refusing
+pub mod Reading
+pub mod Accepting
+pub mod Landing
+pub mod Others

@@ -150,7 +150,10 @@ pub fn is_full_for_move(mail: &StoredMail, source: usize, target: usize) -> bool
     if folder.is_last_message() {
         return true;
     }
-    source == target && LAST_MODSEQ - 1 <= folder.highest()
+    if source != target {
+        return false;
+    }
+    LAST_MODSEQ - 1 <= folder.highest()
 }
 
 /// MOVE of the message at its place from the folder at `source` to that at `target`.
