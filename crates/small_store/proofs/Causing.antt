@@ -147,7 +147,7 @@ or_right_none : (x y : Bool) → (x || y) ≡ false → y ≡ false
 or_right_none true y e = absurd (true≢false e)
 or_right_none false y e = e
 
-any_first : {X : Type 0} (P : X → Type 0) (x y : X) (xs : List X) (k : ℕ) → k < length (x ∷ xs) → get_or (x ∷ xs) k y ≡ y → P y → P x ⊎ Any P xs
+pub any_first : {X : Type 0} (P : X → Type 0) (x y : X) (xs : List X) (k : ℕ) → k < length (x ∷ xs) → get_or (x ∷ xs) k y ≡ y → P y → P x ⊎ Any P xs
 any_first P x y xs zero l is p = inl (subst P (sym is) p)
 any_first P x y xs (suc k) l is p = inr (k, y, omega (arith, l), is, p)
 
@@ -187,11 +187,11 @@ none_renamed P mail from to free itself (f ∷ fs) none h =
     by later (inl a) = renamed_by P to f.name (bytes_eq f.name from) (child_part from f.delimiter f.name) (free to itself) child a
     by later (inr a) = later a
 
-not_there : (s : StoreSession) (name : List ℕ) → is_name_refused s.mail name ≡ false → IsThereNow s name → ⊥
+pub not_there : (s : StoreSession) (name : List ℕ) → is_name_refused s.mail name ≡ false → IsThereNow s name → ⊥
 not_there s name free there =
     true≢false (sym there ∙ or_right_none (nat_lt text_limit (length name)) (is_some (folder_called s.mail.folders name)) free)
 
-not_long : (s : StoreSession) (name : List ℕ) → is_name_refused s.mail name ≡ false → IsTooLong name → ⊥
+pub not_long : (s : StoreSession) (name : List ℕ) → is_name_refused s.mail name ≡ false → IsTooLong name → ⊥
 not_long s name free long =
     omega (arith, long, ltb-false text_limit (length name) (or_left_none (nat_lt text_limit (length name)) (is_some (folder_called s.mail.folders name)) free))
 

@@ -13,3 +13,6 @@ pub mod Reading
 pub mod Accepting
 pub mod Landing
 pub mod Others
+pub mod ReadReplies
+pub mod Storing
+pub mod Naming

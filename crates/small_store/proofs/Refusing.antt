@@ -1,18 +1,19 @@
 -- Whether there is a cause to refuse a command, from what was found and tested.
-use Rattle.std.proofs.Common.{◌≡◌, ◌≢◌, ℕ, ℤ, ◌+◌, ◌<◌, ◌≤◌, ◌^◌, min, Bool, true, false, not, List, [], ◌∷◌, Option, Some, None, IsSome, is_some, refl, sym, ap, ◌∙◌, subst, arith, nat_lt, true≢false, bytes_eq}
-use Rattle.std.specs.Prelude.{MatchBool, ◌||◌}
-use Rattle.std.specs.List.{list_any}
+use Rattle.std.proofs.Common.{◌≡◌, ◌≢◌, ℕ, ℤ, ◌<◌, min, Bool, true, false, not, List, [], Option, Some, None, inl, inr, refl, sym, ap, ◌∙◌, subst, arith, nat_lt, true≢false}
+use Rattle.std.specs.Prelude.{MatchBool}
+use Rattle.std.proofs.lemmas.Option.{none-some}
 use Rattle.std.proofs.lemmas.Bool.{ltb-true, ltb-false, false≢true}
 use Rattle.imap_syntax.specs.declared.command.Command.TheVariants as command
-use Rattle.honest_store.specs.StoreMail.{StoreMessage, StoreFolder, StoreMail, folder_called, message_numbered}
+use Rattle.honest_store.specs.StoreMail.{StoreMessage, StoreFolder, folder_called, message_numbered}
 use Rattle.honest_store.specs.Sessions.{StoreSession}
 use Rattle.honest_store.specs.MessageCommands.{flags_after, is_deleted}
 use Rattle.small_answers.specs.Changes.{mail_without, selected_folder}
 use Rattle.small_answers.specs.Limits.{text_limit, total_length, is_last_change, is_last_message}
-use Rattle.small_answers.specs.Causes as causes
-use Rattle.small_answers.specs.Causes.{RefusalCause, IsAtEnd, FlagsTooLong, NumberSpent, are_same_names, changes_flags, ends_message, flags_of_store, selected_message}
-use Rattle.small_store.proofs.Causing.{free_store, free_expunge}
-use Rattle.small_store.proofs.Seeing.{message_seen, nothing_seen}
+use Rattle.imap_syntax.specs.Items.{kept}
+use Rattle.small_answers.specs.Causes.{RefusalCause, IsAtEnd, FlagsTooLong, NoMessage, NotThere, NumberSpent, are_same_names, changes_flags, ends_message, flags_of_store, selected_message}
+use Rattle.small_answers.proofs.Elements.{any_head}
+use Rattle.small_store.proofs.Causing.{free_append, free_expunge, free_move, free_store}
+use Rattle.small_store.proofs.Seeing.{message_seen}
 
 -- a test that says whether it is so
 pub match_by : (b : Bool) (P : Type 0) → (b ≡ true → P) → (b ≡ false → P → ⊥) → MatchBool b P (P → ⊥)
@@ -82,3 +83,46 @@ module _ (s : StoreSession) (uid : ℕ) (selected : s.selected ≢ None) where
     pub expunge_free : (is_last_change f ≡ true → is_deleted m ≡ true → ⊥) → RefusalCause s (command.Expunge uid) → ⊥
     expunge_free room =
         free_expunge s uid selected (λ end e. room (at_end_of is_last_change (selected_folder s) f there end) (sym (ap ends_message held) ∙ e))
+
+-- ---- APPEND
+
+module _ (s : StoreSession) (name : List ℕ) (flags : List (List ℕ)) (date : ℤ) (message : List ℕ) where
+  pub append_nowhere : folder_called s.mail.folders name ≡ None → RefusalCause s (command.Append name flags date message)
+  append_nowhere none = NotThere (any_head (λ (n : List ℕ). folder_called s.mail.folders n ≡ None) name [] none)
+
+  module _ (f : StoreFolder) (there : folder_called s.mail.folders name ≡ Some f) where
+    pub append_spent : is_last_message f ≡ true → RefusalCause s (command.Append name flags date message)
+    append_spent end = NumberSpent (at_end is_last_message (folder_called s.mail.folders name) f there end)
+
+    pub append_tested : (b : Bool) → is_last_message f ≡ false → b ≡ nat_lt text_limit (min (total_length (kept flags)) 18446744073709551615)
+        → MatchBool b (RefusalCause s (command.Append name flags date message)) (RefusalCause s (command.Append name flags date message) → ⊥)
+    append_tested b room test =
+        match_by b (RefusalCause s (command.Append name flags date message)) (λ yes. FlagsTooLong (long (total_length (kept flags)) b test yes))
+        (λ no. free_append s name flags date message (λ none. none-some f (sym none ∙ there)) (short (total_length (kept flags)) b test no)
+        (not_at_end is_last_message (folder_called s.mail.folders name) f there room))
+
+-- ---- MOVE
+
+module _ (s : StoreSession) (uid : ℕ) (name : List ℕ) where
+  pub move_nowhere : folder_called s.mail.folders name ≡ None → RefusalCause s (command.Move uid name)
+  move_nowhere none = NotThere (any_head (λ (n : List ℕ). folder_called s.mail.folders n ≡ None) name [] none)
+
+  pub move_nothing : selected_message s uid ≡ None → RefusalCause s (command.Move uid name)
+  move_nothing none = NoMessage none
+
+  module _ (f : StoreFolder) (there : selected_folder s ≡ Some f) where
+    pub move_spent : is_last_change f ≡ true → RefusalCause s (command.Move uid name)
+    move_spent end = NumberSpent (inl (at_end is_last_change (selected_folder s) f there end))
+
+    pub move_tested : (b : Bool) (m : StoreMessage) (t target : StoreFolder) → (s.selected ≡ None → ⊥) → folder_called s.mail.folders name ≡ Some target
+        → message_numbered f.messages uid ≡ Some m → is_last_change f ≡ false
+        → folder_called (mail_without s.mail (Some f) uid).folders name ≡ Some t → b ≡ is_last_message t
+        → MatchBool b (RefusalCause s (command.Move uid name)) (RefusalCause s (command.Move uid name) → ⊥)
+    move_tested b m t target selected named held room to test =
+        let found : folder_called (mail_without s.mail (selected_folder s) uid).folders name ≡ Some t =
+        ap (λ (o : Option StoreFolder). folder_called (mail_without s.mail o uid).folders name) there ∙ to in
+        match_by b (RefusalCause s (command.Move uid name))
+        (λ yes. NumberSpent (inr (at_end is_last_message (folder_called (mail_without s.mail (selected_folder s) uid).folders name) t found (sym test ∙ yes))))
+        (λ no. free_move s uid name selected (λ none. none-some target (sym none ∙ named)) (λ none. none-some m (sym none ∙ message_seen s f uid (Some m) there held))
+        (not_at_end is_last_change (selected_folder s) f there room)
+        (not_at_end is_last_message (folder_called (mail_without s.mail (selected_folder s) uid).folders name) t found (sym test ∙ no)))

@@ -1,10 +1,10 @@
 // The store: its mail, and a session over it.
-ghost use Rattle.std.specs.Prelude.{◌≡◌, ◌≢◌, ◌⊎◌, ◌<◌, ◌^◌, ◌++◌, ℕ, [], List, Option, Some, None, IfOk, OnErr, OnOk, MatchOption};
+ghost use Rattle.std.specs.Prelude.{◌≡◌, ◌≢◌, ◌⊎◌, ◌<◌, ◌^◌, ◌++◌, ℕ, [], length, List, Option, Some, None, IfOk, OnErr, OnOk, MatchOption};
 ghost use Rattle.std.specs.List.{flat_map};
 ghost use Rattle.imap_syntax.specs.declared.command.Command.TheVariants as commands;
 ghost use Rattle.honest_store.specs.StoreMail.{folder_called, StoreFolder};
 ghost use Rattle.honest_store.specs.Sessions.{StoreAnswer, StoreSession};
-ghost use Rattle.honest_store.specs.WellFormed.{IsStoreFolder};
+ghost use Rattle.honest_store.specs.WellFormed.{AscendByUid, IsStoreFolder};
 ghost use Rattle.honest_store.specs.Honest.{after_no};
 ghost use Rattle.small_answers.specs.Changes.{first_session, next_validity, selected_folder};
 ghost use Rattle.small_mail.specs.Places.{IsFolderAt};
@@ -14,6 +14,7 @@ ghost use Rattle.small_answers.specs.Causes.{RefusalCause};
 ghost use Rattle.small_answers.specs.SmallMail.{IsSmallMail};
 ghost use Rattle.small_responses.specs.AnswerTexts.{text_of_answer};
 ghost use Rattle.small_responses.specs.Tellable.{IsTellableCommand, IsTellableMail};
+ghost use Rattle.small_store.specs.reading.Fetches as fetches;
 ghost use Rattle.small_store.specs.reading.Steps.{Gives, ReadsMessages, UsesMessages};
 ghost use Rattle.store_responses.specs.ResponseTexts.{text_of_response};
 
@@ -25,7 +26,7 @@ use crate::told::{list_responses, two_names};
 use gate_world::Bytes;
 use imap_syntax::{Code, Command, Response};
 use small_mail::names::told_name;
-use small_mail::{StoredFolder, StoredMail};
+use small_mail::{StoredFolder, StoredMail, StoredMessage};
 use std::alloc::{AllocError, Global};
 use std::marker::Model;
 use store_responses::push_response;
@@ -271,6 +272,22 @@ fn enable(alloc: Global) -> Result<Answer, AllocError>
     Ok(Answer::told(responses))
 }
 
+/// The answer that tells of the messages that are asked for.
+fn told_of(
+    alloc: Global,
+    messages: &[StoredMessage],
+    which: Which,
+    asked: Asked,
+) -> Result<Answer, AllocError>
+    requires count { length messages.now < 4294967296 }
+    requires order { AscendByUid 0 messages.now }
+    ensures { IfOk result (λ a. a ≡ fetches.answer_of which asked messages.now) }
+{
+    let mut responses = Vec::new(alloc);
+    push_fetches(alloc, &mut responses, messages, which, asked)?;
+    Ok(Answer::told(responses))
+}
+
 /// What a fetch tells in the folder.
 fn read_messages(
     alloc: Global,
@@ -282,23 +299,30 @@ fn read_messages(
         → a ≡ answers.ok_answer (ok_reply s command.now)) }
 {
     let messages = folder.messages();
-    let mut responses = Vec::new(alloc);
     match command {
-        Command::FetchFlags => push_fetches(alloc, &mut responses, messages, Which::All, Asked::Flags)?,
+        Command::FetchFlags => told_of(alloc, messages, Which::All, Asked::Flags),
         Command::FetchSlice { from, to, modseq } => {
             let which = Which::Range { from: *from, to: *to };
-            push_fetches(alloc, &mut responses, messages, which, Asked::Header { with_modseq: *modseq })?
+            let asked = Asked::Header {
+                with_modseq: *modseq,
+            };
+            told_of(alloc, messages, which, asked)
         }
         Command::FetchNew { from, modseq } => {
-            let which = Which::FromOn { from: *from, last: greatest_uid(messages) };
-            push_fetches(alloc, &mut responses, messages, which, Asked::Header { with_modseq: *modseq })?
+            let which = Which::FromOn {
+                from: *from,
+                last: greatest_uid(messages),
+            };
+            let asked = Asked::Header {
+                with_modseq: *modseq,
+            };
+            told_of(alloc, messages, which, asked)
         }
         Command::FetchBody { uid } => {
-            push_fetches(alloc, &mut responses, messages, Which::One { uid: *uid }, Asked::Body)?
+            told_of(alloc, messages, Which::One { uid: *uid }, Asked::Body)
         }
-        _ => (),
+        _ => Ok(Answer::done(alloc)),
     }
-    Ok(Answer::told(responses))
 }
 
 /// The octets of the answer under the tag.

@@ -20,7 +20,10 @@ use std::alloc::{AllocError, Global};
 fn is_name_refused(mail: &StoredMail, name: &[u8]) -> bool
     ensures { result ≡ names.is_name_refused mail.now name.now }
 {
-    MAX_TEXT_OCTETS < name.len() || mail.named(name).is_some()
+    if MAX_TEXT_OCTETS < name.len() {
+        return true;
+    }
+    mail.named(name).is_some()
 }
 
 /// Whether a folder stands below the name.
@@ -113,7 +116,13 @@ impl StoreMachine {
     fn refuses_create(&self, name: &[u8]) -> bool
         ensures { MatchBool result (RefusalCause self.now (commands.Create name.now)) (RefusalCause self.now (commands.Create name.now) → ⊥) }
     {
-        is_name_refused(&self.mail, told_name(name)) || self.mail.next_validity().is_none()
+        if is_name_refused(&self.mail, told_name(name)) {
+            return true;
+        }
+        match self.mail.next_validity() {
+            Some(_validity) => false,
+            None => true,
+        }
     }
 
     /// DELETE (section 6.3.5).
@@ -121,9 +130,13 @@ impl StoreMachine {
         ensures { MatchBool result (RefusalCause self.now (commands.Delete name.now)) (RefusalCause self.now (commands.Delete name.now) → ⊥) }
     {
         let told = told_name(name);
-        told == b"INBOX".as_slice()
-            || self.mail.named(name).is_none()
-            || has_children(self.mail.folders(), told)
+        if told == b"INBOX".as_slice() {
+            return true;
+        }
+        let Some(_folder) = self.mail.named(name) else {
+            return true;
+        };
+        has_children(self.mail.folders(), told)
     }
 
     /// RENAME (section 6.3.6).
@@ -134,9 +147,12 @@ impl StoreMachine {
     {
         let told_from = told_name(from);
         let to = told_name(to);
-        if told_from == b"INBOX".as_slice() || self.mail.named(from).is_none() {
+        if told_from == b"INBOX".as_slice() {
             return Ok(true);
         }
+        let Some(_folder) = self.mail.named(from) else {
+            return Ok(true);
+        };
         if is_name_refused(&self.mail, to) {
             return Ok(true);
         }
@@ -166,10 +182,13 @@ impl StoreMachine {
             return Ok(false);
         };
         let flags = flags_after(self.alloc, add, flags.as_slice(), message.flags().as_slice())?;
-        if folder.is_last_change() && flags != *message.flags() {
+        if MAX_TEXT_OCTETS < total_len(flags.as_slice()) {
             return Ok(true);
         }
-        Ok(MAX_TEXT_OCTETS < total_len(flags.as_slice()))
+        if !folder.is_last_change() {
+            return Ok(false);
+        }
+        Ok(flags != *message.flags())
     }
 
     /// EXPUNGE while a folder is selected (section 6.4.9).
@@ -183,7 +202,10 @@ impl StoreMachine {
         let Some(message) = folder.message(uid) else {
             return false;
         };
-        folder.is_last_change() && has_name(message.flags().as_slice(), DELETED)
+        if !folder.is_last_change() {
+            return false;
+        }
+        has_name(message.flags().as_slice(), DELETED)
     }
 
     /// MOVE while a folder is selected (section 6.4.8).
@@ -199,7 +221,10 @@ impl StoreMachine {
             return true;
         };
         let folder = &self.mail.folders()[source];
-        if folder.place_of(uid).is_none() || folder.is_last_change() {
+        let Some(_at) = folder.place_of(uid) else {
+            return true;
+        };
+        if folder.is_last_change() {
             return true;
         }
         is_full_for_move(&self.mail, source, target)

@@ -1,11 +1,14 @@
 -- What a fetch tells of a message, and of which messages.
-use Rattle.std.specs.Prelude.{ℕ, ◌==◌, nat_lt, nat_le, ◌||◌, Bool, true, List, [], ◌∷◌, Some, None, take, if◌then◌else◌}
+use Rattle.std.specs.Prelude.{ℕ, ◌==◌, nat_lt, nat_le, ◌||◌, Bool, true, List, [], ◌∷◌, Some, None, filter, map, take, if◌then◌else◌}
 use Rattle.imap_syntax.specs.declared.response.Response.{Response}
 use Rattle.imap_syntax.specs.declared.response.Response.TheVariants as response
 use Rattle.imap_syntax.specs.declared.response.FetchItems.{FetchItems}
+use Rattle.imap_syntax.specs.declared.code.Code.TheVariants as code
+use Rattle.imap_syntax.specs.declared.response.Status.TheVariants as status
 use Rattle.imap_syntax.specs.Items.{no_items, body_limit}
 use Rattle.honest_store.specs.StoreMail.{StoreMessage}
 use Rattle.honest_store.specs.Headers.{header_told}
+use Rattle.honest_store.specs.Sessions.{StoreAnswer}
 use Rattle.small_answers.specs.ToldResponses.{is_between, sequence_number}
 use Rattle.small_store.specs.declared.fetches.Asked.{Asked}
 pub use Rattle.small_store.specs.declared.fetches.Asked.TheVariants as asked
@@ -39,3 +42,7 @@ response_of a ms m = response.Fetch (sequence_number ms m) (items_of a m)
 -- the message of this sequence number, where it is asked for
 abbrev pub told_at : Which → Asked → ℕ → StoreMessage → List Response
 told_at w a seq m = if is_asked w m then response.Fetch seq (items_of a m) ∷ [] else []
+
+-- the answer that tells of those that are asked for
+abbrev pub answer_of : Which → Asked → List StoreMessage → StoreAnswer
+answer_of w a ms = record { responses = map (response_of a ms) (filter (is_asked w) ms); status = status.Ok; code = code.Absent }
