@@ -5,7 +5,6 @@ pub mod Stores
 pub mod Moving
 pub mod Calls
 pub mod Telling
-pub mod Elements
 pub mod Replying
 pub mod Seeing
 pub mod Refusing
