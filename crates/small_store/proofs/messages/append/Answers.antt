@@ -18,9 +18,10 @@ returns-clause-ok c = λ f selected at_f.
     let read = read_is c.folders.result.now mail.folders c.folders.ensures c.args.place c.index-folders-place.result f c.index-folders-place.is at_f in
     let validity : c.validity-validity.result ≡ f.validity = c.validity-validity.ensures.validity ∙ ap (λ (g : StoreFolder). g.validity) read in
     let flags_are : c.in_ok-flags.flags ≡ kept c.args.flags.now = c.in_ok-flags.ensures ∙ ap kept (append-nil c.as_slice.result.now ∙ c.as_slice.ensures) in
+    let dated : c.date_kept.result ≡ nearest_date c.args.date = c.date_kept.ensures in
     let due : c.put_message.new.self ≡ mail_with mail (Some f) (message_of (kept c.args.flags.now) (nearest_date c.args.date) c.args.message.now) =
     put.1 ∙ (ap (λ (fs : List (List ℕ)). mail_with mail (Some f) (message_of fs c.date_kept.result c.in_ok-octets.octets)) flags_are
-    ∙ (ap (λ (d : ℤ). mail_with mail (Some f) (message_of (kept c.args.flags.now) d c.in_ok-octets.octets)) c.date_kept.ensures
+    ∙ (ap (λ (d : ℤ). mail_with mail (Some f) (message_of (kept c.args.flags.now) d c.in_ok-octets.octets)) dated
     ∙ ap (λ (t : List ℕ). mail_with mail (Some f) (message_of (kept c.args.flags.now) (nearest_date c.args.date) t)) c.in_ok-octets.ensures)) in
     record {
       answer = c.coded.ensures ∙ (ap (λ (rs : List Response). record { responses = rs; status = status.Ok; code = code.AppendUid c.validity-validity.result c.in_ok-uid.uid }) c.new.ensures.items
