@@ -1,4 +1,4 @@
-use Rattle.std.proofs.Common.{◌≡◌, ◌∙◌, ◌+◌, ◌++◌, ◌∷◌, [], ℕ, List, None, true, ap, sym, bytes_eq, codes, rules}
+use Rattle.std.proofs.Common.{◌≡◌, ◌∙◌, ◌+◌, ◌++◌, ◌∷◌, [], ℕ, List, None, true, false, ap, sym, bytes_eq, codes, rules}
 use Rattle.std.specs.List.{list_any}
 use Rattle.imap_syntax.specs.declared.code.Code.TheVariants as code
 use Rattle.imap_syntax.specs.declared.response.Response.{Response}
