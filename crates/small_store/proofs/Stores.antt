@@ -57,5 +57,5 @@ pub flags_told : (ms : List StoreMessage) (i : ℕ) (m : StoreMessage) (flags : 
     → told_change (flagged_messages ms m.uid flags q) m.uid ≡ response.Fetch (i + 1) (record no_items { uid = Some m.uid; flags = Some flags; modseq = Some q }) ∷ []
 flags_told ms i m flags q ascend there =
     let there_now : slice_get (flagged_messages ms m.uid flags q) i ≡ Some (with_flags_at m flags q) =
-        flagged_there m.uid flags q ms i m there ∙ ap (λ (b : Bool). Some (if b then with_flags_at m flags q else m)) (eq-eqb m.uid m.uid refl) in
+    flagged_there m.uid flags q ms i m there ∙ ap (λ (b : Bool). Some (if b then with_flags_at m flags q else m)) (eq-eqb m.uid m.uid refl) in
     change_told (flagged_messages ms m.uid flags q) i (with_flags_at m flags q) (ascend_flagged m.uid flags q 0 ms ascend) there_now

@@ -18,9 +18,7 @@ pub enum Asked {
     Flags,
     /// Flags and mod-sequence.
     Change,
-    Header {
-        with_modseq: bool,
-    },
+    Header { with_modseq: bool },
     Body,
 }
 
@@ -29,22 +27,12 @@ pub enum Asked {
 pub enum Which {
     All,
     /// Those whose UIDs are from one to another, which stand in either order (RFC 9051 section 9, seq-range).
-    Range {
-        from: u32,
-        to: u32,
-    },
+    Range { from: u32, to: u32 },
     /// Those whose UIDs are from one on, and the last one (RFC 9051 section 9, seq-range).
-    FromOn {
-        from: u32,
-        last: u32,
-    },
-    One {
-        uid: u32,
-    },
+    FromOn { from: u32, last: u32 },
+    One { uid: u32 },
     /// Those that changed since the mod-sequence.
-    ChangedSince {
-        modseq: u64,
-    },
+    ChangedSince { modseq: u64 },
 }
 
 /// Whether the message is told of.
@@ -129,11 +117,7 @@ fn body_items(alloc: Global, message: &StoredMessage) -> Result<FetchItems, Allo
 }
 
 /// What is told of the message.
-fn items_of(
-    alloc: Global,
-    message: &StoredMessage,
-    asked: Asked,
-) -> Result<FetchItems, AllocError>
+fn items_of(alloc: Global, message: &StoredMessage, asked: Asked) -> Result<FetchItems, AllocError>
     ensures { IfOk result (λ items. items ≡ fetches.items_of asked message.now) }
 {
     match asked {

@@ -81,7 +81,13 @@ pub fn store(
     let message = &folder.messages()[at];
     let flags = flags_after(alloc, add, flags.as_slice(), message.flags().as_slice())?;
     if flags == *message.flags() {
-        return tell_flags(alloc, at, uid, message.flags().share(alloc)?, message.modseq());
+        return tell_flags(
+            alloc,
+            at,
+            uid,
+            message.flags().share(alloc)?,
+            message.modseq(),
+        );
     }
     let answer = tell_flags(alloc, at, uid, flags.share(alloc)?, folder.highest() + 1)?;
     mail.set_flags(place, at, flags);
@@ -205,7 +211,7 @@ pub fn append(
     requires whole { IsStoreMail mail.old }
     ensures ok { IfOk result (λ a. (f : StoreFolder) (selected : Option ℕ) → IsFolderAt mail.old place f
         → Gives (answers.append_reply (session_of mail.old selected) (sent_message flags.now date message.now 0 0) (Some f)) a
-            (session_of mail.new selected)) }
+        (session_of mail.new selected)) }
     ensures err { OnErr result (mail.new ≡ mail.old) }
 {
     let flags = kept(alloc, flags.as_slice(), &[])?;

@@ -7,8 +7,6 @@ use Rattle.honest_store.specs.StoreMail.{StoreFolder, StoreMail, StoreMessage}
 use Rattle.small_answers.specs.ToldResponses.{ok_response, set_of}
 use Rattle.small_store.specs.reading.Steps.{session_of}
 use Rattle.small_store.proofs.Moving.{numbers_kept}
-use Rattle.small_store.proofs.Landing.{landing_at, landing_called}
-use Rattle.small_store.proofs.Seeing.{message_seen}
 use Rattle.small_store.proofs.Reading.{read_at, read_is}
 use Rattle.small_store.proofs.messages.move_out.Goals as goal
 

@@ -42,9 +42,9 @@ returns-then-eq-clause-ok c =
     let test : c.eq.result ≡ are_same_names c.in_ok-flags.flags y.flags = c.eq.ensures ∙ ap (are_same_names c.in_ok-flags.flags) c.flags-3.ensures in
     IfOk-weaker c.tell_flags.result (λ (a : StoreAnswer). a ≡ flags_answer (c.in-Some.at + 1) c.args.uid c.in_ok-share.field-0 c.modseq.result) _
     (λ a a_is f selected at_f.
-      gives_same mail c.args.place c.in-Some.at c.args.uid c.folders.result.now c.messages.result.now x f y c.folders.ensures c.index-folders-place.is c.in-Some.ensures
-      c.messages.ensures c.index-messages-at.is at_f c.requires.whole selected c.args.add c.args.flags.now c.in_ok-flags.flags a c.eq.result flags_is test
-      c.in_ok-share.field-0 c.modseq.result c.if-eq.true (c.in_ok-share.ensures ∙ c.flags-then-eq.ensures) c.modseq.ensures a_is)
+    gives_same mail c.args.place c.in-Some.at c.args.uid c.folders.result.now c.messages.result.now x f y c.folders.ensures c.index-folders-place.is c.in-Some.ensures
+    c.messages.ensures c.index-messages-at.is at_f c.requires.whole selected c.args.add c.args.flags.now c.in_ok-flags.flags a c.eq.result flags_is test
+    c.in_ok-share.field-0 c.modseq.result c.if-eq.true (c.in_ok-share.ensures ∙ c.flags-then-eq.ensures) c.modseq.ensures a_is)
     c.tell_flags.ensures
 
 pub set_flags-requires-clause-room : goal.set_flags-requires-clause-room
