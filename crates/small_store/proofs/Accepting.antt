@@ -39,17 +39,13 @@ module _ (s : StoreSession) where
       where
         by : (b : Bool) → are_same_names (flags_after add flags m.flags) m.flags ≡ b → b ≡ true
         by true e = refl
-        by false e = absurd (free (NumberSpent (
-          at_end is_last_change (selected_folder s) f there end,
-          ap (changes_flags add flags) (message_seen s f uid (Some m) there held) ∙ ap not e,
-        )))
+        by false e = absurd (free (NumberSpent (at_end is_last_change (selected_folder s) f there end,
+          ap (changes_flags add flags) (message_seen s f uid (Some m) there held) ∙ ap not e)))
 
     pub expunge_room : (m : StoreMessage) → (RefusalCause s (command.Expunge uid) → ⊥) → message_numbered f.messages uid ≡ Some m → is_last_change f ≡ true → is_deleted m ≡ false
     expunge_room m free held end =
-        false_from_ne_true (is_deleted m) (λ deleted. free (NumberSpent (
-          at_end is_last_change (selected_folder s) f there end,
-          ap ends_message (message_seen s f uid (Some m) there held) ∙ deleted,
-        )))
+        false_from_ne_true (is_deleted m) (λ deleted. free (NumberSpent (at_end is_last_change (selected_folder s) f there end,
+          ap ends_message (message_seen s f uid (Some m) there held) ∙ deleted)))
 
     module _ (name : List ℕ) (free : RefusalCause s (command.Move uid name) → ⊥) where
       pub move_there : folder_called s.mail.folders name ≢ None

@@ -33,14 +33,10 @@ pub placed_here : (fs : List StoreFolder) (i n : ℕ) (f : StoreFolder) (o : Opt
     → slice_get (messages_in_order (drop i fs)) n ≡ o
     → (g : StoreFolder) × (m : StoreMessage) × (slice_get fs i ≡ Some g) × (slice_get g.messages n ≡ Some m) × (o ≡ Some (g, m))
 placed_here fs i n f o l is within so_far =
-    let m = element f.messages n within in (
-      f,
-      m.0,
-      slice_get_read fs (length fs) i f refl l is,
-      m.1,
-      sym so_far ∙ (ap (λ (ps : List (StoreFolder × StoreMessage)). slice_get ps n) (folder_more fs i f l is)
-          ∙ (at_front f f.messages (messages_in_order (drop (i + 1) fs)) n m.0 within ∙ ap (λ (x : StoreMessage). Some (f, x)) (get_or_from_slice_get f.messages n m.0 m.0 m.1))),
-    )
+    let m = element f.messages n within in
+    (f, m.0, slice_get_read fs (length fs) i f refl l is, m.1,
+    sym so_far ∙ (ap (λ (ps : List (StoreFolder × StoreMessage)). slice_get ps n) (folder_more fs i f l is)
+    ∙ (at_front f f.messages (messages_in_order (drop (i + 1) fs)) n m.0 within ∙ ap (λ (x : StoreMessage). Some (f, x)) (get_or_from_slice_get f.messages n m.0 m.0 m.1))))
 
 -- it is behind this folder
 pub placed_behind : (fs : List StoreFolder) (i n : ℕ) (f : StoreFolder) (o : Option (StoreFolder × StoreMessage)) → i < length fs → f ≡ get_or fs i f → length f.messages ≤ n
