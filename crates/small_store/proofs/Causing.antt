@@ -1,5 +1,6 @@
 -- The causes to refuse each command.
-use Rattle.std.proofs.Common.{◌≡◌, ◌⊎◌, inl, inr, ℕ, zero, suc, ◌<◌, ◌||◌, Bool, true, false, List, [], ◌∷◌, Option, Some, None, length, get_or, refl, sym, subst, ap, ◌∙◌, ◌++◌, arith, Any, IsSome, is_some, bytes_eq, nat_lt, if◌then◌else◌, true≢false}
+use Rattle.std.proofs.Common.{◌≡◌, ◌⊎◌, inl, inr, ℕ, zero, suc, ◌<◌, ◌||◌, Bool, true, false, List, [], ◌∷◌, ◌++◌, Option, Some, None, length, get_or, refl, sym, subst, ap, ◌∙◌}
+use Rattle.std.proofs.Common.{arith, Any, IsSome, is_some, bytes_eq, nat_lt, if◌then◌else◌, true≢false}
 use Rattle.std.specs.List.{flat_map, list_any}
 use Rattle.std.proofs.lemmas.Bool.{ltb-false}
 use Rattle.imap_syntax.specs.declared.command.Command.{Command}
@@ -11,7 +12,8 @@ use Rattle.honest_store.specs.Sessions.{StoreSession}
 use Rattle.small_answers.specs.Changes.{mail_without, selected_folder}
 use Rattle.small_answers.specs.Limits.{text_limit, total_length, is_last_change, is_last_message}
 use Rattle.small_answers.specs.Causes as causes
-use Rattle.small_answers.specs.Causes.{RefusalCause, IsAtEnd, NotThere, IsThere, IsInbox, HasChildren, NothingSelected, NoMessage, NameTooLong, FlagsTooLong, NumberSpent, NeedsSelected}
+use Rattle.small_answers.specs.Causes.{RefusalCause, NotThere, IsThere, IsInbox, HasChildren, NothingSelected, NoMessage, NameTooLong, FlagsTooLong, NumberSpent}
+use Rattle.small_answers.specs.Causes.{IsAtEnd, NeedsSelected}
 use Rattle.small_answers.proofs.Elements.{any_head, any_of_none, any_tail}
 use Rattle.small_store.specs.reading.Names.{is_name_refused, is_part_refused, is_child_refused}
 
@@ -104,8 +106,8 @@ free_body uid s needs = free_by s (command.FetchBody uid) refl refl (λ a. a) (�
 pub free_delete : (s : StoreSession) (name : List ℕ) → (folder_name name ≡ inbox_name → ⊥) → (IsNotThere s name → ⊥)
     → (Any (λ (f : StoreFolder). IsSome (child_part (folder_name name) f.delimiter f.name)) s.mail.folders → ⊥) → RefusalCause s (command.Delete name) → ⊥
 free_delete s name other there childless =
-    none_of_nine s (command.Delete name) (λ a. there (only_one (IsNotThere s) name a)) (any_of_none (IsThereNow s)) other childless (λ a e. a) (λ a. a) (any_of_none IsTooLong)
-    no_flags (λ a. a)
+    none_of_nine s (command.Delete name) (λ a. there (only_one (IsNotThere s) name a)) (any_of_none (IsThereNow s)) other childless (λ a e. a) (λ a. a)
+    (any_of_none IsTooLong) no_flags (λ a. a)
 
 -- ---- RENAME
 
@@ -184,8 +186,8 @@ pub free_move : (s : StoreSession) (uid : ℕ) (name : List ℕ) → (s.selected
     → (IsAtEnd is_last_change (selected_folder s) → ⊥) → (IsAtEnd is_last_message (folder_called (mail_without s.mail (selected_folder s) uid).folders name) → ⊥)
     → RefusalCause s (command.Move uid name) → ⊥
 free_move s uid name selected there held room room_there =
-    none_of_nine s (command.Move uid name) (λ a. there (only_one (IsNotThere s) name a)) (any_of_none (IsThereNow s)) (λ a. a) (λ a. a) (λ a e. selected e) held (any_of_none IsTooLong)
-    no_flags by
+    none_of_nine s (command.Move uid name) (λ a. there (only_one (IsNotThere s) name a)) (any_of_none (IsThereNow s)) (λ a. a) (λ a. a) (λ a e. selected e) held
+    (any_of_none IsTooLong) no_flags by
   where
     by : IsAtEnd is_last_change (selected_folder s) ⊎ IsAtEnd is_last_message (folder_called (mail_without s.mail (selected_folder s) uid).folders name) → ⊥
     by (inl a) = room a

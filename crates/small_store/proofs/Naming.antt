@@ -1,6 +1,7 @@
 -- Causes to refuse a command on names.
-use Rattle.std.proofs.Common.{◌≡◌, ℕ, ◌<◌, ◌⊎◌, inl, inr, Bool, true, false, List, [], ◌∷◌, ◌++◌, Option, Some, None, length, bytes_eq, refl, sym, ap, ◌∙◌, subst, arith, Any, IsSome, is_some, nat_lt, if◌then◌else◌, eq-eqb}
-use Rattle.std.specs.Prelude.{◌||◌, MatchBool}
+use Rattle.std.proofs.Common.{◌≡◌, ℕ, ◌<◌, ◌⊎◌, inl, inr, Bool, true, false, ◌||◌, List, [], ◌∷◌, ◌++◌, Option, Some, None, length, bytes_eq, refl, sym, ap, ◌∙◌, subst, arith}
+use Rattle.std.proofs.Common.{Any, IsSome, is_some, nat_lt, if◌then◌else◌, eq-eqb}
+use Rattle.std.specs.Prelude.{MatchBool}
 use Rattle.std.specs.List.{flat_map, list_any}
 use Rattle.std.proofs.lemmas.Bool.{ltb-true, false≢true, true≢false}
 use Rattle.std.proofs.lemmas.Option.{none-some}
@@ -70,8 +71,8 @@ module _ (s : StoreSession) (name : List ℕ) where
       → folder_called s.mail.folders name ≡ Some f → shown ≡ s.mail.folders → b ≡ list_any (is_below told) shown
       → MatchBool b (RefusalCause s (command.Delete name)) (RefusalCause s (command.Delete name) → ⊥)
   delete_tested told shown f b told_is other there shown_is test =
-      match_by b (RefusalCause s (command.Delete name)) (λ yes. delete_below (sym found ∙ yes))
-      (λ no. delete_free (other_name told (folder_name name) told_is other) (λ none. none-some f (sym none ∙ there)) (sym found ∙ no))
+      match_by b (RefusalCause s (command.Delete name)) (λ is. delete_below (sym found ∙ is))
+      (λ fails. delete_free (other_name told (folder_name name) told_is other) (λ none. none-some f (sym none ∙ there)) (sym found ∙ fails))
     where
       found : b ≡ list_any (is_below (folder_name name)) s.mail.folders
       found = test ∙ (ap (λ (t : List ℕ). list_any (is_below t) shown) told_is ∙ ap (list_any (is_below (folder_name name))) shown_is)
@@ -88,7 +89,8 @@ not_below name (Some d) rest e = none-some rest (sym (ap (from_delimiter d) (its
     itself (c ∷ t) = ap (λ (b : Bool). if b then text_after t t else None) (eq-eqb c c refl) ∙ itself t
 
 module _ (s : StoreSession) (from to : List ℕ) where
-  some_made : (P : List ℕ → Type 0) (fs : List StoreFolder) → Any (λ (f : StoreFolder). Any P (causes.names_renamed from to f)) fs → Any P (flat_map (causes.names_renamed from to) fs)
+  some_made : (P : List ℕ → Type 0) (fs : List StoreFolder) → Any (λ (f : StoreFolder). Any P (causes.names_renamed from to f)) fs
+      → Any P (flat_map (causes.names_renamed from to) fs)
   some_made P [] h = absurd (omega (arith, h.2))
   some_made P (f ∷ fs) h =
       by (some_made P fs) (any_first (λ (g : StoreFolder). Any P (causes.names_renamed from to g)) f h.1 fs h.0 h.2 h.3 h.4)
@@ -99,7 +101,8 @@ module _ (s : StoreSession) (from to : List ℕ) where
       by later (inl a) = any_left P (causes.names_renamed from to f) (flat_map (causes.names_renamed from to) fs) a
       by later (inr a) = any_right P (causes.names_renamed from to f) (flat_map (causes.names_renamed from to) fs) (later a)
 
-  renamed_is : (P : List ℕ → Type 0) (f : StoreFolder) (rest : List ℕ) → child_part from f.delimiter f.name ≡ Some rest → P (to ++ rest) → Any P (causes.names_renamed from to f)
+  renamed_is : (P : List ℕ → Type 0) (f : StoreFolder) (rest : List ℕ) → child_part from f.delimiter f.name ≡ Some rest → P (to ++ rest)
+      → Any P (causes.names_renamed from to f)
   renamed_is P f rest e p = by (bytes_eq f.name from) refl (child_part from f.delimiter f.name) e
     where
       by : (b : Bool) → bytes_eq f.name from ≡ b → (o : Option (List ℕ)) → o ≡ Some rest
@@ -141,9 +144,9 @@ module _ (s : StoreSession) (from to : List ℕ) where
       → (b : Bool) → b ≡ list_any (is_child_refused s.mail told_from told_to) s.mail.folders
       → MatchBool b (RefusalCause s (command.Rename from to)) (RefusalCause s (command.Rename from to) → ⊥)
   rename_tested told_from told_to f from_is to_is other there free b test =
-      match_by b (RefusalCause s (command.Rename from to)) (λ yes. rename_child (sym found ∙ yes))
-      (λ no. free_rename s from to (other_name told_from (folder_name from) from_is other) (λ none. none-some f (sym none ∙ there))
-      (ap (is_name_refused s.mail) (sym to_is) ∙ free) (sym found ∙ no))
+      match_by b (RefusalCause s (command.Rename from to)) (λ is. rename_child (sym found ∙ is))
+      (λ fails. free_rename s from to (other_name told_from (folder_name from) from_is other) (λ none. none-some f (sym none ∙ there))
+      (ap (is_name_refused s.mail) (sym to_is) ∙ free) (sym found ∙ fails))
     where
       found : b ≡ list_any (is_child_refused s.mail (folder_name from) (folder_name to)) s.mail.folders
       found =

@@ -19,12 +19,12 @@ use Rattle.small_store.proofs.Seeing.{message_seen}
 
 -- a test that says whether it is so
 pub match_by : (b : Bool) (P : Type 0) → (b ≡ true → P) → (b ≡ false → P → ⊥) → MatchBool b P (P → ⊥)
-match_by true P yes never = yes refl
-match_by false P yes never = never refl
+match_by true P holds never = holds refl
+match_by false P holds never = never refl
 
 -- where it is not so
 pub never_by : (b : Bool) (P : Type 0) → b ≡ false → MatchBool b P (P → ⊥) → P → ⊥
-never_by b P no m = subst (λ (x : Bool). MatchBool x P (P → ⊥)) no m
+never_by b P fails m = subst (λ (x : Bool). MatchBool x P (P → ⊥)) fails m
 
 at_end_of : (test : StoreFolder → Bool) (o : Option StoreFolder) (f : StoreFolder) → o ≡ Some f → IsAtEnd test o → test f ≡ true
 at_end_of test o f there end = subst (IsAtEnd test) there end
@@ -47,10 +47,10 @@ module _ (s : StoreSession) (uid : ℕ) (name : List ℕ) where
         let found : folder_called (mail_without s.mail (selected_folder s) uid).folders name ≡ Some t =
         ap (λ (o : Option StoreFolder). folder_called (mail_without s.mail o uid).folders name) there ∙ to in
         match_by b (RefusalCause s (command.Move uid name))
-        (λ yes. NumberSpent (inr (at_end is_last_message (folder_called (mail_without s.mail (selected_folder s) uid).folders name) t found (sym test ∙ yes))))
-        (λ no. free_move s uid name selected (λ none. none-some target (sym none ∙ named)) (λ none. none-some m (sym none ∙ message_seen s f uid (Some m) there held))
+        (λ is. NumberSpent (inr (at_end is_last_message (folder_called (mail_without s.mail (selected_folder s) uid).folders name) t found (sym test ∙ is))))
+        (λ fails. free_move s uid name selected (λ none. none-some target (sym none ∙ named)) (λ none. none-some m (sym none ∙ message_seen s f uid (Some m) there held))
         (not_at_end is_last_change (selected_folder s) f there room)
-        (not_at_end is_last_message (folder_called (mail_without s.mail (selected_folder s) uid).folders name) t found (sym test ∙ no)))
+        (not_at_end is_last_message (folder_called (mail_without s.mail (selected_folder s) uid).folders name) t found (sym test ∙ fails)))
 
   -- from the tests, in their order
   pub move_full : (small : IsSmallMail s.mail) (source target at : ℕ) (f t : StoreFolder) (m : StoreMessage) (b : Bool) → s.selected ≢ None

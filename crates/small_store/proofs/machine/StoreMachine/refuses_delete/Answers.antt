@@ -1,4 +1,4 @@
-use Rattle.std.proofs.Common.{◌≡◌, ◌∙◌, List, ℕ, ap, bytes_eq, false, subst, sym}
+use Rattle.std.proofs.Common.{◌≡◌, ◌∙◌, ap, bytes_eq, false, subst, sym}
 use Rattle.std.specs.Prelude.{MatchBool}
 use Rattle.imap_syntax.specs.declared.command.Command.TheVariants as command
 use Rattle.honest_store.specs.FolderChanges.{inbox_name}

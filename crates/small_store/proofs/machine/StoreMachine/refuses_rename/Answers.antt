@@ -1,4 +1,4 @@
-use Rattle.std.proofs.Common.{◌≡◌, ◌∙◌, Bool, List, ℕ, ap, bytes_eq, false, subst, sym}
+use Rattle.std.proofs.Common.{◌≡◌, ◌∙◌, Bool, ap, bytes_eq, false, subst, sym}
 use Rattle.std.specs.Prelude.{IfOk, MatchBool}
 use Rattle.std.specs.List.{list_any}
 use Rattle.std.proofs.lemmas.Result.{IfOk-weaker}
