@@ -1,13 +1,15 @@
 -- What the owner's calls give, from what stands at places of the mail.
-use Rattle.std.proofs.Common.{◌≡◌, ℕ, Bool, true, false, List, Option, Some, None, refl, sym, ◌∙◌}
+use Rattle.std.proofs.Common.{◌≡◌, ◌<◌, ℕ, Bool, true, false, List, Option, Some, None, get_or, refl, sym, subst, ◌∙◌}
 use Rattle.std.specs.List.{slice_get}
 use Rattle.std.proofs.lemmas.Bool.{false≢true}
+use Rattle.std.proofs.lemmas.Grind.{get_or_default_zero}
 use Rattle.honest_store.specs.StoreMail.{StoreMessage, StoreFolder, StoreMail, folder_called}
 use Rattle.honest_store.specs.MessageChanges.{folder_without}
 use Rattle.small_answers.specs.Changes.{mail_with, mail_without, next_modseq}
 use Rattle.small_answers.specs.Limits.{is_last_change, is_last_message}
 use Rattle.small_answers.specs.OwnersCalls.{CallGives, other_folder, shifted}
 use Rattle.small_answers.specs.SmallMail.{IsSmallMail}
+use Rattle.small_responses.specs.SendableMail.{AreOctets}
 use Rattle.small_answers.proofs.MailKept.{put}
 use Rattle.small_answers.proofs.Moved.{not_left}
 use Rattle.small_store.proofs.Calls.{shift_done, shift_full, shift_last, shift_nowhere}
@@ -44,3 +46,7 @@ module _ (mail : StoreMail) (small : IsSmallMail mail) (source at : ℕ) (f : St
     pub shift_lands : (after : StoreMail) → is_last_message landed ≡ false → after ≡ mail_with (mail_without mail (Some f) m.uid) (Some landed) m
         → CallGives mail (shifted mail o) true after
     shift_lands after free is = shift_done mail o f m there landed after room landed_called free is
+
+-- octets, each of which fits its type
+pub are_octets : (t : List ℕ) → ((k : ℕ) → get_or t k 0 < 256) → AreOctets t
+are_octets t each k d l = subst (λ (n : ℕ). n < 256) (sym (get_or_default_zero t k d l)) (each k)
