@@ -71,14 +71,15 @@ returns-then-is_last_change-clause-ok c =
     let called : folder_called mail.folders (other_folder e.0.name) ≡ Some t.0 = subst (λ (name : List ℕ). folder_called mail.folders name ≡ Some t.0) other t.2 in
     subst (λ (n : StoreMail). CallGives n (shifted n (message_at_place n c.args.at)) false n) same
     (elim c.then-is_last_change.branch [
-      then-is_last_change-via-then-is_last_change w ↦
-      shift_last mail (message_at_place mail c.args.at) e.0 e.1 e.4 (ap is_last_change (sym read) ∙ (sym c.is_last_change.ensures ∙ w.if-is_last_change.true))
-    | then-is_last_change-via-else-is_last_change+then-is_full_for_move w ↦
-      let room : is_last_change e.0 ≡ false = ap is_last_change (sym read) ∙ (sym c.is_last_change.ensures ∙ w.if-is_last_change.false) in
-      let there = landed_at mail small c.in-Some.source c.in-Some.at e.0 e.1 (message_at_place mail c.args.at) at_f at_m e.4 room c.in-Some-place_named.target t.0 called t.1 in
-      shift_no_room mail small c.in-Some.source c.in-Some.at e.0 e.1 (message_at_place mail c.args.at) at_f at_m e.4 room c.in-Some-place_named.target t.0 called t.1
-      (sym (w.is_full_for_move.ensures e.0 (landed mail small c.in-Some.source c.in-Some.at e.0 e.1 (message_at_place mail c.args.at) at_f at_m e.4 room c.in-Some-place_named.target t.0 called t.1) e.1.uid at_f room there)
-      ∙ w.if-is_full_for_move.true)
+      | then-is_last_change-via-then-is_last_change w ↦
+          shift_last mail (message_at_place mail c.args.at) e.0 e.1 e.4 (ap is_last_change (sym read) ∙ (sym c.is_last_change.ensures ∙ w.if-is_last_change.true))
+      | then-is_last_change-via-else-is_last_change+then-is_full_for_move w ↦
+          let room : is_last_change e.0 ≡ false = ap is_last_change (sym read) ∙ (sym c.is_last_change.ensures ∙ w.if-is_last_change.false) in
+          let there = landed_at mail small c.in-Some.source c.in-Some.at e.0 e.1 (message_at_place mail c.args.at) at_f at_m e.4 room c.in-Some-place_named.target t.0 called t.1 in
+          shift_no_room mail small c.in-Some.source c.in-Some.at e.0 e.1 (message_at_place mail c.args.at) at_f at_m e.4 room c.in-Some-place_named.target t.0 called t.1
+          (sym (w.is_full_for_move.ensures e.0
+          (landed mail small c.in-Some.source c.in-Some.at e.0 e.1 (message_at_place mail c.args.at) at_f at_m e.4 room c.in-Some-place_named.target t.0 called t.1) e.1.uid at_f room there)
+          ∙ w.if-is_full_for_move.true)
     ])
 
 pub move_message-requires-clause-source : goal.move_message-requires-clause-source
@@ -112,7 +113,8 @@ pub move_message-requires-clause-room_there : goal.move_message-requires-clause-
 move_message-requires-clause-room_there c = λ f t m at_g at_n at_t.
     let mail = c.self.inside.mail in
     let read = read_is c.folders.result.now mail.folders c.folders.ensures c.in-Some.source c.index-folders-source.result f c.index-folders-source.is at_g in
-    sym (c.is_full_for_move.ensures f t m.uid at_g (ap is_last_change (sym read) ∙ (sym c.is_last_change.ensures ∙ c.if-is_last_change.false)) at_t) ∙ c.if-is_full_for_move.false
+    sym (c.is_full_for_move.ensures f t m.uid at_g 
+    (ap is_last_change (sym read) ∙ (sym c.is_last_change.ensures ∙ c.if-is_last_change.false)) at_t) ∙ c.if-is_full_for_move.false
 
 pub returns-clause-ok : goal.returns-clause-ok
 returns-clause-ok c =
@@ -131,7 +133,8 @@ returns-clause-ok c =
     let there = landed_at mail small c.in-Some.source c.in-Some.at e.0 e.1 (message_at_place mail c.args.at) at_f at_m e.4 room c.in-Some-place_named.target t.0 called t.1 in
     let aim = landed mail small c.in-Some.source c.in-Some.at e.0 e.1 (message_at_place mail c.args.at) at_f at_m e.4 room c.in-Some-place_named.target t.0 called t.1 in
     subst (λ (n : StoreMail). CallGives n (shifted n (message_at_place n c.args.at)) true c.move_message.new.self) same
-    (shift_lands mail small c.in-Some.source c.in-Some.at e.0 e.1 (message_at_place mail c.args.at) at_f at_m e.4 room c.in-Some-place_named.target t.0 called t.1 c.move_message.new.self
+    (shift_lands mail small c.in-Some.source c.in-Some.at e.0 e.1 (message_at_place mail c.args.at) at_f at_m e.4
+    room c.in-Some-place_named.target t.0 called t.1 c.move_message.new.self
     (sym (c.is_full_for_move.ensures e.0 aim e.1.uid at_f room there) ∙ c.if-is_full_for_move.false)
     (c.in_ok-move_message.ensures.ok e.0 aim e.1 at_f at_m there))
 
