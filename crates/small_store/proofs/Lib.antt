@@ -4,6 +4,7 @@ pub mod Places
 pub mod Stores
 pub mod Moving
 pub mod Calls
+pub mod OwnerSteps
 pub mod Telling
 pub mod Replying
 pub mod Seeing
