@@ -1,5 +1,5 @@
 -- What UID FETCH tells (RFC 9051 sections 6.4.5 and 6.4.9).
-use Rattle.std.specs.Prelude.{◌≡◌, ◌⊎◌, ℕ, ◌≤◌, Bool, true, List, Option, Some, None, All, IsSome}
+use Rattle.std.specs.Prelude.{◌≡◌, ◌⊎◌, ℕ, ◌≤◌, min, max, Bool, true, List, Option, Some, None, All, IsSome}
 use Rattle.std.specs.List.{Any}
 use Rattle.imap_syntax.specs.declared.response.Response.{Response}
 use Rattle.imap_syntax.specs.declared.response.FetchItems.{FetchItems}
@@ -9,6 +9,10 @@ use Rattle.honest_store.specs.Responses.{IsFetchOf}
 -- `from:*` has the last message too, whatever its UID (RFC 9051 section 9, seq-range)
 abbrev pub IsFromOn : ℕ → List StoreMessage → StoreMessage → Type 0
 IsFromOn from ms m = (from ≤ m.uid) ⊎ All (λ other. other.uid ≤ m.uid) ms
+
+-- a range has its ends in either order (RFC 9051 section 9, seq-range)
+abbrev pub IsBetween : ℕ → ℕ → List StoreMessage → StoreMessage → Type 0
+IsBetween from to ms m = (min from to ≤ m.uid) × (m.uid ≤ max from to)
 
 -- all that a header fetch asks for
 pub record TellsHeader (with_modseq : Bool) (items : FetchItems) : Type 0 where

@@ -1,5 +1,5 @@
 -- What an honest store answers to a command, and what its mail is then (RFC 9051, RFC 7162), in a session in which QRESYNC is enabled.
-use Rattle.std.specs.Prelude.{◌≡◌, ◌≢◌, ◌⊎◌, ℕ, ◌≤◌, List, [], ◌∷◌, ◌++◌, Option, Some, None, IsSome}
+use Rattle.std.specs.Prelude.{◌≡◌, ◌≢◌, ◌⊎◌, ℕ, List, [], ◌∷◌, ◌++◌, Option, Some, None, IsSome}
 use Rattle.std.specs.List.{Any}
 use Rattle.imap_syntax.specs.declared.command.Command.{Command}
 use Rattle.imap_syntax.specs.declared.command.Command.TheVariants as command
@@ -15,7 +15,7 @@ use Rattle.honest_store.specs.TrueResponses.{messages_of_selected, TellsTruly}
 use Rattle.honest_store.specs.Sessions.{StoreSession, StoreAnswer, CutAnswer, all_responses}
 use Rattle.honest_store.specs.Listing.{ListsMail}
 use Rattle.honest_store.specs.Selecting.{BeginsFolder, TellsFolder}
-use Rattle.honest_store.specs.Fetching.{IsFromOn, TellsHeader, TellsMessages}
+use Rattle.honest_store.specs.Fetching.{IsBetween, IsFromOn, TellsHeader, TellsMessages}
 use Rattle.honest_store.specs.MessageCommands.{StoresFlags, MovesOut, Expunges, sent_message, Appends}
 
 -- ---- OK (RFC 9051 section 7.1.1)
@@ -58,7 +58,7 @@ Does (command.Select name known) s a after =
 Does command.Unselect s a after = IsSome s.selected × (after.mail ≡ s.mail) × (after.selected ≡ None)
 Does command.FetchFlags s a after = ReadsOnly s (TellsMessages (messages_in_session s) (λ ms m. Unit {0}) TellsFlags (all_responses a)) after
 Does (command.FetchSlice from to modseq) s a after =
-    ReadsOnly s (TellsMessages (messages_in_session s) (λ ms m. (from ≤ m.uid) × (m.uid ≤ to)) (TellsHeader modseq) (all_responses a)) after
+    ReadsOnly s (TellsMessages (messages_in_session s) (IsBetween from to) (TellsHeader modseq) (all_responses a)) after
 Does (command.FetchNew from modseq) s a after = ReadsOnly s (TellsMessages (messages_in_session s) (IsFromOn from) (TellsHeader modseq) (all_responses a)) after
 Does (command.FetchBody uid) s a after =
     ReadsOnly s (TellsMessages (messages_in_session s) (λ ms m. m.uid ≡ uid) (λ items. IsSome items.body) (all_responses a)) after

@@ -14,7 +14,7 @@ use Rattle.small_answers.specs.Changes.{next_modseq, mail_without}
 use Rattle.small_answers.specs.Limits.{is_last_change}
 use Rattle.small_answers.specs.Causes.{RefusalCause, NothingSelected, NumberSpent, IsAtEnd, ends_message}
 use Rattle.small_answers.specs.ToldResponses.{set_of}
-use Rattle.small_answers.specs.Answers.{expunge_reply, over_mail, reply_with}
+use Rattle.small_answers.specs.Answers.{expunge_reply, expunged_reply, reply_with}
 use Rattle.small_answers.specs.SmallMail.{IsSmallMail}
 use Rattle.small_answers.proofs.Elements.{any_head}
 use Rattle.small_answers.proofs.Truths.{IsTrueThere}
@@ -43,12 +43,12 @@ module _ (mail : StoreMail) (n uid : ℕ) (small : IsSmallMail mail) where
 
     -- it has the flag
     ended : is_deleted m ≡ true → (is_last_change f ≡ true → ⊥)
-        → IsGoodReply (on mail n) (command.Expunge uid) (reply_with (over_mail (on mail n) (mail_without mail (Some f) m.uid)) told)
+        → IsGoodReply (on mail n) (command.Expunge uid) (expunged_reply (on mail n) f m.uid)
     ended deleted room =
         let left : StoreMail = mail_without mail (Some f) m.uid in
         let left_small : IsSmallMail left = without_small mail n uid f m small there held room in
         record {
-          honest = late_answer (on mail n) (on left n) (command.Expunge uid) told code.Absent left_small.well_formed
+          honest = late_answer (on mail n) (on left n) (command.Expunge uid) told (code.HighestModSeq (next_modseq f)) left_small.well_formed
               (subst (λ (o : Option StoreFolder). AllByRecursion (IsTrueThere (Some (messages_of_folder o))) told)
               (sym (put_found mail n f (folder_without f m.uid (next_modseq f)) small there refl))
               (vanished_true false (folder_without f m.uid (next_modseq f)).messages m.uid (none_without f.messages m.uid), tt)) (
@@ -58,7 +58,7 @@ module _ (mail : StoreMail) (n uid : ℕ) (small : IsSmallMail mail) where
                   messages_of_folder (folder_numbered mail.folders n),
                   refl,
                   refl,
-                  subst (Expunges mail n (record { early = []; late = told; code = code.Absent }) left) (sym (sees mail n uid f (Some m) there held))
+                  subst (Expunges mail n (record { early = []; late = told; code = code.HighestModSeq (next_modseq f) }) left) (sym (sees mail n uid f (Some m) there held))
                       (inl (
                         deleted,
                         ends mail n uid f m small there held,
@@ -71,7 +71,7 @@ module _ (mail : StoreMail) (n uid : ℕ) (small : IsSmallMail mail) where
         }
 
     by_flag : (b : Bool) → is_deleted m ≡ b → (is_deleted m ≡ true → is_last_change f ≡ true → ⊥)
-        → IsGoodReply (on mail n) (command.Expunge uid) (if b then reply_with (over_mail (on mail n) (mail_without mail (Some f) m.uid)) told else reply_with (on mail n) [])
+        → IsGoodReply (on mail n) (command.Expunge uid) (if b then expunged_reply (on mail n) f m.uid else reply_with (on mail n) [])
     by_flag true e room = ended e (room e)
     by_flag false e room = nothing_done (subst (Expunges mail n (record { early = []; late = []; code = code.Absent }) mail) (sym (sees mail n uid f (Some m) there held))
         (inr (e, refl)))

@@ -1,5 +1,5 @@
 -- What the small store tells of messages is true, and all that is asked is told.
-use Rattle.std.proofs.Common.{◌≡◌, inl, inr, ℕ, ◌≤◌, max, fold, Bool, true, false, ◌&&◌, ◌||◌, List, [], ◌∷◌, Some, None, map, filter, refl, arith, IfSome, IsSome, Any}
+use Rattle.std.proofs.Common.{min, ◌≡◌, inl, inr, ℕ, ◌≤◌, max, fold, Bool, true, false, ◌||◌, List, [], ◌∷◌, Some, None, map, filter, refl, arith, IfSome, IsSome, Any}
 use Rattle.std.proofs.Common.{nat_le, ◌==◌, le-leb, eq-eqb, if◌then◌else◌}
 use Rattle.std.specs.List.{AllByRecursion}
 use Rattle.std.proofs.lemmas.Bool.{and_from, false≢true}
@@ -9,8 +9,8 @@ use Rattle.imap_syntax.specs.declared.response.FetchItems.{FetchItems}
 use Rattle.honest_store.specs.StoreMail.{StoreMessage, message_numbered}
 use Rattle.honest_store.specs.WellFormed.{AscendByUid}
 use Rattle.honest_store.specs.Responses.{IsFetchOf, TellsFlags}
-use Rattle.honest_store.specs.Fetching.{IsFromOn, TellsHeader, TellsMessages}
-use Rattle.small_answers.specs.ToldResponses.{flags_response, change_response, header_response, body_response, with_uids, greatest_uid, is_from_on}
+use Rattle.honest_store.specs.Fetching.{IsBetween, IsFromOn, TellsHeader, TellsMessages}
+use Rattle.small_answers.specs.ToldResponses.{flags_response, change_response, header_response, body_response, with_uids, greatest_uid, is_from_on, is_between}
 use Rattle.small_answers.proofs.Elements.{each_both, each_of, each_weaker, told_all, told_each}
 use Rattle.small_answers.proofs.Truths.{each_found, IsTrueThere}
 
@@ -97,11 +97,11 @@ pub flags_told : (ms : List StoreMessage) → TellsMessages (Some ms) (λ ms m. 
 flags_told ms = all_told (flags_response ms) (λ m. true) ms (λ ms m. Unit {0}) TellsFlags (λ m. (refl, refl)) (each_of (λ m. Unit {0} → true ≡ true) (λ m asked. refl) ms)
 
 pub slice_told : (from to : ℕ) (b : Bool) (ms : List StoreMessage)
-    → TellsMessages (Some ms) (λ ms m. (from ≤ m.uid) × (m.uid ≤ to)) (TellsHeader b) (map (header_response b ms) (with_uids (λ u. nat_le from u && nat_le u to) ms))
+    → TellsMessages (Some ms) (IsBetween from to) (TellsHeader b) (map (header_response b ms) (with_uids (is_between from to) ms))
 slice_told from to b ms =
-    all_told (header_response b ms) (λ m. nat_le from m.uid && nat_le m.uid to) ms (λ ms m. (from ≤ m.uid) × (m.uid ≤ to)) (TellsHeader b) (header_has b ms)
-    (each_of (λ m. (from ≤ m.uid) × (m.uid ≤ to) → (nat_le from m.uid && nat_le m.uid to) ≡ true)
-    (λ m asked. and_from (nat_le from m.uid) (nat_le m.uid to) (le-leb from m.uid asked.0) (le-leb m.uid to asked.1)) ms)
+    all_told (header_response b ms) (λ m. is_between from to m.uid) ms (IsBetween from to) (TellsHeader b) (header_has b ms)
+    (each_of (λ m. IsBetween from to ms m → is_between from to m.uid ≡ true)
+    (λ m asked. and_from (nat_le (min from to) m.uid) (nat_le m.uid (max from to)) (le-leb (min from to) m.uid asked.0) (le-leb m.uid (max from to) asked.1)) ms)
 
 pub new_told : (from : ℕ) (b : Bool) (ms : List StoreMessage)
     → TellsMessages (Some ms) (IsFromOn from) (TellsHeader b) (map (header_response b ms) (with_uids (is_from_on from ms) ms))

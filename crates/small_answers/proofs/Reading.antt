@@ -1,5 +1,5 @@
 -- Answers to commands that read are honest.
-use Rattle.std.proofs.Common.{inl, ◌≡◌, ◌≢◌, ℕ, ◌≤◌, ◌==◌, ◌&&◌, nat_le, Bool, true, IsSome, List, [], ◌∷◌, Option, Some, None, map, refl, sym, subst, codes, All, Any}
+use Rattle.std.proofs.Common.{inl, ◌≡◌, ◌≢◌, ℕ, ◌==◌, Bool, true, IsSome, List, [], ◌∷◌, Option, Some, None, map, refl, sym, subst, codes, All, Any}
 use Rattle.std.proofs.Common.{AllPairs}
 use Rattle.std.specs.List.{AllByRecursion, filter_map}
 use Rattle.std.proofs.lemmas.List.Elements.{All-from_recursion, All-nil}
@@ -17,11 +17,11 @@ use Rattle.honest_store.specs.Others.{NoStep}
 use Rattle.honest_store.specs.Responses.{IsCapability, IsEnabled, IsFetchOf, TellsFlags}
 use Rattle.honest_store.specs.TrueResponses.{messages_of_folder, messages_of_selected, NoMore}
 use Rattle.honest_store.specs.Sessions.{StoreSession}
-use Rattle.honest_store.specs.Fetching.{IsFromOn, TellsHeader, TellsMessages}
+use Rattle.honest_store.specs.Fetching.{IsBetween, IsFromOn, TellsHeader, TellsMessages}
 use Rattle.honest_store.specs.Listing.{listed_name, ListsFolder, ListsUnselectable, ListsOne, ListsMail}
 use Rattle.honest_store.specs.Honest.{Does, Honest}
 use Rattle.small_answers.specs.Causes.{RefusalCause, NothingSelected}
-use Rattle.small_answers.specs.ToldResponses.{list_response, flags_response, header_response, body_response, with_uids, is_from_on}
+use Rattle.small_answers.specs.ToldResponses.{list_response, flags_response, header_response, body_response, with_uids, is_from_on, is_between}
 use Rattle.small_answers.specs.Answers.{fetch_reply, ok_answer, ok_reply, reply_in}
 use Rattle.small_answers.proofs.Elements.{any_head, each_told, each_weaker, told_among, told_of_each, pairs_map}
 use Rattle.small_answers.proofs.Truths.{IsTrueThere, tells_all}
@@ -134,9 +134,9 @@ pub slice_honest : (mail : StoreMail) → IsStoreMail mail → (from to : ℕ) (
     → IsOkHonest (record { mail = mail; selected = o }) (command.FetchSlice from to b)
 slice_honest mail whole from to b None free = absurd (free (NothingSelected tt refl))
 slice_honest mail whole from to b (Some n) free =
-    fetch_honest mail n (command.FetchSlice from to b) (λ ms m. (from ≤ m.uid) × (m.uid ≤ to)) (TellsHeader b) (λ ms u. nat_le from u && nat_le u to)
+    fetch_honest mail n (command.FetchSlice from to b) (IsBetween from to) (TellsHeader b) (λ ms. is_between from to)
     (header_response b) whole (λ rs told. (refl, told))
-    (header_all_true b (λ u. nat_le from u && nat_le u to)) (slice_told from to b) (folder_numbered mail.folders n) refl
+    (header_all_true b (is_between from to)) (slice_told from to b) (folder_numbered mail.folders n) refl
 
 pub new_honest : (mail : StoreMail) → IsStoreMail mail → (from : ℕ) (b : Bool) (o : Option ℕ)
     → (RefusalCause (record { mail = mail; selected = o }) (command.FetchNew from b) → ⊥) → IsOkHonest (record { mail = mail; selected = o }) (command.FetchNew from b)

@@ -1,5 +1,5 @@
 -- What the small store answers is what an honest store may answer, and its mail stays the small store's.
-use Rattle.std.proofs.Common.{◌≡◌, ℕ, Bool, true, ◌&&◌, nat_le, ◌==◌, List, Option, Some, None, All}
+use Rattle.std.proofs.Common.{◌≡◌, ℕ, Bool, true, ◌==◌, List, Option, Some, None, All}
 use Rattle.std.proofs.lemmas.List.Elements.{All-weaker}
 use Rattle.imap_syntax.specs.declared.command.Command.{Command}
 use Rattle.imap_syntax.specs.declared.command.Command.TheVariants as command
@@ -10,9 +10,9 @@ use Rattle.honest_store.specs.Sessions.{StoreSession, StoreAnswer}
 use Rattle.honest_store.specs.Honest.{Honest}
 use Rattle.small_answers.specs.Changes.{selected_folder}
 use Rattle.small_answers.specs.Causes.{RefusalCause}
-use Rattle.small_answers.specs.ToldResponses.{body_response, flags_response, header_response, is_from_on}
+use Rattle.small_answers.specs.ToldResponses.{body_response, flags_response, header_response, is_from_on, is_between}
 use Rattle.small_answers.specs.Answers.{AnswersCommand, Refused, Accepted, fetch_reply, reply_in, select_reply}
-use Rattle.small_answers.specs.SmallMail.{IsAskable, IsSmallFolder, IsSmallMail}
+use Rattle.small_answers.specs.SmallMail.{HasStorableParts, IsSmallFolder, IsSmallMail}
 use Rattle.small_answers.proofs.Refusals.{refusals_are_honest}
 use Rattle.small_answers.proofs.Reading.{body_honest, capability_honest, enable_honest, flags_honest, list_honest, login_honest, new_honest, slice_honest, unselect_honest}
 use Rattle.small_answers.proofs.Selecting.{select_honest}
@@ -42,7 +42,7 @@ all_modseqs s small = All-weaker IsSmallFolder (λ f. f.has_modseqs ≡ true) (�
 
 -- ---- OK to each command
 
-good : (s : StoreSession) (c : Command) → IsSmallMail s.mail → IsAskable c → (RefusalCause s c → ⊥) → IsOkGood s c
+good : (s : StoreSession) (c : Command) → IsSmallMail s.mail → HasStorableParts c → (RefusalCause s c → ⊥) → IsOkGood s c
 good s command.Capability small ask free = record { honest = capability_honest s small.well_formed; small = small }
 good s (command.Login user password) small ask free = record { honest = login_honest s user password small.well_formed; small = small }
 good s command.Enable small ask free = record { honest = enable_honest s small.well_formed; small = small }
@@ -58,7 +58,7 @@ good s command.FetchFlags small ask free = record {
 }
 good s (command.FetchSlice from to modseq) small ask free = record {
   honest = slice_honest s.mail small.well_formed from to modseq s.selected free;
-  small = fetch_leaves s (selected_folder s) (λ ms u. nat_le from u && nat_le u to) (header_response modseq) small;
+  small = fetch_leaves s (selected_folder s) (λ ms. is_between from to) (header_response modseq) small;
 }
 good s (command.FetchNew from modseq) small ask free = record {
   honest = new_honest s.mail small.well_formed from modseq s.selected free;
@@ -79,10 +79,10 @@ good s (command.Subscribe name on) small ask free = subscribe_good s name on sma
 
 -- ---- the answer
 
-answered : {s t : StoreSession} {c : Command} {a : StoreAnswer} → IsSmallMail s.mail → IsAskable c → AnswersCommand s c a t → Honest NoStep s c a t × IsSmallMail t.mail
+answered : {s t : StoreSession} {c : Command} {a : StoreAnswer} → IsSmallMail s.mail → HasStorableParts c → AnswersCommand s c a t → Honest NoStep s c a t × IsSmallMail t.mail
 answered {s} {t} {c} small ask (Refused cause) = (refusals_are_honest s c small.well_formed cause, small)
 answered {s} {t} {c} small ask (Accepted free) = let is : IsOkGood s c = good s c small ask free in (is.honest, is.small)
 
-pub answers_are_honest : (s t : StoreSession) (c : Command) (a : StoreAnswer) → IsSmallMail s.mail → IsAskable c → AnswersCommand s c a t
+pub answers_are_honest : (s t : StoreSession) (c : Command) (a : StoreAnswer) → IsSmallMail s.mail → HasStorableParts c → AnswersCommand s c a t
     → Honest NoStep s c a t × IsSmallMail t.mail
 answers_are_honest s t c a small ask answer = answered small ask answer

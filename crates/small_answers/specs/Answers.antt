@@ -1,5 +1,5 @@
 -- What the small store answers: NO exactly where there is a cause, else OK with what the command asks for.
-use Rattle.std.specs.Prelude.{ℕ, ◌==◌, nat_le, ◌&&◌, Bool, true, false, List, [], ◌∷◌, Option, Some, None, map, codes, if◌then◌else◌}
+use Rattle.std.specs.Prelude.{ℕ, ◌==◌, Bool, true, false, List, [], ◌∷◌, Option, Some, None, map, codes, if◌then◌else◌}
 use Rattle.imap_syntax.specs.declared.code.Code.{Code}
 use Rattle.imap_syntax.specs.declared.code.Code.TheVariants as code
 use Rattle.imap_syntax.specs.declared.command.Command.{Command}
@@ -17,7 +17,7 @@ use Rattle.small_answers.specs.Changes.{next_modseq, mail_with, mail_without, ma
 use Rattle.small_answers.specs.Changes.{mail_subscribed, selected_folder}
 use Rattle.small_answers.specs.Causes.{are_same_names, RefusalCause}
 use Rattle.small_answers.specs.ToldResponses.{set_of, ok_response, list_response, flags_response, change_response, header_response, body_response, with_uids}
-use Rattle.small_answers.specs.ToldResponses.{is_from_on, select_responses}
+use Rattle.small_answers.specs.ToldResponses.{is_between, is_from_on, select_responses}
 
 -- what OK tells, its code, and the session after it
 pub record Reply : Type 0 where
@@ -94,11 +94,17 @@ move_reply s f name (Some m) = let mail = mail_without s.mail (Some f) m.uid in 
 
 -- ---- UID EXPUNGE
 
+-- the message ends, and OK tells the folder's new highest mod-sequence (RFC 7162 section 3.2.9)
+abbrev pub expunged_reply : StoreSession → StoreFolder → ℕ → Reply
+expunged_reply s f u = record {
+  responses = response.Vanished false (set_of u) ∷ [];
+  code = code.HighestModSeq (next_modseq f);
+  session = over_mail s (mail_without s.mail (Some f) u);
+}
+
 abbrev pub expunge_reply : StoreSession → StoreFolder → Option StoreMessage → Reply
 expunge_reply s f None = reply_with s []
-expunge_reply s f (Some m) =
-    if is_deleted m then reply_with (over_mail s (mail_without s.mail (Some f) m.uid)) (response.Vanished false (set_of m.uid) ∷ [])
-    else reply_with s []
+expunge_reply s f (Some m) = if is_deleted m then expunged_reply s f m.uid else reply_with s []
 
 -- ---- APPEND
 
@@ -124,7 +130,7 @@ ok_reply s (command.Select name known) = select_reply s known (folder_called s.m
 ok_reply s command.Unselect = reply_with (unselected s) []
 ok_reply s command.FetchFlags = reply_in s (selected_folder s) (λ f. fetch_reply s f.messages (λ u. true) flags_response)
 ok_reply s (command.FetchSlice from to modseq) =
-    reply_in s (selected_folder s) (λ f. fetch_reply s f.messages (λ u. nat_le from u && nat_le u to) (header_response modseq))
+    reply_in s (selected_folder s) (λ f. fetch_reply s f.messages (is_between from to) (header_response modseq))
 ok_reply s (command.FetchNew from modseq) = reply_in s (selected_folder s) (λ f. fetch_reply s f.messages (is_from_on from f.messages) (header_response modseq))
 ok_reply s (command.FetchBody uid) = reply_in s (selected_folder s) (λ f. fetch_reply s f.messages (λ u. u == uid) body_response)
 ok_reply s (command.Store uid add flags) = reply_in s (selected_folder s) (λ f. store_reply s f add flags (message_numbered f.messages uid))

@@ -1,4 +1,4 @@
--- What holds of the small store at every moment, and what it may be asked.
+-- What holds of the small store at every moment, and what a command must have to leave it so.
 use Rattle.std.specs.Prelude.{◌≡◌, ◌^◌, ◌<◌, true, [], length, All, Some}
 use Rattle.imap_syntax.specs.declared.command.Command.{Command}
 use Rattle.imap_syntax.specs.declared.command.Command.TheVariants as command
@@ -22,12 +22,12 @@ pub record IsSmallMail (mail : StoreMail) : Type 0 where
   pub numbers : All (λ u. u.number ≡ u.validity) mail.uses
   pub all_selectable : mail.unselectable ≡ []
 
--- names without octets 0, CR and LF, and a message that can be counted
-abbrev pub IsAskable : Command → Type 0
-IsAskable (command.Create name) = Each is_text name
-IsAskable (command.Rename from to) = Each is_text to
-IsAskable (command.Append name flags date message) = length message < 2 ^ 63
-IsAskable _ = Unit {0}
+-- of what it would make the name is without octets 0, CR and LF, and the message can be counted
+abbrev pub HasStorableParts : Command → Type 0
+HasStorableParts (command.Create name) = Each is_text name
+HasStorableParts (command.Rename from to) = Each is_text to
+HasStorableParts (command.Append name flags date message) = length message < 2 ^ 63
+HasStorableParts _ = Unit {0}
 
 -- what the owner does: a step of others, to the small store's mail again
 pub record IsOwnersStep (before after : StoreMail) : Type 0 where

@@ -1,6 +1,6 @@
 -- The responses by which the small store tells its mail (RFC 9051 section 7, RFC 7162 section 3.2).
-use Rattle.std.specs.Prelude.{ℕ, ◌+◌, ◌==◌, nat_lt, nat_le, ◌||◌, Bool, true, List, [], ◌∷◌, ◌++◌, Option, Some, None, filter, map, fold, max, take, count_by}
-use Rattle.std.specs.Prelude.{length, codes, if◌then◌else◌}
+use Rattle.std.specs.Prelude.{ℕ, ◌+◌, ◌==◌, nat_lt, nat_le, ◌&&◌, ◌||◌, Bool, true, List, [], ◌∷◌, ◌++◌, Option, Some, None, filter, map, fold, min, max}
+use Rattle.std.specs.Prelude.{take, count_by, length, codes, if◌then◌else◌}
 use Rattle.imap_syntax.specs.declared.code.Code.{Code}
 use Rattle.imap_syntax.specs.declared.code.Code.TheVariants as code
 use Rattle.imap_syntax.specs.declared.response.Response.{Response}
@@ -53,6 +53,10 @@ with_uids test ms = filter (λ m. test m.uid) ms
 
 abbrev pub greatest_uid : List StoreMessage → ℕ
 greatest_uid ms = fold (λ n m. max n m.uid) 0 ms
+
+-- of a range, whose ends stand in either order
+abbrev pub is_between : ℕ → ℕ → ℕ → Bool
+is_between from to u = nat_le (min from to) u && nat_le u (max from to)
 
 -- of `from:*`
 abbrev pub is_from_on : ℕ → List StoreMessage → ℕ → Bool

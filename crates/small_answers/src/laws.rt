@@ -8,13 +8,13 @@ ghost use Rattle.honest_store.specs.Sessions.{StoreAnswer, StoreSession};
 ghost use Rattle.honest_store.specs.Honest.{Honest};
 ghost use Rattle.small_answers.specs.Changes.{first_mail};
 ghost use Rattle.small_answers.specs.Answers.{AnswersCommand};
-ghost use Rattle.small_answers.specs.SmallMail.{IsAskable, IsOwnersStep, IsSmallMail};
+ghost use Rattle.small_answers.specs.SmallMail.{HasStorableParts, IsOwnersStep, IsSmallMail};
 ghost use Rattle.small_answers.specs.OwnersCalls.{CallGives, delivered, message_at_place, message_expunged, seen_toggled, shifted};
 
 /// What the small store answers is what an honest store may answer where nobody else does anything, and its mail stays its own.
 pub fn small_answers_are_honest()
     ensures answers { (before after : StoreSession) (c : Command) (a : StoreAnswer)
-        → IsSmallMail before.mail → IsAskable c → AnswersCommand before c a after → Honest NoStep before c a after × IsSmallMail after.mail }
+        → IsSmallMail before.mail → HasStorableParts c → AnswersCommand before c a after → Honest NoStep before c a after × IsSmallMail after.mail }
     ensures first { IsSmallMail first_mail }
 {}
 

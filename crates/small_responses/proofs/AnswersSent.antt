@@ -1,5 +1,5 @@
 -- Each response of the small store's answers may be sent.
-use Rattle.std.proofs.Common.{◌≡◌, inl, not, ap, ◌∙◌, ℕ, ◌<◌, ◌-◌, ◌^◌, ◌≤◌, Bool, true, false, ◌&&◌, nat_le, nat_lt, ◌==◌, List, [], ◌∷◌, ◌++◌, Option, Some, None, length}
+use Rattle.std.proofs.Common.{◌≡◌, inl, not, ap, ◌∙◌, ℕ, ◌<◌, ◌-◌, ◌^◌, ◌≤◌, Bool, true, false, nat_lt, ◌==◌, List, [], ◌∷◌, ◌++◌, Option, Some, None, length}
 use Rattle.std.proofs.Common.{filter, map, codes, refl, sym, subst, arith, All, if◌then◌else◌}
 use Rattle.std.specs.List.{AllByRecursion}
 use Rattle.std.proofs.lemmas.List.Elements.{All-from_recursion, recursion_from_All}
@@ -11,18 +11,18 @@ use Rattle.imap_syntax.specs.declared.response.Response.TheVariants as response
 use Rattle.imap_syntax.specs.declared.response.Status.TheVariants as status
 use Rattle.honest_store.specs.StoreMail.{StoreMessage, StoreFolder, StoreMail, folder_called, folder_numbered, message_numbered}
 use Rattle.honest_store.specs.WellFormed.{IsExpungedUid, IsStoreFolder}
-use Rattle.honest_store.specs.MessageChanges.{folder_flagged}
+use Rattle.honest_store.specs.MessageChanges.{folder_flagged, folder_without}
 use Rattle.honest_store.specs.Sessions.{StoreSession, StoreAnswer}
 use Rattle.honest_store.specs.MessageCommands.{flags_after, is_deleted, sent_message}
 use Rattle.imap_syntax.specs.Items.{AllNames}
 use Rattle.small_answers.specs.Changes.{mail_flagged, mail_without, next_modseq, selected_folder}
 use Rattle.small_answers.specs.Limits.{is_last_change, text_limit, total_length}
 use Rattle.store_responses.specs.Sendable.{IsNonZeroNumber, IsSendable, IsSendableTag}
-use Rattle.small_answers.specs.Causes.{RefusalCause, FlagsTooLong, NumberSpent, IsAtEnd, are_same_names, changes_flags, flags_of_store}
-use Rattle.small_answers.specs.ToldResponses.{body_response, change_response, changes_since, closed_responses, flags_response, folder_responses, header_response, is_from_on}
-use Rattle.small_answers.specs.ToldResponses.{known_changes, list_response, set_of, with_uids}
-use Rattle.small_answers.specs.Answers.{AnswersCommand, Refused, Accepted, Reply, append_reply, expunge_reply, fetch_reply, flags_reply, move_reply, move_reply_to, ok_reply}
-use Rattle.small_answers.specs.Answers.{over_mail, reply_in, reply_with, select_reply, store_reply, told_change}
+use Rattle.small_answers.specs.Causes.{RefusalCause, FlagsTooLong, NumberSpent, IsAtEnd, are_same_names, changes_flags, ends_message, flags_of_store}
+use Rattle.small_answers.specs.ToldResponses.{body_response, change_response, changes_since, closed_responses, flags_response, folder_responses, header_response}
+use Rattle.small_answers.specs.ToldResponses.{is_between, is_from_on, known_changes, list_response, set_of, with_uids}
+use Rattle.small_answers.specs.Answers.{AnswersCommand, Refused, Accepted, Reply, append_reply, expunge_reply, expunged_reply, fetch_reply, flags_reply, move_reply, move_reply_to}
+use Rattle.small_answers.specs.Answers.{ok_reply, reply_in, reply_with, select_reply, store_reply, told_change}
 use Rattle.small_answers.specs.SmallMail.{IsSmallFolder, IsSmallMail}
 use Rattle.small_answers.proofs.Elements.{each_append, each_mapped, each_weaker, each_both, told_all}
 use Rattle.small_answers.proofs.Searches.{found_is}
@@ -36,7 +36,7 @@ use Rattle.small_responses.proofs.SeenFlag.{beside_few}
 use Rattle.small_responses.proofs.TextsKept.{flagged_kept, message_told, without_kept}
 use Rattle.small_responses.proofs.MailTold.{within}
 use Rattle.small_responses.proofs.Sent.{IsShortCode, IsTellable, absent_short, append_short, body_sent, change_sent, closed_short, coded_sent, copy_short, each_tellable}
-use Rattle.small_responses.proofs.Sent.{few_messages, flags_sent, folder_sent, header_sent, list_sent, no_sent, ok_sent, other_short, vanished_sent}
+use Rattle.small_responses.proofs.Sent.{few_messages, flags_sent, folder_sent, header_sent, highest_short, list_sent, no_sent, ok_sent, other_short, vanished_sent}
 
 -- of a reply: its responses may be sent, and its code is short
 pub record IsSent (r : Reply) : Type 0 where
@@ -179,10 +179,24 @@ module _ (mail : StoreMail) (n uid : ℕ) (small : IsSmallMail mail) (told : IsS
         (put_found mail n f g small there refl))
 
   -- EXPUNGE
-  expunged_sent : (b : Bool) → IsSent (if b then reply_with (over_mail (on mail n) (mail_without mail (Some f) m.uid))
-      (response.Vanished false (set_of m.uid) ∷ []) else reply_with (on mail n) [])
-  expunged_sent true = sent_with (over_mail (on mail n) (mail_without mail (Some f) m.uid)) (response.Vanished false (set_of m.uid) ∷ []) gone_sent
-  expunged_sent false = nothing_sent (on mail n)
+  module _ (free : RefusalCause (on mail n) (command.Expunge uid) → ⊥) where
+    ended_sent : is_deleted m ≡ true → IsSent (expunged_reply (on mail n) f m.uid)
+    ended_sent deleted =
+        let left : StoreMail = mail_without mail (Some f) m.uid in let g : StoreFolder = folder_without f m.uid (next_modseq f) in
+        let left_small : IsSmallMail left =
+        without_small mail n uid f m small there held (λ last. free (NumberSpent (
+          subst (IsAtEnd is_last_change) (sym there) last,
+          subst (λ (o : Option StoreMessage). ends_message o ≡ true) (sym (sees mail n uid f (Some m) there held)) deleted,
+        ))) in
+        record {
+          responses = gone_sent;
+          code = numbered left left_small (without_kept mail f m.uid told (numbered_is IsSendableFolder mail n f told there)) (λ h. IsShortCode (code.HighestModSeq h.highest))
+              (λ h is h_small h_told. highest_short h.highest is.highest_fits) n g (put_found mail n f g small there refl);
+        }
+
+    expunged_sent : (b : Bool) → is_deleted m ≡ b → IsSent (if b then expunged_reply (on mail n) f m.uid else reply_with (on mail n) [])
+    expunged_sent true deleted = ended_sent deleted
+    expunged_sent false e = nothing_sent (on mail n)
 
   -- MOVE
   moved_sent : (left : StoreMail) → IsSmallMail left → IsSendableMail left → (name : List ℕ) (q : Option StoreFolder) → folder_called left.folders name ≡ q
@@ -228,11 +242,12 @@ module _ (mail : StoreMail) (small : IsSmallMail mail) (told : IsSendableMail ma
       sent_by_message mail n uid (λ f. store_reply (on mail n) f add asked) (λ f. nothing_sent (on mail n))
       (λ f m there held. stored_sent mail n uid small told f m there held add asked names free (are_same_names (flags_after add asked m.flags) m.flags) refl)
 
-  expunge_by : (o : Option ℕ) (uid : ℕ) → IsSent (ok_reply (record { mail = mail; selected = o }) (command.Expunge uid))
-  expunge_by None uid = nothing_sent (record { mail = mail; selected = None })
-  expunge_by (Some n) uid =
+  expunge_by : (o : Option ℕ) (uid : ℕ) → (RefusalCause (record { mail = mail; selected = o }) (command.Expunge uid) → ⊥)
+      → IsSent (ok_reply (record { mail = mail; selected = o }) (command.Expunge uid))
+  expunge_by None uid free = nothing_sent (record { mail = mail; selected = None })
+  expunge_by (Some n) uid free =
       sent_by_message mail n uid (expunge_reply (on mail n)) (λ f. nothing_sent (on mail n))
-      (λ f m there held. expunged_sent mail n uid small told f m there held (is_deleted m))
+      (λ f m there held. expunged_sent mail n uid small told f m there held free (is_deleted m) refl)
 
   move_by : (o : Option ℕ) (uid : ℕ) (name : List ℕ) → (RefusalCause (record { mail = mail; selected = o }) (command.Move uid name) → ⊥)
       → IsSent (ok_reply (record { mail = mail; selected = o }) (command.Move uid name))
@@ -279,13 +294,13 @@ sent_after s (command.Select name known) small told parts free = select_sent s n
 sent_after s command.Unselect small told parts free = record { responses = tt; code = absent_short }
 sent_after s command.FetchFlags small told parts free = fetched s.mail small told (λ ms u. true) flags_response flags_sent s.selected
 sent_after s (command.FetchSlice from to modseq) small told parts free =
-    fetched s.mail small told (λ ms u. nat_le from u && nat_le u to) (header_response modseq) (λ ms m room. header_sent ms m room modseq) s.selected
+    fetched s.mail small told (λ ms. is_between from to) (header_response modseq) (λ ms m room. header_sent ms m room modseq) s.selected
 sent_after s (command.FetchNew from modseq) small told parts free =
     fetched s.mail small told (is_from_on from) (header_response modseq) (λ ms m room. header_sent ms m room modseq) s.selected
 sent_after s (command.FetchBody uid) small told parts free = fetched s.mail small told (λ ms u. u == uid) body_response body_sent s.selected
 sent_after s (command.Store uid add flags) small told parts free = store_by s.mail small told s.selected uid add flags parts free
 sent_after s (command.Move uid name) small told parts free = move_by s.mail small told s.selected uid name free
-sent_after s (command.Expunge uid) small told parts free = expunge_by s.mail small told s.selected uid
+sent_after s (command.Expunge uid) small told parts free = expunge_by s.mail small told s.selected uid free
 sent_after s (command.Append name flags date message) small told parts free =
     append_sent s (sent_message flags date message 0 0) name small told (folder_called s.mail.folders name) refl
 sent_after s (command.Create name) small told parts free = record { responses = tt; code = absent_short }

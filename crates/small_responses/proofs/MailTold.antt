@@ -1,12 +1,11 @@
 -- The mail stays so that it can be told, whatever is answered.
-use Rattle.std.proofs.Common.{◌≡◌, ◌⊎◌, inl, inr, ℕ, ◌<◌, ◌≤◌, Bool, true, false, ◌&&◌, nat_le, ◌==◌, List, [], ◌∷◌, Option, Some, None, length, refl, sym, subst}
+use Rattle.std.proofs.Common.{◌≡◌, ◌⊎◌, inl, inr, ℕ, ◌<◌, ◌≤◌, Bool, true, false, ◌==◌, List, [], Option, Some, None, length, refl, sym, subst}
 use Rattle.std.proofs.Common.{if◌then◌else◌}
 use Rattle.std.specs.List.{AllByRecursion}
 use Rattle.std.proofs.lemmas.Bool.{cases_lt}
 use Rattle.imap_syntax.specs.declared.command.Command.{Command}
 use Rattle.imap_syntax.specs.declared.command.Command.TheVariants as command
 use Rattle.imap_syntax.specs.declared.response.Response.{Response}
-use Rattle.imap_syntax.specs.declared.response.Response.TheVariants as response
 use Rattle.imap_syntax.specs.Folders.{folder_name}
 use Rattle.imap_syntax.specs.Items.{AllNames, kept}
 use Rattle.honest_store.specs.StoreMail.{StoreMessage, StoreFolder, StoreMail, folder_called, folder_numbered, message_numbered}
@@ -15,9 +14,9 @@ use Rattle.honest_store.specs.MessageCommands.{flags_after, is_deleted, sent_mes
 use Rattle.small_answers.specs.Changes.{mail_without, next_validity, selected_folder}
 use Rattle.small_answers.specs.Limits.{text_limit, total_length}
 use Rattle.small_answers.specs.Causes.{RefusalCause, NameTooLong, FlagsTooLong, are_same_names, flags_of_store, names_made}
-use Rattle.small_answers.specs.Answers.{AnswersCommand, Refused, Accepted, Reply, append_reply, expunge_reply, flags_reply, move_reply, move_reply_to, ok_reply, over_mail}
+use Rattle.small_answers.specs.Answers.{AnswersCommand, Refused, Accepted, Reply, append_reply, expunge_reply, expunged_reply, flags_reply, move_reply, move_reply_to, ok_reply}
 use Rattle.small_answers.specs.Answers.{reply_in, reply_with, select_reply, store_reply, told_change, fetch_reply}
-use Rattle.small_answers.specs.ToldResponses.{body_response, flags_response, header_response, is_from_on, set_of}
+use Rattle.small_answers.specs.ToldResponses.{body_response, flags_response, header_response, is_between, is_from_on}
 use Rattle.small_answers.proofs.Elements.{each_not_any}
 use Rattle.small_answers.proofs.FoldersFound.{called_is, numbered_is}
 use Rattle.small_answers.proofs.Replies.{on, sees}
@@ -79,14 +78,14 @@ module _ (mail : StoreMail) (n uid : ℕ) (add : Bool) (asked : List (List ℕ))
   store_told = stored_in (folder_numbered mail.folders n) refl
 
 module _ (mail : StoreMail) (n uid : ℕ) (told : IsSendableMail mail) where
-  expunged_if : (f : StoreFolder) (m : StoreMessage) → folder_numbered mail.folders n ≡ Some f → (b : Bool) (rs : List Response)
-      → IsTold (if b then reply_with (over_mail (on mail n) (mail_without mail (Some f) m.uid)) rs else reply_with (on mail n) [])
-  expunged_if f m there true rs = without_kept mail f m.uid told (numbered_is IsSendableFolder mail n f told there)
-  expunged_if f m there false rs = told
+  expunged_if : (f : StoreFolder) (m : StoreMessage) → folder_numbered mail.folders n ≡ Some f → (b : Bool)
+      → IsTold (if b then expunged_reply (on mail n) f m.uid else reply_with (on mail n) [])
+  expunged_if f m there true = without_kept mail f m.uid told (numbered_is IsSendableFolder mail n f told there)
+  expunged_if f m there false = told
 
   expunged_at : (f : StoreFolder) → folder_numbered mail.folders n ≡ Some f → (o : Option StoreMessage) → IsTold (expunge_reply (on mail n) f o)
   expunged_at f there None = told
-  expunged_at f there (Some m) = expunged_if f m there (is_deleted m) (response.Vanished false (set_of m.uid) ∷ [])
+  expunged_at f there (Some m) = expunged_if f m there (is_deleted m)
 
   expunged_in : (q : Option StoreFolder) → folder_numbered mail.folders n ≡ q
       → IsTold (reply_in (on mail n) q (λ f. expunge_reply (on mail n) f (message_numbered f.messages uid)))
@@ -153,7 +152,7 @@ told_after s command.List told parts free = told
 told_after s (command.Select name known) told parts free = select_told s known (folder_called s.mail.folders name) told
 told_after s command.Unselect told parts free = told
 told_after s command.FetchFlags told parts free = read_told s (selected_folder s) (λ ms u. true) flags_response told
-told_after s (command.FetchSlice from to modseq) told parts free = read_told s (selected_folder s) (λ ms u. nat_le from u && nat_le u to) (header_response modseq) told
+told_after s (command.FetchSlice from to modseq) told parts free = read_told s (selected_folder s) (λ ms. is_between from to) (header_response modseq) told
 told_after s (command.FetchNew from modseq) told parts free = read_told s (selected_folder s) (is_from_on from) (header_response modseq) told
 told_after s (command.FetchBody uid) told parts free = read_told s (selected_folder s) (λ ms u. u == uid) body_response told
 told_after s (command.Store uid add flags) told parts free = stored_by s.mail s.selected uid add flags told parts free
