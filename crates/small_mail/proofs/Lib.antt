@@ -1,8 +1,10 @@
 pub mod Only
 pub mod Found
 pub mod KeptNames
+pub mod NameSets
 pub mod Prefixes
 pub mod EmptyLines
+pub mod HeaderFronts
 pub mod Messages
 pub mod Folders
 pub mod Mails

@@ -1,5 +1,5 @@
 // Flags in kept form: lower case, sorted by octets, each once, without `\recent` (RFC 9051 section 2.3.2).
-ghost use Rattle.std.specs.Prelude.{◌≡◌, ◌++◌, [], ◌∷◌, map, bytes_eq, codes, filter, min, not, IfOk, OnOk};
+ghost use Rattle.std.specs.Prelude.{◌≡◌, ◌++◌, ℕ, List, [], ◌∷◌, map, bytes_eq, codes, filter, min, not, IfOk, OnOk};
 ghost use Rattle.std.specs.List.{list_any};
 ghost use Rattle.imap_syntax.specs.Octets as classes;
 ghost use Rattle.imap_syntax.specs.Items as items;
@@ -96,13 +96,32 @@ pub fn has_name(names: &[Bytes], name: &[u8]) -> bool
     false
 }
 
+/// The names, to be looked up in.
+fn set_of(alloc: Global, names: &[Bytes]) -> Result<BTreeSet<Vec<u8>>, AllocError>
+    ensures { IfOk result (λ set. (n : List ℕ) → list_any (bytes_eq n) (map (λ v. v.items) set.keys) ≡ list_any (bytes_eq n) names.now) }
+{
+    let mut set = BTreeSet::new(alloc);
+    for name in names {
+        set.insert(name.as_slice().to_vec(alloc)?)?;
+    }
+    Ok(set)
+}
+
+/// Whether the name is in the set.
+fn is_in(set: &BTreeSet<Vec<u8>>, name: &[u8]) -> bool
+    ensures { result ≡ list_any (bytes_eq name.now) (map (λ v. v.items) set.now.keys) }
+{
+    set.contains(name)
+}
+
 /// The names that aren't among those.
 pub fn without(alloc: Global, names: &[Bytes], those: &[Bytes]) -> Result<Names, AllocError>
     ensures { IfOk result (λ left. left ≡ filter (λ f. not (list_any (λ g. bytes_eq f g) those.now)) names.now) }
 {
+    let those = set_of(alloc, those)?;
     let mut left = Names::new(alloc);
     for name in names {
-        if !has_name(those, name.as_slice()) {
+        if !is_in(&those, name.as_slice()) {
             left.push(name.share()?)?;
         }
     }

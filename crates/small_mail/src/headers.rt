@@ -42,9 +42,9 @@ fn front(octets: &[u8], most: usize) -> &[u8]
     front
 }
 
-/// The header of a message, as far as it is told.
-pub fn header_told(octets: &[u8]) -> &[u8]
-    ensures { result.now ≡ headers.header_told octets.now }
+/// The header of a message, up to its empty line.
+fn header_section(octets: &[u8]) -> &[u8]
+    ensures { result.now ≡ headers.header_section octets.now }
 {
     let empty = line_end_len(octets);
     let len = if 0 < empty {
@@ -52,7 +52,14 @@ pub fn header_told(octets: &[u8]) -> &[u8]
     } else {
         through_empty_line(octets)
     };
-    front(front(octets, len), MAX_HEADER_OCTETS)
+    front(octets, len)
+}
+
+/// The header of a message, as far as it is told. No more of the message is read.
+pub fn header_told(octets: &[u8]) -> &[u8]
+    ensures { result.now ≡ headers.header_told octets.now }
+{
+    header_section(front(octets, MAX_HEADER_OCTETS))
 }
 
 /// A message, as far as it is told.

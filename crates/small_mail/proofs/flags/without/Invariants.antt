@@ -4,4 +4,4 @@ use Rattle.small_mail.proofs.flags.without.Given as goal
 
 abbrev pub invariant-loop-name : goal.invariant-loop-name
 invariant-loop-name l =
-    l.left ++ filter (λ f. not (list_any (λ g. bytes_eq f g) l.those)) (drop l.name-index l.names) ≡ filter (λ f. not (list_any (λ g. bytes_eq f g) l.those)) l.names
+    l.left ++ filter (λ f. not (list_any (λ g. bytes_eq f g) l.fn.those)) (drop l.name-index l.names) ≡ filter (λ f. not (list_any (λ g. bytes_eq f g) l.fn.those)) l.names
