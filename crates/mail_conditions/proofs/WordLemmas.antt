@@ -1,5 +1,5 @@
 -- Words in texts by the places where they stand.
-use Rattle.std.proofs.Common.{◌≡◌, ℕ, ◌+◌, ◌-◌, ◌<◌, ◌≤◌, List, [], ◌∷◌, ◌++◌, length, map, take, drop, slice_range, refl, sym, ap, subst, ◌∙◌, arith, length-append}
+use Rattle.std.proofs.Common.{◌≡◌, ℕ, ◌+◌, ◌-◌, ◌<◌, ◌≤◌, List, ◌++◌, length, map, take, drop, slice_range, refl, sym, ap, subst, ◌∙◌, arith, length-append}
 use Rattle.std.proofs.lemmas.List.{take_at, drop_at, take-append-drop, length-map}
 use Rattle.std.specs.Char.{to_ascii_lowercase}
 use Rattle.text_words.specs.Octets.{SameText}
@@ -18,11 +18,6 @@ found_at word text at same = record {
   whole = sym (take-append-drop at text) ∙ ap (λ (l : List ℕ). take at text ++ l) (sym (take-append-drop ((at + length word) - at) (drop at text)));
   same = same;
 }
-
--- the empty word is in each text
-pub empty_word : (word text : List ℕ) → length word < 1 → HasWord word text
-empty_word [] text none = record { before = []; found = []; after = text; whole = refl; same = refl }
-empty_word (c ∷ word) text none = absurd (omega (arith, none))
 
 -- a place where it is
 pub record StandsAt (word text : List ℕ) : Type 0 where

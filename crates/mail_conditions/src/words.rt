@@ -9,15 +9,11 @@ use text_words::same_text;
 pub fn has_word(word: &[u8], text: &[u8]) -> bool
     ensures { IsTrue result ↔ HasWord word.now text.now }
 {
-    let [first, ..] = word else {
-        return true;
-    };
     if text.len() < word.len() {
         return false;
     }
-    let first = first.to_ascii_lowercase();
     for at in 0..text.len() - word.len() + 1 {
-        if text[at].to_ascii_lowercase() == first && same_text(&text[at..at + word.len()], word) {
+        if same_text(&text[at..at + word.len()], word) {
             return true;
         }
     }

@@ -1,12 +1,15 @@
 -- Orders by keys, and the orders of comparators.
-use Rattle.std.proofs.Common.{◌≡◌, ◌↔◌, ℕ, List, Bool, true, false, IsTrue, refl, sym, ap, subst, ◌∙◌, Ordering}
+use Rattle.std.proofs.Common.{◌≡◌, ◌↔◌, ℕ, List, Option, None, Some, Bool, true, false, IsTrue, nat_cmp, refl, sym, ap, subst, ◌∙◌, Ordering}
 use Rattle.std.specs.Cmp.{IsTotalOrder}
+use Rattle.std.specs.Cmp.Lexicographic.{slice_cmp}
+use Rattle.std.specs.Option.{option_cmp, option_map}
 use Rattle.mail_maps.specs.Serve.{Email, mailbox_of}
 use Rattle.mail_conditions.specs.Entries.{email_at}
 use Rattle.mail_conditions.specs.declared.entry.EmailEntry.{EmailEntry}
 use Rattle.mail_orders.specs.Directions.{directed}
 use Rattle.mail_orders.specs.Emails.{cmp_by_property}
 use Rattle.mail_orders.specs.Mailboxes.{mailbox_cmp_by}
+use Rattle.mail_orders.specs.Texts.{folded, text_cmp}
 use Rattle.mail_orders.specs.declared.comparators.EmailComparator.{EmailComparator}
 use Rattle.mail_orders.specs.declared.comparators.EmailSort.{EmailSort}
 use Rattle.mail_orders.specs.declared.comparators.MailboxComparator.{MailboxComparator}
@@ -46,3 +49,10 @@ pub same_truth : (a b : Bool) → IsTrue a ↔ IsTrue b → a ≡ b
 same_truth true b same = sym (same.0 refl)
 same_truth false true same = same.1 refl
 same_truth false false same = refl
+
+-- texts that may be missing compare as they do in small letters
+pub options_folded : (a b : Option (List ℕ)) → option_cmp (slice_cmp nat_cmp) (option_map folded a) (option_map folded b) ≡ option_cmp text_cmp a b
+options_folded None None = refl
+options_folded None (Some y) = refl
+options_folded (Some x) None = refl
+options_folded (Some x) (Some y) = refl

@@ -3,4 +3,3 @@ pub mod KeyLemmas
 pub mod OrderLaws
 pub mod RowLemmas
 pub mod DecidingLemmas
-pub mod FoldLemmas

@@ -1,12 +1,14 @@
 // Emails in order.
 ghost use Rattle.std.specs.Prelude.{◌≡◌, ◌↔◌, ℕ, List, IfOk, IsPermutation, IsTrue, OnOk, map};
 ghost use Rattle.std.specs.List.Sorted.{IsStrictlySortedBy};
+ghost use Rattle.std.specs.Option.{option_map};
 ghost use Rattle.std.specs.Ordering.{bool_cmp};
 ghost use Rattle.mail_maps.specs.Serve.{Email};
 ghost use Rattle.mail_conditions.specs.Entries.{email_at, emails_at};
 ghost use Rattle.mail_conditions.specs.ThreadKeywords.{AreThreadsOf, all_in_thread_have, some_in_thread_has};
 ghost use Rattle.query_lists.specs.Ordered.{AscendByNumber, row_cmp};
 ghost use Rattle.mail_orders.specs.Emails.{email_cmp};
+ghost use Rattle.mail_orders.specs.Texts.{folded};
 ghost use Rattle.mail_orders.specs.reading.Keys.{IsStableSort, by_key};
 ghost use Rattle.mail_orders.specs.reading.Rows.{emails_by};
 
@@ -20,12 +22,12 @@ use mail_maps::keywords::has_name;
 use std::alloc::{AllocError, Global};
 
 /// The key of a text that may be missing.
-fn text_key(text: &Option<Bytes>) -> Option<FoldedText<'_>>
-    ensures { result ≡ text.now }
+fn text_key(alloc: Global, text: &Option<Bytes>) -> Option<FoldedText<'_>>
+    ensures { result ≡ option_map folded text.now }
 {
     match text {
         None => None,
-        Some(text) => Some(FoldedText::new(text.as_slice())),
+        Some(text) => Some(FoldedText::copied(alloc, text.as_slice())),
     }
 }
 
@@ -100,13 +102,13 @@ fn sort_by_comparator<'a>(
         EmailSort::ReceivedAt => sort_by_keys(rows, is_ascending, |email| email.row.received),
         EmailSort::Size => sort_by_keys(rows, is_ascending, |email| email.row.size),
         EmailSort::From => sort_by_keys(rows, is_ascending, |email| {
-            text_key(&email.row.envelope.from.first)
+            text_key(alloc, &email.row.envelope.from.first)
         }),
         EmailSort::To => sort_by_keys(rows, is_ascending, |email| {
-            text_key(&email.row.envelope.to.first)
+            text_key(alloc, &email.row.envelope.to.first)
         }),
         EmailSort::Subject => sort_by_keys(rows, is_ascending, |email| {
-            FoldedText::new(email.row.envelope.base.as_slice())
+            FoldedText::copied(alloc, email.row.envelope.base.as_slice())
         }),
         EmailSort::SentAt => {
             sort_by_keys(rows, is_ascending, |email| email.row.envelope.sent_at)
@@ -144,8 +146,8 @@ fn sort_in_turn<'a>(
 
 /// Puts rows that stand in ascending number in order: by the first comparator, where that doesn't tell them apart by the next one,
 /// and at last by number, which ascends under a descending comparator too (RFC 8621 section 4.4.2). The Emails are all that there
-/// are: of them Threads are. Each key is made once a row and comparator; a comparator whose property stands earlier costs no sort.
-/// Where memory ends, the rows stand in any order.
+/// are: of them Threads are. Each key is made once a row and comparator, that of a text as a copy in small letters which is freed
+/// after its sort; a comparator whose property stands earlier costs no sort. Where memory ends, the rows stand in any order.
 pub fn sort_emails<'a>(
     alloc: Global,
     emails: &[EmailEntry<'_>],

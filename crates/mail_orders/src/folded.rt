@@ -2,17 +2,29 @@
 ghost use Rattle.std.specs.Prelude.{◌≡◌, []};
 ghost use Rattle.std.proofs.Common.{rules};
 ghost use Rattle.std.specs.Cmp.{partial_order_from_own_ties};
+ghost use Rattle.std.specs.Cmp.Lexicographic.{slice_cmp};
 ghost use Rattle.std.specs.Cmp.Rules.{comparing};
-ghost use Rattle.std.specs.Ordering.{as_partial_cmp, eq_by_cmp};
-ghost use Rattle.mail_orders.specs.Texts.{text_cmp};
+ghost use Rattle.std.specs.Ordering.{as_partial_cmp, eq_by_cmp, nat_cmp};
+ghost use Rattle.mail_orders.specs.Texts.{folded, text_cmp};
+ghost use Rattle.mail_orders.specs.reading.FoldedTexts.{octets_compared};
 
+use std::alloc::Global;
 use std::cmp::Ordering;
 use std::marker::Model;
+
+/// The octets of a text.
+#[derive(Drop)]
+enum Octets<'a> {
+    /// In small letters.
+    Lowercase(Vec<u8>),
+    /// As they stand, each to be made small as it is compared.
+    Plain(&'a [u8]),
+}
 
 /// A text that compares by its octets, with A to Z as a to z.
 #[derive(Drop)]
 pub(crate) struct FoldedText<'a> {
-    octets: &'a [u8],
+    octets: Octets<'a>,
 }
 
 impl<'a> Model for FoldedText<'a> {
@@ -20,15 +32,31 @@ impl<'a> Model for FoldedText<'a> {
 
     ghost Value = { List ℕ };
 
-    ghost view = { λ t. t.octets.now };
+    ghost use Rattle.mail_orders.specs.reading.FoldedTexts.{octets_compared};
+
+    ghost view = { λ t. octets_compared t.octets };
 }
 
 impl<'a> FoldedText<'a> {
-    /// The text, to be compared.
+    /// The text, to be compared a few times.
     pub(crate) fn new(octets: &'a [u8]) -> FoldedText<'a>
-        ensures { result ≡ octets.now }
+        ensures { result ≡ folded octets.now }
     {
-        FoldedText { octets }
+        FoldedText {
+            octets: Octets::Plain(octets),
+        }
+    }
+
+    /// The text, to be compared many times: a copy in small letters, if there is memory for one.
+    pub(crate) fn copied(alloc: Global, octets: &'a [u8]) -> FoldedText<'a>
+        ensures { result ≡ folded octets.now }
+    {
+        match octets.to_ascii_lowercase(alloc) {
+            Ok(lowercase) => FoldedText {
+                octets: Octets::Lowercase(lowercase),
+            },
+            Err(_) => FoldedText::new(octets),
+        }
     }
 }
 
@@ -42,29 +70,12 @@ fn order_of_none(other: &[u8]) -> Ordering
     }
 }
 
-/// What is left of two texts behind a front that is the same of both, by eight octets at a time.
-fn past_same<'a>(one: &'a [u8], other: &'a [u8]) -> (&'a [u8], &'a [u8])
-    ensures { text_cmp result.0.now result.1.now ≡ text_cmp one.now other.now }
-{
-    let mut left = one;
-    let mut right = other;
-    while 8 <= left.len() && 8 <= right.len() {
-        let (first, left_rest) = left.split_at(8);
-        let (second, right_rest) = right.split_at(8);
-        if first != second {
-            return (left, right);
-        }
-        left = left_rest;
-        right = right_rest;
-    }
-    (left, right)
-}
-
 /// How the texts compare.
 fn compare(one: &[u8], other: &[u8]) -> Ordering
     ensures { result ≡ text_cmp one.now other.now }
 {
-    let (mut left, mut right) = past_same(one, other);
+    let mut left = one;
+    let mut right = other;
     loop {
         match left {
             [] => return order_of_none(right),
@@ -83,13 +94,53 @@ fn compare(one: &[u8], other: &[u8]) -> Ordering
     }
 }
 
+/// How a text in small letters compares with another.
+fn compare_lowercase(lowercase: &[u8], other: &[u8]) -> Ordering
+    ensures { result ≡ slice_cmp nat_cmp lowercase.now (folded other.now) }
+{
+    let mut left = lowercase;
+    let mut right = other;
+    loop {
+        match left {
+            [] => return order_of_none(right),
+            [first, left_rest @ ..] => match right {
+                [] => return Ordering::Greater,
+                [second, right_rest @ ..] => {
+                    let order = first.cmp(&second.to_ascii_lowercase());
+                    if order != Ordering::Equal {
+                        return order;
+                    }
+                    left = left_rest;
+                    right = right_rest;
+                }
+            },
+        }
+    }
+}
+
+/// How the octets compare.
+fn compare_octets(one: &Octets<'_>, other: &Octets<'_>) -> Ordering
+    ensures { result ≡ slice_cmp nat_cmp (octets_compared one.now) (octets_compared other.now) }
+{
+    match one {
+        Octets::Lowercase(one) => match other {
+            Octets::Lowercase(other) => one.as_slice().cmp(other.as_slice()),
+            Octets::Plain(other) => compare_lowercase(one.as_slice(), other),
+        },
+        Octets::Plain(one) => match other {
+            Octets::Lowercase(other) => compare_lowercase(other.as_slice(), one).reverse(),
+            Octets::Plain(other) => compare(one, other),
+        },
+    }
+}
+
 impl<'a> PartialEq for FoldedText<'a> {
-    ghost eq = { eq_by_cmp text_cmp };
+    ghost eq = { eq_by_cmp (slice_cmp nat_cmp) };
 
     ghost laws = { Prim.search (comparing, rules) };
 
     fn eq(&self, other: &FoldedText<'a>) -> bool {
-        compare(self.octets, other.octets) == Ordering::Equal
+        compare_octets(&self.octets, &other.octets) == Ordering::Equal
     }
 }
 
@@ -98,7 +149,7 @@ impl<'a> Eq for FoldedText<'a> {
 }
 
 impl<'a> PartialOrd for FoldedText<'a> {
-    ghost partial_cmp = { as_partial_cmp text_cmp };
+    ghost partial_cmp = { as_partial_cmp (slice_cmp nat_cmp) };
 
     ghost laws = { partial_order_from_own_ties (Prim.search (comparing, rules)) (Prim.search (comparing, rules)) };
 
@@ -108,7 +159,7 @@ impl<'a> PartialOrd for FoldedText<'a> {
 }
 
 impl<'a> Ord for FoldedText<'a> {
-    ghost cmp = { text_cmp };
+    ghost cmp = { slice_cmp nat_cmp };
 
     ghost total = { Prim.search (comparing, rules) };
 
@@ -117,6 +168,6 @@ impl<'a> Ord for FoldedText<'a> {
     ghost matches_eq = { Prim.search (comparing, rules) };
 
     fn cmp(&self, other: &FoldedText<'a>) -> Ordering {
-        compare(self.octets, other.octets)
+        compare_octets(&self.octets, &other.octets)
     }
 }

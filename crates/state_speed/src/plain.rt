@@ -61,6 +61,15 @@ pub fn subjects(alloc: Global, all: &[Keys]) -> Result<Vec<(&[u8], u64)>, AllocE
     Ok(subjects)
 }
 
+/// Texts of From with numbers.
+pub fn senders(alloc: Global, all: &[Keys]) -> Result<Vec<(&[u8], u64)>, AllocError> {
+    let mut senders = Vec::with_capacity(alloc, all.len())?;
+    for keys in all {
+        senders.push((keys.from.as_slice(), keys.number))?;
+    }
+    Ok(senders)
+}
+
 /// Whether the word stands in a text.
 fn has_word(text: &[u8]) -> bool {
     text.windows(4).any(|part| part.eq_ignore_ascii_case(WORD))

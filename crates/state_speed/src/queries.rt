@@ -1,5 +1,5 @@
 // What queries of Emails cost, beside sorts of the same keys.
-use crate::plain::{dates, keys_of_all, subjects};
+use crate::plain::{Keys, dates, keys_of_all, senders, subjects};
 use crate::timed::{Work, say_in_turn};
 use mail_state::MailState;
 use process_watch::resident;
@@ -51,6 +51,27 @@ fn say_query(
     say_in_turn(rt, state, Work::Query(&whole), Work::Query(&first), plain)
 }
 
+/// Times queries by sender, beside a sort of the texts of From, and beside a search of them and a sort of those found.
+fn say_senders(rt: &HostRuntime, state: &MailState, all: &[Keys]) -> Result<(), anyhow::Error> {
+    let senders = senders(rt.alloc(), all)?;
+    let texts = Work::SortTexts(&senders);
+    say_query(
+        rt,
+        state,
+        "from dora; beside it a sort of the texts of From",
+        BY_SENDER,
+        texts,
+    )?;
+    let search = Work::SearchAndSort(all);
+    say_query(
+        rt,
+        state,
+        "from dora; beside it a search and a sort",
+        BY_SENDER,
+        search,
+    )
+}
+
 /// Times queries by date, by subject and by sender.
 pub fn say_queries(rt: &HostRuntime, state: &MailState) -> Result<(), anyhow::Error> {
     say_memory(rt, state, &arguments(rt.alloc(), BY_DATE, "")?)?;
@@ -60,7 +81,7 @@ pub fn say_queries(rt: &HostRuntime, state: &MailState) -> Result<(), anyhow::Er
     say_query(rt, state, "by date", BY_DATE, Work::SortDates(&dates))?;
     let texts = Work::SortTexts(&subjects);
     say_query(rt, state, "by subject", BY_SUBJECT, texts)?;
-    say_query(rt, state, "from dora", BY_SENDER, Work::SearchAndSort(&all))
+    say_senders(rt, state, &all)
 }
 
 /// Times a query by a filter beside one of all.

@@ -1,9 +1,6 @@
 use Rattle.std.proofs.Common.{◌≡◌, ◌<◌, Bool, true, false, refl, arith}
-use Rattle.mail_conditions.proofs.WordLemmas.{StandsAt, empty_word, found_at, place_of}
+use Rattle.mail_conditions.proofs.WordLemmas.{StandsAt, found_at, place_of}
 use Rattle.mail_conditions.proofs.words.has_word.Goals as goal
-
-pub returns-in_default : goal.returns-in_default
-returns-in_default c = (λ t. empty_word c.args.word.now c.args.text.now c.in_default.len_below, λ h. refl)
 
 pub returns-then-same_text : goal.returns-then-same_text
 returns-then-same_text c = (λ t. found_at c.args.word.now c.args.text.now c.loop-at.at (c.same_text.ensures.same.0 c.if-same_text.true), λ h. refl)

@@ -1,14 +1,15 @@
 use Rattle.std.proofs.Common.{ℕ, ℤ, List, Bool, Option, of_calls, rules, refl, nat_cmp, int_cmp}
-use Rattle.std.specs.Option.{option_cmp}
+use Rattle.std.specs.Cmp.Lexicographic.{slice_cmp}
+use Rattle.std.specs.Option.{option_cmp, option_map}
 use Rattle.std.specs.Ordering.{bool_cmp}
 use Rattle.std.proofs.lemmas.Result.{on_ok_weaker}
 use Rattle.mail_maps.specs.Keywords.{has_name}
 use Rattle.mail_conditions.specs.Entries.{email_at, emails_at}
 use Rattle.mail_conditions.specs.ThreadKeywords.{all_in_thread_have, some_in_thread_has}
 use Rattle.mail_conditions.specs.declared.entry.EmailEntry.{EmailEntry}
-use Rattle.mail_orders.specs.Texts.{text_cmp}
+use Rattle.mail_orders.specs.Texts.{folded}
 use Rattle.mail_orders.specs.declared.comparators.EmailSort.TheVariants as sort
-use Rattle.mail_orders.proofs.KeyLemmas.{email_sort}
+use Rattle.mail_orders.proofs.KeyLemmas.{email_sort, options_folded}
 use Rattle.mail_orders.proofs.emails.sort_by_comparator.Goals as goal
 
 pub returns-in-ReceivedAt-clause-sorted : goal.returns-in-ReceivedAt-clause-sorted
@@ -34,29 +35,29 @@ returns-in-Size-clause-sorted c =
 pub returns-in-From-clause-sorted : goal.returns-in-From-clause-sorted
 returns-in-From-clause-sorted c =
     let call = c.sort_by_keys-in-From in
-    let key : EmailEntry → Option (List ℕ) = λ e. (email_at e).immutable.envelope.from.first in
+    let key : EmailEntry → Option (List ℕ) = λ e. option_map folded (email_at e).immutable.envelope.from.first in
     on_ok_weaker call.result
-    (λ sorts. email_sort (option_cmp text_cmp) key (emails_at c.args.emails.now) c.args.comparator.now sort.From c.args.rows.now.items call.new.rows.items
-    c.in-From.is (λ a b. refl)
+    (λ sorts. email_sort (option_cmp (slice_cmp nat_cmp)) key (emails_at c.args.emails.now) c.args.comparator.now sort.From c.args.rows.now.items call.new.rows.items
+    c.in-From.is (λ a b. options_folded (email_at a).immutable.envelope.from.first (email_at b).immutable.envelope.from.first)
     (sorts key (λ x r called. search (rules, of_calls))))
     call.ensures.sorted
 
 pub returns-in-To-clause-sorted : goal.returns-in-To-clause-sorted
 returns-in-To-clause-sorted c =
     let call = c.sort_by_keys-in-To in
-    let key : EmailEntry → Option (List ℕ) = λ e. (email_at e).immutable.envelope.to.first in
+    let key : EmailEntry → Option (List ℕ) = λ e. option_map folded (email_at e).immutable.envelope.to.first in
     on_ok_weaker call.result
-    (λ sorts. email_sort (option_cmp text_cmp) key (emails_at c.args.emails.now) c.args.comparator.now sort.To c.args.rows.now.items call.new.rows.items
-    c.in-To.is (λ a b. refl)
+    (λ sorts. email_sort (option_cmp (slice_cmp nat_cmp)) key (emails_at c.args.emails.now) c.args.comparator.now sort.To c.args.rows.now.items call.new.rows.items
+    c.in-To.is (λ a b. options_folded (email_at a).immutable.envelope.to.first (email_at b).immutable.envelope.to.first)
     (sorts key (λ x r called. search (rules, of_calls))))
     call.ensures.sorted
 
 pub returns-in-Subject-clause-sorted : goal.returns-in-Subject-clause-sorted
 returns-in-Subject-clause-sorted c =
     let call = c.sort_by_keys-in-Subject in
-    let key : EmailEntry → List ℕ = λ e. (email_at e).immutable.envelope.base in
+    let key : EmailEntry → List ℕ = λ e. folded (email_at e).immutable.envelope.base in
     on_ok_weaker call.result
-    (λ sorts. email_sort text_cmp key (emails_at c.args.emails.now) c.args.comparator.now sort.Subject c.args.rows.now.items call.new.rows.items
+    (λ sorts. email_sort (slice_cmp nat_cmp) key (emails_at c.args.emails.now) c.args.comparator.now sort.Subject c.args.rows.now.items call.new.rows.items
     c.in-Subject.is (λ a b. refl)
     (sorts key (λ x r called. search (rules, of_calls))))
     call.ensures.sorted
