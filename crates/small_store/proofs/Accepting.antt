@@ -13,12 +13,12 @@ use Rattle.small_store.proofs.Refusing.{at_end}
 use Rattle.small_store.proofs.Seeing.{message_seen}
 
 below : (a b : ℕ) → (b ≤ a → ⊥) → a < b
-below a b no = by (cases_order a b)
+below a b least = by (cases_order a b)
   where
     by : (a ≡ b) ⊎ ((a < b) ⊎ (b < a)) → a < b
-    by (inl e) = absurd (no (omega (arith, e)))
+    by (inl e) = absurd (least (omega (arith, e)))
     by (inr (inl l)) = l
-    by (inr (inr l)) = absurd (no (omega (arith, l)))
+    by (inr (inr l)) = absurd (least (omega (arith, l)))
 
 module _ (s : StoreSession) where
   pub create_room : (name : List ℕ) → (RefusalCause s (command.Create name) → ⊥) → next_validity s.mail < 2 ^ 32

@@ -16,3 +16,6 @@ pub mod Others
 pub mod ReadReplies
 pub mod Storing
 pub mod Naming
+pub mod MachineReplies
+pub mod MachineAnswers
+pub mod MachineMoves

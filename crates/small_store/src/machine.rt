@@ -180,9 +180,10 @@ impl StoreMachine {
         ensures ok { IfOk result (λ a. Gives (ok_reply self.old (commands.Create name.now)) a self.new) }
         ensures err { OnErr result (self.new ≡ self.old) }
     {
-        if let Some(validity) = self.mail.next_validity() {
-            self.mail.create(self.alloc, told_name(name), validity)?;
-        }
+        let Some(validity) = self.mail.next_validity() else {
+            return Ok(Answer::done(self.alloc));
+        };
+        self.mail.create(self.alloc, told_name(name), validity)?;
         Ok(Answer::done(self.alloc))
     }
 
@@ -191,9 +192,10 @@ impl StoreMachine {
         requires there { folder_called self.old.mail.folders name.now ≢ None }
         ensures { Gives (ok_reply self.old (commands.Delete name.now)) result self.new }
     {
-        if let Some(place) = self.mail.place_named(name) {
-            self.mail.delete(place);
-        }
+        let Some(place) = self.mail.place_named(name) else {
+            return Answer::done(self.alloc);
+        };
+        self.mail.delete(place);
         Answer::done(self.alloc)
     }
 

@@ -1,0 +1,49 @@
+-- What is answered is an answer to the command, and leaves mail that can be told.
+use Rattle.std.proofs.Common.{◌≡◌, ◌∙◌, ◌++◌, ◌∷◌, [], ℕ, Bool, true, false, List, Result, Ok, Err, refl, sym, ap, subst}
+use Rattle.std.specs.Prelude.{IfOk, MatchBool, OnErr}
+use Rattle.std.specs.List.{flat_map}
+use Rattle.std.specs.declared.alloc.AllocError.{AllocError}
+use Rattle.std.proofs.lemmas.List.{append-nil}
+use Rattle.std.proofs.lemmas.List.Concat.{flat_map-append}
+use Rattle.imap_syntax.specs.declared.command.Command.{Command}
+use Rattle.imap_syntax.specs.declared.response.Response.TheVariants as response
+use Rattle.honest_store.specs.Honest.{after_no}
+use Rattle.honest_store.specs.Sessions.{StoreAnswer, StoreSession}
+use Rattle.small_answers.specs.Answers.{AnswersCommand, Refused, Accepted, no_answer, ok_answer, ok_reply}
+use Rattle.small_answers.specs.Causes.{RefusalCause}
+use Rattle.small_responses.specs.AnswerTexts.{text_of_answer}
+use Rattle.small_responses.specs.Tellable.{IsTellableCommand, IsTellableMail}
+use Rattle.small_store.specs.reading.Steps.{Gives}
+use Rattle.store_responses.specs.ResponseTexts.{text_of_response}
+use Rattle.small_store.proofs.Telling.{tellable_answered}
+
+module _ (s after : StoreSession) (c : Command) where
+  pub refused : (a : StoreAnswer) → RefusalCause s c → a ≡ no_answer → after ≡ after_no c s → AnswersCommand s c a after
+  refused a cause answer session =
+      subst (λ (x : StoreAnswer). AnswersCommand s c x after) (sym answer) (subst (λ (t : StoreSession). AnswersCommand s c no_answer t) (sym session) (Refused cause))
+
+  pub accepted : (a : StoreAnswer) → (RefusalCause s c → ⊥) → Gives (ok_reply s c) a after → AnswersCommand s c a after
+  accepted a free gives =
+      subst (λ (x : StoreAnswer). AnswersCommand s c x after) (sym gives.answer)
+      (subst (λ (t : StoreSession). AnswersCommand s c (ok_answer (ok_reply s c)) t) (sym gives.session) (Accepted free))
+
+  pub told_either : (result : Result StoreAnswer AllocError) → IsTellableMail s.mail → IsTellableCommand c → IfOk result (λ (a : StoreAnswer). AnswersCommand s c a after)
+      → OnErr result (after ≡ s) → IsTellableMail after.mail
+  told_either (Ok a) mail parts answers kept = tellable_answered s after c a mail parts answers
+  told_either (Err e) mail parts answers kept = subst (λ (t : StoreSession). IsTellableMail t.mail) (sym kept) mail
+
+-- whether there is a cause
+pub cause_there : (b : Bool) (P : Type 0) → MatchBool b P (P → ⊥) → b ≡ true → P
+cause_there b P by is = subst (λ (x : Bool). MatchBool x P (P → ⊥)) is by
+
+pub cause_free : (b : Bool) (P : Type 0) → MatchBool b P (P → ⊥) → b ≡ false → P → ⊥
+cause_free b P by is = subst (λ (x : Bool). MatchBool x P (P → ⊥)) is by
+
+-- the octets of the untagged responses and then those of the tagged one
+pub octets_are : (tag : List ℕ) (a : StoreAnswer) (none untagged all : List ℕ) → none ≡ [] → untagged ≡ none ++ flat_map text_of_response a.responses
+    → all ≡ untagged ++ text_of_response (response.Tagged tag a.status a.code) → all ≡ text_of_answer tag a
+octets_are tag a none untagged all nothing before is =
+    let tagged : List ℕ = text_of_response (response.Tagged tag a.status a.code) in
+    is ∙ (ap (λ (xs : List ℕ). xs ++ tagged) (before ∙ ap (λ (xs : List ℕ). xs ++ flat_map text_of_response a.responses) nothing)
+    ∙ (ap (λ (xs : List ℕ). flat_map text_of_response a.responses ++ xs) (sym (append-nil tagged))
+    ∙ sym (flat_map-append text_of_response a.responses (response.Tagged tag a.status a.code ∷ []))))
