@@ -2,9 +2,8 @@ use Rattle.std.proofs.Common.{◌≡◌, ◌∙◌, ◌<◌, ℕ, List, None, So
 use Rattle.std.specs.List.{slice_get}
 use Rattle.std.proofs.lemmas.Option.{same_Some, slice_get_within}
 use Rattle.honest_store.specs.Sessions.{StoreSession}
-use Rattle.honest_store.specs.StoreMail.{StoreFolder, StoreMail, StoreMessage, folder_called}
-use Rattle.small_answers.specs.Changes.{mail_without}
-use Rattle.small_answers.specs.Limits.{is_last_change, is_last_message}
+use Rattle.honest_store.specs.StoreMail.{StoreFolder, StoreMail, folder_called}
+use Rattle.small_answers.specs.Limits.{is_last_change}
 use Rattle.small_answers.specs.OwnersCalls.{CallGives, message_at_place, other_folder, shifted}
 use Rattle.small_answers.specs.SmallMail.{IsSmallMail}
 use Rattle.small_store.proofs.Calls.{shift_last, shift_nothing}
@@ -78,7 +77,8 @@ returns-then-is_last_change-clause-ok c =
           let there = landed_at mail small c.in-Some.source c.in-Some.at e.0 e.1 (message_at_place mail c.args.at) at_f at_m e.4 room c.in-Some-place_named.target t.0 called t.1 in
           shift_no_room mail small c.in-Some.source c.in-Some.at e.0 e.1 (message_at_place mail c.args.at) at_f at_m e.4 room c.in-Some-place_named.target t.0 called t.1
           (sym (w.is_full_for_move.ensures e.0
-          (landed mail small c.in-Some.source c.in-Some.at e.0 e.1 (message_at_place mail c.args.at) at_f at_m e.4 room c.in-Some-place_named.target t.0 called t.1) e.1.uid at_f room there)
+          (landed mail small c.in-Some.source c.in-Some.at e.0 e.1 (message_at_place mail c.args.at) at_f at_m e.4 room c.in-Some-place_named.target t.0 called t.1)
+          e.1.uid at_f room there)
           ∙ w.if-is_full_for_move.true)
     ])
 
