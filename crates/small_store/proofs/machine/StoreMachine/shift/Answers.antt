@@ -113,7 +113,7 @@ pub move_message-requires-clause-room_there : goal.move_message-requires-clause-
 move_message-requires-clause-room_there c = λ f t m at_g at_n at_t.
     let mail = c.self.inside.mail in
     let read = read_is c.folders.result.now mail.folders c.folders.ensures c.in-Some.source c.index-folders-source.result f c.index-folders-source.is at_g in
-    sym (c.is_full_for_move.ensures f t m.uid at_g 
+    sym (c.is_full_for_move.ensures f t m.uid at_g
     (ap is_last_change (sym read) ∙ (sym c.is_last_change.ensures ∙ c.if-is_last_change.false)) at_t) ∙ c.if-is_full_for_move.false
 
 pub returns-clause-ok : goal.returns-clause-ok
