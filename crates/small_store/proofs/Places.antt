@@ -1,7 +1,7 @@
 -- Messages among all, in the order of folders.
-use Rattle.std.proofs.Common.{◌≡◌, ℕ, zero, suc, ◌+◌, ◌-◌, ◌<◌, ◌≤◌, List, [], ◌∷◌, ◌++◌, map, length, drop, get_or, Option, Some, None, refl, sym, ap, ◌∙◌, arith}
+use Rattle.std.proofs.Common.{◌≡◌, ℕ, zero, suc, ◌+◌, ◌-◌, ◌<◌, ◌≤◌, List, [], ◌∷◌, ◌++◌, map, length, drop, get_or, Option, Some, refl, sym, ap, ◌∙◌, arith}
 use Rattle.std.specs.List.{slice_get}
-use Rattle.std.proofs.lemmas.List.{at_drop_all, at_drop_more}
+use Rattle.std.proofs.lemmas.List.{at_drop_more}
 use Rattle.std.proofs.lemmas.Option.{get_or_from_slice_get, slice_get_read}
 use Rattle.honest_store.specs.StoreMail.{StoreMessage, StoreFolder}
 use Rattle.small_answers.specs.OwnersCalls.{messages_in_order}
@@ -33,10 +33,14 @@ pub placed_here : (fs : List StoreFolder) (i n : ℕ) (f : StoreFolder) (o : Opt
     → slice_get (messages_in_order (drop i fs)) n ≡ o
     → (g : StoreFolder) × (m : StoreMessage) × (slice_get fs i ≡ Some g) × (slice_get g.messages n ≡ Some m) × (o ≡ Some (g, m))
 placed_here fs i n f o l is within so_far =
-    let m = element f.messages n within in
-    (f, m.0, slice_get_read fs (length fs) i f refl l is, m.1,
-    sym so_far ∙ (ap (λ (ps : List (StoreFolder × StoreMessage)). slice_get ps n) (folder_more fs i f l is)
-    ∙ (at_front f f.messages (messages_in_order (drop (i + 1) fs)) n m.0 within ∙ ap (λ (x : StoreMessage). Some (f, x)) (get_or_from_slice_get f.messages n m.0 m.0 m.1))))
+    let m = element f.messages n within in (
+      f,
+      m.0,
+      slice_get_read fs (length fs) i f refl l is,
+      m.1,
+      sym so_far ∙ (ap (λ (ps : List (StoreFolder × StoreMessage)). slice_get ps n) (folder_more fs i f l is)
+          ∙ (at_front f f.messages (messages_in_order (drop (i + 1) fs)) n m.0 within ∙ ap (λ (x : StoreMessage). Some (f, x)) (get_or_from_slice_get f.messages n m.0 m.0 m.1))),
+    )
 
 -- it is behind this folder
 pub placed_behind : (fs : List StoreFolder) (i n : ℕ) (f : StoreFolder) (o : Option (StoreFolder × StoreMessage)) → i < length fs → f ≡ get_or fs i f → length f.messages ≤ n
@@ -44,7 +48,3 @@ pub placed_behind : (fs : List StoreFolder) (i n : ℕ) (f : StoreFolder) (o : O
 placed_behind fs i n f o l is beyond so_far =
     sym (ap (λ (ps : List (StoreFolder × StoreMessage)). slice_get ps n) (folder_more fs i f l is)
     ∙ behind f f.messages (messages_in_order (drop (i + 1) fs)) n (n - length f.messages) (omega (arith, beyond))) ∙ so_far
-
--- no folder is left
-pub placed_nowhere : (fs : List StoreFolder) (i n : ℕ) (o : Option (StoreFolder × StoreMessage)) → length fs ≤ i → slice_get (messages_in_order (drop i fs)) n ≡ o → o ≡ None
-placed_nowhere fs i n o l so_far = sym so_far ∙ at_drop_all (λ (gs : List StoreFolder). slice_get (messages_in_order gs) n) fs i l

@@ -52,12 +52,7 @@ fn seen_flag(alloc: Global) -> Result<Names, AllocError>
 impl StoreMachine {
     /// Delivers a message to the folder. False where no such folder is there, or a number would pass its end. The date is in
     /// seconds since 1970-01-01T00:00:00Z, within the years 0 to 9999.
-    pub fn deliver(
-        &mut self,
-        folder: &[u8],
-        message: &[u8],
-        date: i64,
-    ) -> Result<bool, AllocError>
+    pub fn deliver(&mut self, folder: &[u8], message: &[u8], date: i64) -> Result<bool, AllocError>
         requires tellable { IsTellableMail self.old.mail }
         requires date { nearest_date date ≡ date }
         requires fits { length message.now < 2 ^ 63 }

@@ -1,4 +1,4 @@
-use Rattle.std.proofs.Common.{◌≡◌, ◌∙◌, ◌-◌, ◌+◌, ℕ, List, ap, sym, arith, length, get_or, drop}
+use Rattle.std.proofs.Common.{◌≡◌, ◌∙◌, ◌-◌, ◌+◌, List, ap, arith, length, get_or, drop}
 use Rattle.std.specs.List.{slice_get}
 use Rattle.honest_store.specs.StoreMail.{StoreFolder, StoreMessage}
 use Rattle.small_answers.specs.OwnersCalls.{message_at_place, messages_in_order}

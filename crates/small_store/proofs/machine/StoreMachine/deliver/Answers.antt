@@ -3,7 +3,7 @@ use Rattle.std.proofs.lemmas.Int.{to_z-of_z}
 use Rattle.std.proofs.lemmas.Option.{slice_get_within}
 use mir.Val.{of_z, to_z}
 use Rattle.honest_store.specs.Sessions.{StoreSession}
-use Rattle.honest_store.specs.StoreMail.{StoreFolder, StoreMail}
+use Rattle.honest_store.specs.StoreMail.{StoreMail}
 use Rattle.small_answers.specs.Changes.{mail_with, message_of}
 use Rattle.small_answers.specs.Limits.{is_last_message}
 use Rattle.small_answers.specs.OwnersCalls.{CallGives, delivered}

@@ -2,9 +2,8 @@ use Rattle.std.proofs.Common.{◌≡◌, ◌∙◌, ◌<◌, ℕ, List, None, So
 use Rattle.std.specs.List.{slice_get}
 use Rattle.std.proofs.lemmas.Option.{same_Some, slice_get_within}
 use Rattle.honest_store.specs.Sessions.{StoreSession}
-use Rattle.honest_store.specs.StoreMail.{StoreFolder, StoreMail, StoreMessage, folder_called}
-use Rattle.small_answers.specs.Changes.{mail_without}
-use Rattle.small_answers.specs.Limits.{is_last_change, is_last_message}
+use Rattle.honest_store.specs.StoreMail.{StoreFolder, StoreMail, folder_called}
+use Rattle.small_answers.specs.Limits.{is_last_change}
 use Rattle.small_answers.specs.OwnersCalls.{CallGives, message_at_place, other_folder, shifted}
 use Rattle.small_answers.specs.SmallMail.{IsSmallMail}
 use Rattle.small_store.proofs.Calls.{shift_last, shift_nothing}
@@ -78,7 +77,8 @@ returns-then-is_last_change-clause-ok c =
           let there = landed_at mail small c.in-Some.source c.in-Some.at e.0 e.1 (message_at_place mail c.args.at) at_f at_m e.4 room c.in-Some-place_named.target t.0 called t.1 in
           shift_no_room mail small c.in-Some.source c.in-Some.at e.0 e.1 (message_at_place mail c.args.at) at_f at_m e.4 room c.in-Some-place_named.target t.0 called t.1
           (sym (w.is_full_for_move.ensures e.0
-          (landed mail small c.in-Some.source c.in-Some.at e.0 e.1 (message_at_place mail c.args.at) at_f at_m e.4 room c.in-Some-place_named.target t.0 called t.1) e.1.uid at_f room there)
+          (landed mail small c.in-Some.source c.in-Some.at e.0 e.1 (message_at_place mail c.args.at) at_f at_m e.4 room c.in-Some-place_named.target t.0 called t.1)
+          e.1.uid at_f room there)
           ∙ w.if-is_full_for_move.true)
     ])
 
@@ -113,7 +113,7 @@ pub move_message-requires-clause-room_there : goal.move_message-requires-clause-
 move_message-requires-clause-room_there c = λ f t m at_g at_n at_t.
     let mail = c.self.inside.mail in
     let read = read_is c.folders.result.now mail.folders c.folders.ensures c.in-Some.source c.index-folders-source.result f c.index-folders-source.is at_g in
-    sym (c.is_full_for_move.ensures f t m.uid at_g 
+    sym (c.is_full_for_move.ensures f t m.uid at_g
     (ap is_last_change (sym read) ∙ (sym c.is_last_change.ensures ∙ c.if-is_last_change.false)) at_t) ∙ c.if-is_full_for_move.false
 
 pub returns-clause-ok : goal.returns-clause-ok
