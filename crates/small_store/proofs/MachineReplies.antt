@@ -29,11 +29,6 @@ answered_as s after asked given result same = subst (λ (c : Command). IfOk resu
 pub gives_asked : (s after : StoreSession) (asked given : Command) (a : StoreAnswer) → asked ≡ given → Gives (ok_reply s given) a after → Gives (ok_reply s asked) a after
 gives_asked s after asked given a same = subst (λ (c : Command). Gives (ok_reply s c) a after) (sym same)
 
--- what holds holds beside an error
-pub beside_error : {T E P : Type 0} (result : Result T E) → P → OnErr result P
-beside_error (Ok t) so = tt
-beside_error (Err e) so = so
-
 -- ---- SELECT and DELETE
 
 module _ (s : StoreSession) (name : List ℕ) where
