@@ -1,19 +1,20 @@
 -- The causes to refuse each command.
-use Rattle.std.proofs.Common.{◌≡◌, ◌⊎◌, inl, inr, ℕ, zero, suc, ◌<◌, ◌≤◌, ◌^◌, ◌==◌, ◌&&◌, ◌||◌, Bool, true, false, not, List, [], ◌∷◌, Option, Some, None, length, get_or, refl, sym, subst, ap, ◌∙◌, ◌++◌, arith, Any, IsSome, is_some, bytes_eq, nat_lt, ℤ, if◌then◌else◌, true≢false}
+use Rattle.std.proofs.Common.{◌≡◌, ◌⊎◌, inl, inr, ℕ, zero, suc, ◌<◌, ◌||◌, Bool, true, false, List, [], ◌∷◌, ◌++◌, Option, Some, None, length, get_or, refl, sym, subst, ap, ◌∙◌}
+use Rattle.std.proofs.Common.{arith, Any, IsSome, is_some, bytes_eq, nat_lt, if◌then◌else◌, true≢false}
 use Rattle.std.specs.List.{flat_map, list_any}
 use Rattle.std.proofs.lemmas.Bool.{ltb-false}
 use Rattle.imap_syntax.specs.declared.command.Command.{Command}
 use Rattle.imap_syntax.specs.declared.command.Command.TheVariants as command
 use Rattle.imap_syntax.specs.Folders.{folder_name}
-use Rattle.imap_syntax.specs.Items.{kept}
-use Rattle.honest_store.specs.StoreMail.{StoreMessage, StoreFolder, StoreMail, folder_called}
+use Rattle.honest_store.specs.StoreMail.{StoreFolder, StoreMail, folder_called}
 use Rattle.honest_store.specs.FolderChanges.{child_part, inbox_name, renamed_child}
 use Rattle.honest_store.specs.Sessions.{StoreSession}
-use Rattle.small_answers.specs.Changes.{mail_without, next_validity, selected_folder}
+use Rattle.small_answers.specs.Changes.{mail_without, selected_folder}
 use Rattle.small_answers.specs.Limits.{text_limit, total_length, is_last_change, is_last_message}
 use Rattle.small_answers.specs.Causes as causes
-use Rattle.small_answers.specs.Causes.{RefusalCause, IsAtEnd, NotThere, IsThere, IsInbox, HasChildren, NothingSelected, NoMessage, NameTooLong, FlagsTooLong, NumberSpent, NeedsSelected}
-use Rattle.small_answers.proofs.Elements.{any_head, any_tail}
+use Rattle.small_answers.specs.Causes.{RefusalCause, NotThere, IsThere, IsInbox, HasChildren, NothingSelected, NoMessage, NameTooLong, FlagsTooLong, NumberSpent}
+use Rattle.small_answers.specs.Causes.{IsAtEnd, NeedsSelected}
+use Rattle.small_answers.proofs.Elements.{any_head, any_of_none, any_tail}
 use Rattle.small_store.specs.reading.Names.{is_name_refused, is_part_refused, is_child_refused}
 
 -- ---- lists of one name, and of none
@@ -22,22 +23,16 @@ one_by : {X : Type 0} (P : X → Type 0) (x y : X) (k : ℕ) → k < 1 → get_o
 one_by P x y zero l is p = subst P (sym is) p
 one_by P x y (suc k) l is p = absurd (omega (arith, l))
 
-pub only_one : {X : Type 0} (P : X → Type 0) (x : X) → Any P (x ∷ []) → P x
+only_one : {X : Type 0} (P : X → Type 0) (x : X) → Any P (x ∷ []) → P x
 only_one P x h = one_by P x h.1 h.0 h.2 h.3 h.4
 
-no_one : {X : Type 0} (P : X → Type 0) → Any P [] → ⊥
-no_one P h = omega (arith, h.2)
-
-pub the_one : {X : Type 0} (P : X → Type 0) (x : X) → P x → Any P (x ∷ [])
-the_one P x p = (0, x, omega arith, refl, p)
-
-abbrev IsThereNow : StoreSession → List ℕ → Type 0
+abbrev pub IsThereNow : StoreSession → List ℕ → Type 0
 IsThereNow s name = IsSome (folder_called s.mail.folders name)
 
-abbrev IsTooLong : List ℕ → Type 0
+abbrev pub IsTooLong : List ℕ → Type 0
 IsTooLong name = text_limit < length name
 
-abbrev IsNotThere : StoreSession → List ℕ → Type 0
+abbrev pub IsNotThere : StoreSession → List ℕ → Type 0
 IsNotThere s name = folder_called s.mail.folders name ≡ None
 
 -- where none of the nine holds
@@ -74,9 +69,9 @@ free_by : (s : StoreSession) (c : Command) → (causes.names_asked c ≡ []) →
     → (causes.LeavesChildren s.mail c → ⊥) → (NeedsSelected c → s.selected ≡ None → ⊥) → (causes.MovesNothing s c → ⊥)
     → (causes.flags_made s c ≡ []) → (causes.PassesEnd s c → ⊥) → RefusalCause s c → ⊥
 free_by s c asked made inbox children selected moves flags spent =
-    none_of_nine s c (λ a. no_one (IsNotThere s) (subst (λ (ns : List (List ℕ)). Any (IsNotThere s) ns) asked a))
-    (λ a. no_one (IsThereNow s) (subst (λ (ns : List (List ℕ)). Any (IsThereNow s) ns) made a)) inbox children selected moves
-    (λ a. no_one IsTooLong (subst (λ (ns : List (List ℕ)). Any IsTooLong ns) made a))
+    none_of_nine s c (λ a. any_of_none (IsNotThere s) (subst (λ (ns : List (List ℕ)). Any (IsNotThere s) ns) asked a))
+    (λ a. any_of_none (IsThereNow s) (subst (λ (ns : List (List ℕ)). Any (IsThereNow s) ns) made a)) inbox children selected moves
+    (λ a. any_of_none IsTooLong (subst (λ (ns : List (List ℕ)). Any IsTooLong ns) made a))
     (λ l. no_flags (subst (λ (ns : List (List ℕ)). text_limit < total_length ns) flags l)) spent
 
 pub free_capability : IsFree command.Capability
@@ -106,36 +101,13 @@ free_new from modseq s needs = free_by s (command.FetchNew from modseq) refl ref
 pub free_body : (uid : ℕ) → IsFree (command.FetchBody uid)
 free_body uid s needs = free_by s (command.FetchBody uid) refl refl (λ a. a) (λ a. a) needs (λ a. a) refl (λ a. a)
 
--- ---- commands on names
-
-pub free_select : (s : StoreSession) (name : List ℕ) (known : Option (ℕ × ℕ)) → (IsNotThere s name → ⊥) → RefusalCause s (command.Select name known) → ⊥
-free_select s name known there =
-    none_of_nine s (command.Select name known) (λ a. there (only_one (IsNotThere s) name a)) (no_one (IsThereNow s)) (λ a. a) (λ a. a) (λ a e. a) (λ a. a) (no_one IsTooLong)
-    no_flags (λ a. a)
-
-pub free_subscribe : (s : StoreSession) (name : List ℕ) (on : Bool) → (IsNotThere s name → ⊥) → RefusalCause s (command.Subscribe name on) → ⊥
-free_subscribe s name on there =
-    none_of_nine s (command.Subscribe name on) (λ a. there (only_one (IsNotThere s) name a)) (no_one (IsThereNow s)) (λ a. a) (λ a. a) (λ a e. a) (λ a. a) (no_one IsTooLong)
-    no_flags (λ a. a)
-
-pub free_create : (s : StoreSession) (name : List ℕ) → (IsThereNow s (folder_name name) → ⊥) → (IsTooLong (folder_name name) → ⊥) → (2 ^ 32 ≤ next_validity s.mail → ⊥)
-    → RefusalCause s (command.Create name) → ⊥
-free_create s name free short room =
-    none_of_nine s (command.Create name) (no_one (IsNotThere s)) (λ a. free (only_one (IsThereNow s) (folder_name name) a)) (λ a. a) (λ a. a) (λ a e. a) (λ a. a)
-    (λ a. short (only_one IsTooLong (folder_name name) a)) no_flags room
+-- ---- DELETE
 
 pub free_delete : (s : StoreSession) (name : List ℕ) → (folder_name name ≡ inbox_name → ⊥) → (IsNotThere s name → ⊥)
     → (Any (λ (f : StoreFolder). IsSome (child_part (folder_name name) f.delimiter f.name)) s.mail.folders → ⊥) → RefusalCause s (command.Delete name) → ⊥
 free_delete s name other there childless =
-    none_of_nine s (command.Delete name) (λ a. there (only_one (IsNotThere s) name a)) (no_one (IsThereNow s)) other childless (λ a e. a) (λ a. a) (no_one IsTooLong)
-    no_flags (λ a. a)
-
-pub free_append : (s : StoreSession) (name : List ℕ) (flags : List (List ℕ)) (date : ℤ) (message : List ℕ) → (IsNotThere s name → ⊥)
-    → (text_limit < total_length (kept flags) → ⊥) → (IsAtEnd is_last_message (folder_called s.mail.folders name) → ⊥)
-    → RefusalCause s (command.Append name flags date message) → ⊥
-free_append s name flags date message there short room =
-    none_of_nine s (command.Append name flags date message) (λ a. there (only_one (IsNotThere s) name a)) (no_one (IsThereNow s)) (λ a. a) (λ a. a) (λ a e. a) (λ a. a)
-    (no_one IsTooLong) short room
+    none_of_nine s (command.Delete name) (λ a. there (only_one (IsNotThere s) name a)) (any_of_none (IsThereNow s)) other childless (λ a e. a) (λ a. a)
+    (any_of_none IsTooLong) no_flags (λ a. a)
 
 -- ---- RENAME
 
@@ -167,12 +139,12 @@ renamed_by : (P : List ℕ → Type 0) (to name : List ℕ) (b : Bool) (o : Opti
     → Any P (if b || is_some o then (if b then to else renamed_child name to o) ∷ [] else []) → ⊥
 renamed_by P to name true o itself child h = itself (only_one P to h)
 renamed_by P to name false (Some rest) itself child h = child rest refl (only_one P (to ++ rest) h)
-renamed_by P to name false None itself child h = no_one P h
+renamed_by P to name false None itself child h = any_of_none P h
 
 -- of the names that folders get, none is so
 none_renamed : (P : List ℕ → Type 0) (mail : StoreMail) (from to : List ℕ) → ((name : List ℕ) → is_name_refused mail name ≡ false → P name → ⊥) → is_name_refused mail to ≡ false
     → (fs : List StoreFolder) → list_any (is_child_refused mail from to) fs ≡ false → Any P (flat_map (causes.names_renamed from to) fs) → ⊥
-none_renamed P mail from to free itself [] none h = no_one P h
+none_renamed P mail from to free itself [] none h = any_of_none P h
 none_renamed P mail from to free itself (f ∷ fs) none h =
     by (none_renamed P mail from to free itself fs (or_right_none (is_child_refused mail from to f) (list_any (is_child_refused mail from to) fs) none))
     (any_of_both P (causes.names_renamed from to f) (flat_map (causes.names_renamed from to) fs) h)
@@ -187,11 +159,11 @@ none_renamed P mail from to free itself (f ∷ fs) none h =
     by later (inl a) = renamed_by P to f.name (bytes_eq f.name from) (child_part from f.delimiter f.name) (free to itself) child a
     by later (inr a) = later a
 
-pub not_there : (s : StoreSession) (name : List ℕ) → is_name_refused s.mail name ≡ false → IsThereNow s name → ⊥
+not_there : (s : StoreSession) (name : List ℕ) → is_name_refused s.mail name ≡ false → IsThereNow s name → ⊥
 not_there s name free there =
     true≢false (sym there ∙ or_right_none (nat_lt text_limit (length name)) (is_some (folder_called s.mail.folders name)) free)
 
-pub not_long : (s : StoreSession) (name : List ℕ) → is_name_refused s.mail name ≡ false → IsTooLong name → ⊥
+not_long : (s : StoreSession) (name : List ℕ) → is_name_refused s.mail name ≡ false → text_limit < length name → ⊥
 not_long s name free long =
     omega (arith, long, ltb-false text_limit (length name) (or_left_none (nat_lt text_limit (length name)) (is_some (folder_called s.mail.folders name)) free))
 
@@ -208,28 +180,14 @@ free_rename s from to other there itself children =
         by (inl p) = free (folder_name to) itself p
         by (inr h) = none_renamed P s.mail (folder_name from) (folder_name to) free itself s.mail.folders children h
 
--- ---- commands on messages, while a folder is selected
-
-pub free_store : (s : StoreSession) (uid : ℕ) (add : Bool) (flags : List (List ℕ)) → (s.selected ≡ None → ⊥)
-    → (text_limit < total_length (causes.flags_of_store add flags (causes.selected_message s uid)) → ⊥)
-    → (IsAtEnd is_last_change (selected_folder s) → causes.changes_flags add flags (causes.selected_message s uid) ≡ true → ⊥)
-    → RefusalCause s (command.Store uid add flags) → ⊥
-free_store s uid add flags selected short room =
-    none_of_nine s (command.Store uid add flags) (no_one (IsNotThere s)) (no_one (IsThereNow s)) (λ a. a) (λ a. a) (λ a e. selected e) (λ a. a) (no_one IsTooLong) short
-    (λ a. room a.0 a.1)
-
-pub free_expunge : (s : StoreSession) (uid : ℕ) → (s.selected ≡ None → ⊥)
-    → (IsAtEnd is_last_change (selected_folder s) → causes.ends_message (causes.selected_message s uid) ≡ true → ⊥) → RefusalCause s (command.Expunge uid) → ⊥
-free_expunge s uid selected room =
-    none_of_nine s (command.Expunge uid) (no_one (IsNotThere s)) (no_one (IsThereNow s)) (λ a. a) (λ a. a) (λ a e. selected e) (λ a. a) (no_one IsTooLong) no_flags
-    (λ a. room a.0 a.1)
+-- ---- MOVE, while a folder is selected
 
 pub free_move : (s : StoreSession) (uid : ℕ) (name : List ℕ) → (s.selected ≡ None → ⊥) → (IsNotThere s name → ⊥) → (causes.selected_message s uid ≡ None → ⊥)
     → (IsAtEnd is_last_change (selected_folder s) → ⊥) → (IsAtEnd is_last_message (folder_called (mail_without s.mail (selected_folder s) uid).folders name) → ⊥)
     → RefusalCause s (command.Move uid name) → ⊥
 free_move s uid name selected there held room room_there =
-    none_of_nine s (command.Move uid name) (λ a. there (only_one (IsNotThere s) name a)) (no_one (IsThereNow s)) (λ a. a) (λ a. a) (λ a e. selected e) held (no_one IsTooLong)
-    no_flags by
+    none_of_nine s (command.Move uid name) (λ a. there (only_one (IsNotThere s) name a)) (any_of_none (IsThereNow s)) (λ a. a) (λ a. a) (λ a e. selected e) held
+    (any_of_none IsTooLong) no_flags by
   where
     by : IsAtEnd is_last_change (selected_folder s) ⊎ IsAtEnd is_last_message (folder_called (mail_without s.mail (selected_folder s) uid).folders name) → ⊥
     by (inl a) = room a
