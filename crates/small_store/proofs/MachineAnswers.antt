@@ -1,20 +1,14 @@
 -- What is answered is an answer to the command, and leaves mail that can be told.
-use Rattle.std.proofs.Common.{◌≡◌, ◌∙◌, ◌++◌, ◌∷◌, [], ℕ, Bool, true, false, List, Result, Ok, Err, refl, sym, ap, subst}
+use Rattle.std.proofs.Common.{◌≡◌, Bool, true, false, Result, Ok, Err, sym, subst}
 use Rattle.std.specs.Prelude.{IfOk, MatchBool, OnErr}
-use Rattle.std.specs.List.{flat_map}
 use Rattle.std.specs.declared.alloc.AllocError.{AllocError}
-use Rattle.std.proofs.lemmas.List.{append-nil}
-use Rattle.std.proofs.lemmas.List.Concat.{flat_map-append}
 use Rattle.imap_syntax.specs.declared.command.Command.{Command}
-use Rattle.imap_syntax.specs.declared.response.Response.TheVariants as response
 use Rattle.honest_store.specs.Honest.{after_no}
 use Rattle.honest_store.specs.Sessions.{StoreAnswer, StoreSession}
 use Rattle.small_answers.specs.Answers.{AnswersCommand, Refused, Accepted, no_answer, ok_answer, ok_reply}
 use Rattle.small_answers.specs.Causes.{RefusalCause}
-use Rattle.small_responses.specs.AnswerTexts.{text_of_answer}
 use Rattle.small_responses.specs.Tellable.{IsTellableCommand, IsTellableMail}
 use Rattle.small_store.specs.reading.Steps.{Gives}
-use Rattle.store_responses.specs.ResponseTexts.{text_of_response}
 use Rattle.small_store.proofs.Telling.{tellable_answered}
 
 module _ (s after : StoreSession) (c : Command) where
@@ -39,11 +33,7 @@ cause_there b P by is = subst (λ (x : Bool). MatchBool x P (P → ⊥)) is by
 pub cause_free : (b : Bool) (P : Type 0) → MatchBool b P (P → ⊥) → b ≡ false → P → ⊥
 cause_free b P by is = subst (λ (x : Bool). MatchBool x P (P → ⊥)) is by
 
--- the octets of the untagged responses and then those of the tagged one
-pub octets_are : (tag : List ℕ) (a : StoreAnswer) (none untagged all : List ℕ) → none ≡ [] → untagged ≡ none ++ flat_map text_of_response a.responses
-    → all ≡ untagged ++ text_of_response (response.Tagged tag a.status a.code) → all ≡ text_of_answer tag a
-octets_are tag a none untagged all nothing before is =
-    let tagged : List ℕ = text_of_response (response.Tagged tag a.status a.code) in
-    is ∙ (ap (λ (xs : List ℕ). xs ++ tagged) (before ∙ ap (λ (xs : List ℕ). xs ++ flat_map text_of_response a.responses) nothing)
-    ∙ (ap (λ (xs : List ℕ). flat_map text_of_response a.responses ++ xs) (sym (append-nil tagged))
-    ∙ sym (flat_map-append text_of_response a.responses (response.Tagged tag a.status a.code ∷ []))))
+-- what holds holds beside an error
+pub beside_error : {T E P : Type 0} (result : Result T E) → P → OnErr result P
+beside_error (Ok t) so = tt
+beside_error (Err e) so = so
