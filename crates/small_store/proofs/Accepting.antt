@@ -1,13 +1,13 @@
 -- What there is to a command for whose refusal there is no cause.
-use Rattle.std.proofs.Common.{◌≡◌, ◌≢◌, ◌⊎◌, inl, inr, ℕ, ℤ, ◌<◌, ◌≤◌, ◌^◌, Bool, true, false, not, List, [], ◌∷◌, Option, Some, None, refl, sym, ap, ◌∙◌, subst, arith}
-use Rattle.std.proofs.lemmas.Bool.{cases_order, false_from_ne_true, true≢false}
+use Rattle.std.proofs.Common.{◌≡◌, ◌≢◌, ◌⊎◌, inl, inr, ℕ, ℤ, ◌<◌, ◌≤◌, ◌^◌, Bool, true, false, not, List, [], Option, Some, None, refl, ap, ◌∙◌, arith}
+use Rattle.std.proofs.lemmas.Bool.{cases_order, false_from_ne_true}
 use Rattle.imap_syntax.specs.declared.command.Command.TheVariants as command
-use Rattle.honest_store.specs.StoreMail.{StoreMessage, StoreFolder, StoreMail, folder_called, message_numbered}
+use Rattle.honest_store.specs.StoreMail.{StoreMessage, StoreFolder, folder_called, message_numbered}
 use Rattle.honest_store.specs.Sessions.{StoreSession}
 use Rattle.honest_store.specs.MessageCommands.{flags_after, is_deleted}
 use Rattle.small_answers.specs.Changes.{mail_without, next_validity, selected_folder}
 use Rattle.small_answers.specs.Limits.{is_last_change, is_last_message}
-use Rattle.small_answers.specs.Causes.{RefusalCause, IsAtEnd, NotThere, NoMessage, NumberSpent, are_same_names, changes_flags, ends_message}
+use Rattle.small_answers.specs.Causes.{RefusalCause, NotThere, NoMessage, NumberSpent, are_same_names, changes_flags, ends_message}
 use Rattle.small_answers.proofs.Elements.{any_head}
 use Rattle.small_store.proofs.Refusing.{at_end}
 use Rattle.small_store.proofs.Seeing.{message_seen}
@@ -39,13 +39,17 @@ module _ (s : StoreSession) where
       where
         by : (b : Bool) → are_same_names (flags_after add flags m.flags) m.flags ≡ b → b ≡ true
         by true e = refl
-        by false e = absurd (free (NumberSpent (at_end is_last_change (selected_folder s) f there end,
-          ap (changes_flags add flags) (message_seen s f uid (Some m) there held) ∙ ap not e)))
+        by false e = absurd (free (NumberSpent (
+          at_end is_last_change (selected_folder s) f there end,
+          ap (changes_flags add flags) (message_seen s f uid (Some m) there held) ∙ ap not e,
+        )))
 
     pub expunge_room : (m : StoreMessage) → (RefusalCause s (command.Expunge uid) → ⊥) → message_numbered f.messages uid ≡ Some m → is_last_change f ≡ true → is_deleted m ≡ false
     expunge_room m free held end =
-        false_from_ne_true (is_deleted m) (λ deleted. free (NumberSpent (at_end is_last_change (selected_folder s) f there end,
-          ap ends_message (message_seen s f uid (Some m) there held) ∙ deleted)))
+        false_from_ne_true (is_deleted m) (λ deleted. free (NumberSpent (
+          at_end is_last_change (selected_folder s) f there end,
+          ap ends_message (message_seen s f uid (Some m) there held) ∙ deleted,
+        )))
 
     module _ (name : List ℕ) (free : RefusalCause s (command.Move uid name) → ⊥) where
       pub move_there : folder_called s.mail.folders name ≢ None

@@ -1,7 +1,6 @@
 -- What OK gives to a MOVE, and that there is room for it.
-use Rattle.std.proofs.Common.{◌≡◌, ◌∙◌, ◌==◌, ℕ, true, false, List, Option, Some, None, Result, sym, ap, subst, eqb-true}
+use Rattle.std.proofs.Common.{◌≡◌, ◌∙◌, ◌==◌, ℕ, true, false, List, Option, Some, Result, sym, subst, eqb-true}
 use Rattle.std.specs.Prelude.{IfOk}
-use Rattle.std.specs.List.{slice_get}
 use Rattle.std.specs.declared.alloc.AllocError.{AllocError}
 use Rattle.std.proofs.lemmas.Bool.{false≢true}
 use Rattle.std.proofs.lemmas.Result.{IfOk-weaker}
@@ -50,15 +49,15 @@ module _ (s : StoreSession) (small : IsSmallMail s.mail) (uid : ℕ) (name : Lis
 
   pub move_gives : (after : StoreSession) (result : Result StoreAnswer AllocError)
       → IfOk result (λ (a : StoreAnswer). (g h : StoreFolder) (n : StoreMessage) (selected : Option ℕ) → IsFolderAt s.mail source g → IsMessageAt g at n
-        → IsFolderAt (mail_without s.mail (Some g) n.uid) target h
-        → Gives (move_reply_to (session_of s.mail selected) (mail_without s.mail (Some g) n.uid) n (Some h)) a (session_of after.mail selected))
+      → IsFolderAt (mail_without s.mail (Some g) n.uid) target h
+      → Gives (move_reply_to (session_of s.mail selected) (mail_without s.mail (Some g) n.uid) n (Some h)) a (session_of after.mail selected))
       → after.selected ≡ s.selected
       → IfOk result (λ (a : StoreAnswer). Gives (ok_reply s (command.Move uid name)) a after)
   move_gives after result moved kept =
       IfOk-weaker result
       (λ (a : StoreAnswer). (g h : StoreFolder) (n : StoreMessage) (selected : Option ℕ) → IsFolderAt s.mail source g → IsMessageAt g at n
-        → IsFolderAt (mail_without s.mail (Some g) n.uid) target h
-        → Gives (move_reply_to (session_of s.mail selected) (mail_without s.mail (Some g) n.uid) n (Some h)) a (session_of after.mail selected))
+      → IsFolderAt (mail_without s.mail (Some g) n.uid) target h
+      → Gives (move_reply_to (session_of s.mail selected) (mail_without s.mail (Some g) n.uid) n (Some h)) a (session_of after.mail selected))
       (λ (a : StoreAnswer). Gives (ok_reply s (command.Move uid name)) a after)
       (λ a gives. gives_in s f there (λ (g : StoreFolder). move_reply s g name (message_numbered g.messages uid)) after a
       (subst (λ (o : Option StoreMessage). Gives (move_reply s f name o) a after) (sym held)

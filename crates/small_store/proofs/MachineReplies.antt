@@ -1,7 +1,6 @@
 -- What OK gives to a command, from what was found and done.
-use Rattle.std.proofs.Common.{◌≡◌, ◌∙◌, ◌==◌, ℕ, ℤ, Bool, true, List, [], map, Option, Some, None, Result, Ok, Err, refl, sym, ap, subst}
-use Rattle.std.specs.Prelude.{IfOk, OnErr}
-use Rattle.std.specs.List.{slice_get}
+use Rattle.std.proofs.Common.{◌≡◌, ◌∙◌, ℕ, ℤ, List, [], Option, Some, None, Result, refl, sym, ap, subst}
+use Rattle.std.specs.Prelude.{IfOk}
 use Rattle.std.specs.declared.alloc.AllocError.{AllocError}
 use Rattle.std.proofs.lemmas.Result.{IfOk-weaker}
 use Rattle.imap_syntax.specs.declared.code.Code.TheVariants as code
@@ -9,14 +8,14 @@ use Rattle.imap_syntax.specs.declared.command.Command.{Command}
 use Rattle.imap_syntax.specs.declared.command.Command.TheVariants as command
 use Rattle.imap_syntax.specs.declared.response.Response.{Response}
 use Rattle.imap_syntax.specs.declared.response.Status.TheVariants as status
-use Rattle.honest_store.specs.StoreMail.{StoreFolder, StoreMail, folder_called, message_numbered}
+use Rattle.honest_store.specs.StoreMail.{StoreFolder, StoreMail, folder_called}
 use Rattle.honest_store.specs.Sessions.{StoreSession, StoreAnswer}
 use Rattle.honest_store.specs.MessageCommands.{sent_message}
-use Rattle.small_answers.specs.Answers.{Reply, append_reply, expunge_reply, fetch_reply, move_reply, ok_answer, ok_reply, over_mail, reply_in, reply_with, select_reply, store_reply}
+use Rattle.small_answers.specs.Answers.{Reply, append_reply, ok_answer, ok_reply, over_mail, reply_in, select_reply}
 use Rattle.small_answers.specs.Changes.{mail_deleted, selected_folder}
-use Rattle.small_answers.specs.ToldResponses.{body_response, flags_response, header_response, is_between, is_from_on, select_responses, with_uids}
+use Rattle.small_answers.specs.ToldResponses.{select_responses}
 use Rattle.small_answers.proofs.FoldersFound.{name_found}
-use Rattle.small_store.specs.reading.Steps.{Gives, ReadsMessages, UsesMessages, session_of}
+use Rattle.small_store.specs.reading.Steps.{Gives, session_of}
 
 abbrev pub done : StoreAnswer
 done = record { responses = []; status = status.Ok; code = code.Absent }

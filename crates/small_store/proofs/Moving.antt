@@ -1,11 +1,11 @@
 -- The folder to which a message moves, before and after the message ends in its own.
-use Rattle.std.proofs.Common.{◌≡◌, ◌≢◌, inl, inr, ◌⊎◌, ℕ, ◌+◌, ◌-◌, ◌<◌, ◌≤◌, ◌==◌, Bool, true, false, List, Some, None, length, get_or, map, refl, sym, ap, ◌∙◌, subst, arith, eq-eqb, AllPairs, if◌then◌else◌}
-use Rattle.std.specs.Prelude.{Option, option_map}
+use Rattle.std.proofs.Common.{◌≡◌, ◌≢◌, inl, inr, ◌⊎◌, ℕ, ◌+◌, ◌<◌, ◌==◌, Bool, true, false, List, Some, get_or, refl, sym, ap, ◌∙◌, arith, eq-eqb, AllPairs, if◌then◌else◌}
+use Rattle.std.specs.Prelude.{option_map}
 use Rattle.std.specs.List.{slice_get}
 use Rattle.std.specs.Prelude.{nat_le, ◌||◌}
 use Rattle.std.proofs.lemmas.Bool.{cases_order, eqb-true, false≢true, le-leb, leb-false, leb-true, lt-leb, or_parts}
-use Rattle.std.proofs.lemmas.Option.{get_or_from_slice_get, slice_get_within, slice_get-get_or, slice_get-map, same_Some}
-use Rattle.honest_store.specs.StoreMail.{StoreMessage, StoreFolder, StoreMail}
+use Rattle.std.proofs.lemmas.Option.{get_or_from_slice_get, slice_get_within, slice_get-map, same_Some}
+use Rattle.honest_store.specs.StoreMail.{StoreFolder, StoreMail}
 use Rattle.honest_store.specs.WellFormed.{IsStoreMail}
 use Rattle.honest_store.specs.MessageChanges.{folder_without}
 use Rattle.small_answers.specs.Changes.{mail_without, next_modseq}

@@ -1,7 +1,7 @@
 -- What is due to a command that reads messages of the folder that is selected.
-use Rattle.std.proofs.Common.{◌≡◌, ℕ, Bool, true, ◌==◌, List, Option, Some, sym, ap, ◌∙◌}
+use Rattle.std.proofs.Common.{◌≡◌, ℕ, Bool, true, ◌==◌, Option, Some, sym, ap, ◌∙◌}
 use Rattle.imap_syntax.specs.declared.command.Command.TheVariants as command
-use Rattle.honest_store.specs.StoreMail.{StoreMessage, StoreFolder}
+use Rattle.honest_store.specs.StoreMail.{StoreFolder}
 use Rattle.honest_store.specs.Sessions.{StoreSession, StoreAnswer}
 use Rattle.small_answers.specs.Changes.{selected_folder}
 use Rattle.small_answers.specs.ToldResponses.{body_response, flags_response, greatest_uid, header_response, is_between, is_from_on}

@@ -58,7 +58,7 @@ module _ (s : StoreSession) (uid : ℕ) (name : List ℕ) where
       → slice_get s.mail.folders target ≡ Some t → folder_called s.mail.folders name ≡ Some t
       → slice_get f.messages at ≡ Some m → message_numbered f.messages uid ≡ Some m → is_last_change f ≡ false
       → ((g h : StoreFolder) (u : ℕ) → slice_get s.mail.folders source ≡ Some g → is_last_change g ≡ false
-        → slice_get (mail_without s.mail (Some g) u).folders target ≡ Some h → b ≡ is_last_message h)
+      → slice_get (mail_without s.mail (Some g) u).folders target ≡ Some h → b ≡ is_last_message h)
       → MatchBool b (RefusalCause s (command.Move uid name)) (RefusalCause s (command.Move uid name) → ⊥)
   move_full small source target at f t m b selected at_f there at_t called at_m held room full =
       move_tested f there b m landed t selected called held room

@@ -1,10 +1,10 @@
 -- What is due to a command, from what was found.
-use Rattle.std.proofs.Common.{◌≡◌, ℕ, Bool, true, false, List, [], ◌∷◌, Option, Some, None, sym, ap, ◌∙◌, subst, if◌then◌else◌}
-use Rattle.honest_store.specs.StoreMail.{StoreMessage, StoreFolder, StoreMail}
+use Rattle.std.proofs.Common.{◌≡◌, ℕ, Bool, true, false, List, [], Option, Some, None, sym, ap, ◌∙◌, subst, if◌then◌else◌}
+use Rattle.honest_store.specs.StoreMail.{StoreMessage, StoreFolder}
 use Rattle.honest_store.specs.Sessions.{StoreSession, StoreAnswer}
 use Rattle.honest_store.specs.MessageCommands.{flags_after, is_deleted}
 use Rattle.small_answers.specs.Causes.{are_same_names}
-use Rattle.small_answers.specs.Answers.{Reply, ok_answer, reply_with, reply_in, told_change, flags_reply, store_reply, expunge_reply, expunged_reply, move_reply, move_reply_to}
+use Rattle.small_answers.specs.Answers.{Reply, reply_with, reply_in, told_change, flags_reply, store_reply, expunge_reply, expunged_reply, move_reply, move_reply_to}
 use Rattle.small_answers.specs.Changes.{mail_without}
 use Rattle.honest_store.specs.StoreMail.{folder_called}
 use Rattle.small_store.specs.reading.Steps.{Gives}

@@ -1,5 +1,5 @@
 -- What a session finds in the folder that is selected.
-use Rattle.std.proofs.Common.{◌≡◌, ℕ, List, [], Option, Some, None, ap, sym, ◌∙◌}
+use Rattle.std.proofs.Common.{◌≡◌, ℕ, List, [], Option, Some, None, ap, ◌∙◌}
 use Rattle.std.proofs.lemmas.Option.{none-some}
 use Rattle.honest_store.specs.StoreMail.{StoreMessage, StoreFolder, StoreMail, message_numbered}
 use Rattle.honest_store.specs.TrueResponses.{messages_of_folder, messages_of_selected}

@@ -9,7 +9,7 @@ use Rattle.imap_syntax.specs.declared.response.Status.TheVariants as status
 use Rattle.imap_syntax.specs.Items.{no_items}
 use Rattle.honest_store.specs.StoreMail.{StoreMessage, StoreFolder, StoreMail, message_numbered}
 use Rattle.honest_store.specs.WellFormed.{AscendByUid, IsStoreMail}
-use Rattle.honest_store.specs.Sessions.{StoreSession, StoreAnswer}
+use Rattle.honest_store.specs.Sessions.{StoreAnswer}
 use Rattle.honest_store.specs.MessageCommands.{flags_after, is_deleted}
 use Rattle.small_answers.specs.Answers.{expunge_reply, expunged_reply, flags_reply, reply_with, store_reply, told_change}
 use Rattle.small_answers.specs.Causes.{are_same_names}

@@ -203,7 +203,8 @@ impl StoreMachine {
         ensures ok { IfOk result (λ a. Gives (ok_reply self.old (commands.Rename from.now to.now)) a self.new) }
         ensures err { OnErr result (self.new ≡ self.old) }
     {
-        self.mail.rename(self.alloc, told_name(from), told_name(to))?;
+        self.mail
+            .rename(self.alloc, told_name(from), told_name(to))?;
         Ok(Answer::done(self.alloc))
     }
 
@@ -304,7 +305,10 @@ fn read_messages(
     match command {
         Command::FetchFlags => told_of(alloc, messages, Which::All, Asked::Flags),
         Command::FetchSlice { from, to, modseq } => {
-            let which = Which::Range { from: *from, to: *to };
+            let which = Which::Range {
+                from: *from,
+                to: *to,
+            };
             let asked = Asked::Header {
                 with_modseq: *modseq,
             };

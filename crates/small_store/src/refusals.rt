@@ -181,7 +181,12 @@ impl StoreMachine {
         let Some(message) = folder.message(uid) else {
             return Ok(false);
         };
-        let flags = flags_after(self.alloc, add, flags.as_slice(), message.flags().as_slice())?;
+        let flags = flags_after(
+            self.alloc,
+            add,
+            flags.as_slice(),
+            message.flags().as_slice(),
+        )?;
         if MAX_TEXT_OCTETS < total_len(flags.as_slice()) {
             return Ok(true);
         }
@@ -234,7 +239,7 @@ impl StoreMachine {
     fn refuses_append(&self, name: &[u8], flags: &Names) -> Result<bool, AllocError>
         ensures { IfOk result (λ refused. (date : ℤ) (message : List ℕ)
             → MatchBool refused (RefusalCause self.now (commands.Append name.now flags.now date message))
-                (RefusalCause self.now (commands.Append name.now flags.now date message) → ⊥)) }
+            (RefusalCause self.now (commands.Append name.now flags.now date message) → ⊥)) }
     {
         let Some(folder) = self.mail.named(name) else {
             return Ok(true);

@@ -1,4 +1,4 @@
-use Rattle.std.proofs.Common.{◌≡◌, ◌∙◌, ◌++◌, [], ℕ, ℤ, List, Some, ap, rules, w64}
+use Rattle.std.proofs.Common.{◌≡◌, ◌∙◌, [], ℕ, ℤ, List, Some, ap, rules, w64}
 use Rattle.std.proofs.lemmas.Int.{to_z-of_z}
 use mir.Val.{SFits, of_z, to_z}
 use Rattle.std.proofs.lemmas.List.{append-nil}

@@ -1,7 +1,5 @@
-use Rattle.std.proofs.Common.{◌≡◌, ◌∙◌, ◌≤◌, Bool, Some, ap, sym, nat_le}
+use Rattle.std.proofs.Common.{◌≡◌, ◌∙◌, Some, ap, sym, nat_le}
 use Rattle.std.specs.List.{slice_get}
-use Rattle.honest_store.specs.StoreMail.{StoreFolder}
-use Rattle.small_answers.specs.Limits.{is_last_message}
 use Rattle.small_store.proofs.Moving.{free_elsewhere, last_stays, last_within}
 use Rattle.small_store.proofs.Reading.{read_at}
 use Rattle.small_store.proofs.messages.is_full_for_move.Goals as goal

@@ -1,4 +1,4 @@
-use Rattle.std.proofs.Common.{◌≡◌, ◌∙◌, ℕ, ℤ, Option, Some, ap, refl, rules, subst, sym, w64}
+use Rattle.std.proofs.Common.{◌∙◌, ℕ, ℤ, Option, Some, ap, refl, rules, subst, sym, w64}
 use Rattle.std.specs.Prelude.{IfOk}
 use mir.Val.{SFits, of_z, to_z}
 use Rattle.std.proofs.lemmas.Int.{to_z-of_z}
@@ -33,8 +33,8 @@ returns-in-Some-clause-ok c =
     (answered_as s after c.args.command.now given c.append.result c.in-Append.is
     (IfOk-weaker c.append.result
     (λ (a : StoreAnswer). (f : StoreFolder) (selected : Option ℕ) → IsFolderAt s.mail place f
-      → Gives (append_reply (session_of s.mail selected) (sent_message c.in-Append.flags date c.in-Append.message 0 0) (Some f)) a (session_of c.append.new.mail selected))
+    → Gives (append_reply (session_of s.mail selected) (sent_message c.in-Append.flags date c.in-Append.message 0 0) (Some f)) a (session_of c.append.new.mail selected))
     (λ (a : StoreAnswer). Gives (ok_reply s given) a after)
     (λ a gives. append_gives s after c.in-Append.name c.in-Append.flags c.in-Append.date c.in-Append.message found.0 a called
-      (subst (λ (d : ℤ). Gives (append_reply s (sent_message c.in-Append.flags d c.in-Append.message 0 0) (Some found.0)) a after) (to_z-of_z w64 c.in-Append.date fits)
-      (gives found.0 s.selected found.1))) c.append.ensures.ok))
+    (subst (λ (d : ℤ). Gives (append_reply s (sent_message c.in-Append.flags d c.in-Append.message 0 0) (Some found.0)) a after) (to_z-of_z w64 c.in-Append.date fits)
+    (gives found.0 s.selected found.1))) c.append.ensures.ok))

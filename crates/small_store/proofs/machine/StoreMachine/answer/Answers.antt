@@ -1,7 +1,5 @@
-use Rattle.std.proofs.Common.{◌≡◌, ◌∙◌, ℕ, List, inr, ap}
+use Rattle.std.proofs.Common.{◌∙◌, ℕ, List, inr, ap}
 use Rattle.std.proofs.lemmas.Result.{IfOk-weaker}
-use Rattle.honest_store.specs.Sessions.{StoreAnswer}
-use Rattle.small_answers.specs.Answers.{AnswersCommand}
 use Rattle.small_responses.specs.AnswerTexts.{text_of_answer}
 use Rattle.small_store.proofs.MachineAnswers.{beside_error}
 use Rattle.small_store.proofs.machine.StoreMachine.answer.Goals as goal

@@ -1,4 +1,3 @@
-use Rattle.std.proofs.Common.{◌≡◌, refl}
 use Rattle.std.proofs.lemmas.Result.{IfOk-weaker}
 use Rattle.honest_store.specs.Sessions.{StoreAnswer}
 use Rattle.small_answers.specs.Answers.{AnswersCommand, ok_reply}
