@@ -1,4 +1,5 @@
 pub mod Chance
 pub mod Dialing
 pub mod Faults
+pub mod Sessions
 pub mod Streams

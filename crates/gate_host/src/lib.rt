@@ -1,11 +1,12 @@
-//! The outside of the gateway on a real host: a store over TCP, clients over the standard streams or a listener, a console, and
-//! random words. None of them tells a tape; each counts its faults.
+//! The outside of the gateway on a real host: a store over TCP, clients over the standard streams or a listener, a
+//! console, and random words. None of them tells a tape; each counts its faults.
 #![tactic(auto)]
 
 // What a host gives.
 mod chance;
 mod faults;
 mod host;
+mod session_listener;
 mod sockets;
 mod streams;
 
@@ -13,6 +14,7 @@ mod streams;
 mod clients;
 mod error_console;
 mod listener_front;
+mod session_front;
 mod standard_front;
 mod tcp_link;
 
@@ -25,6 +27,8 @@ pub use error_console::ErrorConsole;
 pub use host::Host;
 pub use host_world::HostWorld;
 pub use listener_front::ListenerFront;
+pub use session_front::{SESSION_READ_SECONDS, SESSION_WRITE_SECONDS, SessionFront};
+pub use session_listener::{SessionListener, TcpSessions};
 pub use sockets::{Dialer, Draws, addresses_over, draw_over};
 pub use standard_front::StandardFront;
 pub use tcp_link::{MAX_ADDRESSES, PATIENCE_SECONDS, TcpLink};

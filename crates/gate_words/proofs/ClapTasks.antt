@@ -1,9 +1,9 @@
 -- The commands take the words that the rule takes, and find the values that their settings give.
-use Rattle.std.proofs.Common.{◌≡◌, ℕ, ◌≤◌, List, [], ◌∷◌, length, map, drop, codes, true, false, ◌&&◌, IsTrue, Option, Some, None, Result, Ok, Err, IfOk, IfErr, is_some, slice_get}
+use Rattle.std.proofs.Common.{◌≡◌, ℕ, ◌≤◌, List, [], ◌∷◌, length, map, drop, codes, true, false, ◌&&◌, IsTrue, Option, Some, Result, Ok, Err, IfOk, IfErr, is_some, slice_get}
 use Rattle.std.proofs.Common.{refl, sym, ap, subst, ◌∙◌, arith}
 use Rattle.std.proofs.lemmas.Option.{same_Some}
 use Rattle.clap.specs.Matches.{found_of}
-use Rattle.clap.specs.Simple.{App, HasMatchesOf, Shape, built, entered, is_simple, matches_of, new_app, with_rule}
+use Rattle.clap.specs.Simple.{App, HasMatchesOf, Shape, built, entered, is_simple, matches_of, new_app}
 use Rattle.clap.specs.Takes.{built_takes, entered_passes, is_valid, level_passes, takes}
 use Rattle.clap.specs.Walk.{Text, arg_by_id, arg_by_long, first_of, nothing_held, rows_of}
 use Rattle.clap.specs.declared.parser.matches.ArgMatches.{ArgMatches}
@@ -12,14 +12,14 @@ use Rattle.clap.proofs.WalkLemmas.{first_value-rows}
 use Rattle.gate_words.specs.Connections.{CountsConnections}
 use Rattle.gate_words.specs.Options.{Setting, SpellsAll, value_if, values_of}
 use Rattle.gate_words.specs.Rules.{is_user, is_base}
-use Rattle.gate_words.specs.Task.{AnswersAt, IsOnce, IsServe, NamesPlace, ServesAt}
-use Rattle.gate_words.specs.reading.Commands.{CountsGiven, IsOnceIn, IsServeIn, PlaceIn, ServeIn, id_of, once_app, option_rule, serve_app, show_app}
-use Rattle.gate_words.specs.reading.Commands.{value_in, with_place}
+use Rattle.gate_words.specs.Task.{AnswersAt, IsOnce, IsServe, IsStore, NamesPlace, ServesAt, StoresAt}
+use Rattle.gate_words.specs.reading.Commands.{CountsGiven, IsOnceIn, IsServeIn, IsStoreIn, PlaceIn, ServeIn, id_of, once_app, serve_app, show_app}
+use Rattle.gate_words.specs.reading.Commands.{store_app, value_in, with_listening, with_place}
 use Rattle.gate_words.specs.declared.option.Name.{Name}
 use Rattle.gate_words.specs.declared.option.Name.TheVariants as option
 use Rattle.gate_words.specs.declared.place.Place.{Place}
 use Rattle.gate_words.specs.declared.task.Task.{Task}
-use Rattle.gate_words.specs.declared.task.Task.TheVariants.{Serve, Once, Show, Explain}
+use Rattle.gate_words.specs.declared.task.Task.TheVariants.{Serve, Once, Show, Store, Explain}
 use Rattle.gate_words.specs.declared.task.WordsError.{WordsError}
 use Rattle.gate_words.specs.declared.task.WordsError.TheVariants.{Refused}
 use Rattle.gate_words.proofs.ClapRows.{AreSingle, filled, first-row, given-row, row}
@@ -33,8 +33,11 @@ serve_shape = (built serve_app).top
 abbrev once_shape : Shape
 once_shape = (built once_app).top
 
+abbrev store_shape : Shape
+store_shape = (built store_app).top
+
 -- what the commands are made of
-pub serve-is : with_rule (with_rule (with_place (new_app (codes "serve"))) (option_rule true (codes "listen"))) (option_rule false (codes "connections")) ≡ serve_app
+pub serve-is : with_listening (with_place (new_app (codes "serve"))) ≡ serve_app
 unfolding serve_app
 serve-is = refl
 
@@ -48,6 +51,11 @@ pub show-is : new_app (codes "show") ≡ show_app
 unfolding show_app
 show-is = refl
 
+-- and of `store`
+pub store-is : with_listening (new_app (codes "store")) ≡ store_app
+unfolding store_app
+store-is = refl
+
 -- their matches are those of clap's definition
 pub serve-simple : is_simple serve_app ≡ true
 unfolding serve_app
@@ -57,6 +65,11 @@ serve-simple = refl
 pub once-simple : is_simple once_app ≡ true
 unfolding once_app
 once-simple = refl
+
+-- and of `store`
+pub store-simple : is_simple store_app ≡ true
+unfolding store_app
+store-simple = refl
 
 -- the rows that a command finds, where it is this one
 pub rows-by : (r : Result ArgMatches WordsError) (app this : App) (words : List Text) → app ≡ this → is_simple this ≡ true → IfOk r (HasMatchesOf app words)
@@ -78,6 +91,13 @@ OfOnce option.User = Unit {0}
 OfOnce option.Base = Unit {0}
 OfOnce option.Listen = ⊥
 OfOnce option.Connections = ⊥
+
+abbrev OfStore : Name → Type 0
+OfStore option.Store = ⊥
+OfStore option.User = ⊥
+OfStore option.Base = ⊥
+OfStore option.Listen = Unit {0}
+OfStore option.Connections = Unit {0}
 
 serve-long : (name : Name) → OfServe name → arg_by_long serve_shape.rules (id_of name) ≡ Some (filled name)
 unfolding serve_app
@@ -111,6 +131,22 @@ once-id option.Base has = refl
 once-id option.Listen has = absurd has
 once-id option.Connections has = absurd has
 
+store-long : (name : Name) → OfStore name → arg_by_long store_shape.rules (id_of name) ≡ Some (filled name)
+unfolding store_app
+store-long option.Store has = absurd has
+store-long option.User has = absurd has
+store-long option.Base has = absurd has
+store-long option.Listen has = refl
+store-long option.Connections has = refl
+
+store-id : (name : Name) → OfStore name → arg_by_id store_shape.rules (id_of name) ≡ Some (filled name)
+unfolding store_app
+store-id option.Store has = absurd has
+store-id option.User has = absurd has
+store-id option.Base has = absurd has
+store-id option.Listen has = refl
+store-id option.Connections has = refl
+
 serve-options : HasOptions serve_shape OfServe
 unfolding serve_app
 serve-options = record { by_long = serve-long; by_id = serve-id; empty = (refl, (refl, (refl, (refl, (refl, (refl, tt)))))); defaults = refl }
@@ -118,6 +154,10 @@ serve-options = record { by_long = serve-long; by_id = serve-id; empty = (refl, 
 once-options : HasOptions once_shape OfOnce
 unfolding once_app
 once-options = record { by_long = once-long; by_id = once-id; empty = (refl, (refl, (refl, (refl, tt)))); defaults = refl }
+
+store-options : HasOptions store_shape OfStore
+unfolding store_app
+store-options = record { by_long = store-long; by_id = store-id; empty = (refl, (refl, (refl, tt))); defaults = refl }
 
 -- ---- settings that the rule takes
 
@@ -146,6 +186,13 @@ once-single settings place means option.Base = one (values_of option.Base settin
 once-single settings place means option.Listen = no-value (values_of option.Listen settings) means.listens
 once-single settings place means option.Connections = no-value (values_of option.Connections settings) means.counts
 
+store-single : (settings : List Setting) (listen : List ℕ) (count : ℕ) → StoresAt settings listen count → AreSingle settings
+store-single settings listen count means option.Store = no-value (values_of option.Store settings) means.store
+store-single settings listen count means option.User = no-value (values_of option.User settings) means.user
+store-single settings listen count means option.Base = no-value (values_of option.Base settings) means.base
+store-single settings listen count means option.Listen = one (values_of option.Listen settings) listen means.listens
+store-single settings listen count means option.Connections = few (values_of option.Connections settings) count means.counts
+
 serve-have : (settings : List Setting) → AllHave OfServe settings
 serve-have [] = tt
 serve-have (setting ∷ settings) = (tt, serve-have settings)
@@ -164,6 +211,21 @@ once-have (setting ∷ settings) l c =
     let k = kept setting.name setting.value (values_of option.Listen settings) (values_of option.Connections settings) l c in
     (k.0, once-have settings k.1 k.2)
 
+kept-listening : (name : Name) (value : List ℕ) (stores users bases : List (List ℕ)) → value_if option.Store name value stores ≡ []
+    → value_if option.User name value users ≡ [] → value_if option.Base name value bases ≡ [] → OfStore name × (stores ≡ []) × (users ≡ []) × (bases ≡ [])
+kept-listening option.Store value stores users bases s u b = absurd (let e : value ∷ stores ≡ [] = s in cc)
+kept-listening option.User value stores users bases s u b = absurd (let e : value ∷ users ≡ [] = u in cc)
+kept-listening option.Base value stores users bases s u b = absurd (let e : value ∷ bases ≡ [] = b in cc)
+kept-listening option.Listen value stores users bases s u b = (tt, s, u, b)
+kept-listening option.Connections value stores users bases s u b = (tt, s, u, b)
+
+store-have : (settings : List Setting) → values_of option.Store settings ≡ [] → values_of option.User settings ≡ [] → values_of option.Base settings ≡ []
+    → AllHave OfStore settings
+store-have [] s u b = tt
+store-have (setting ∷ settings) s u b =
+    let k = kept-listening setting.name setting.value (values_of option.Store settings) (values_of option.User settings) (values_of option.Base settings) s u b in
+    (k.0, store-have settings k.1 k.2 k.3)
+
 serve-valid : (settings : List Setting) (place : Place) (listen : List ℕ) (count : ℕ) → ServesAt settings place listen count
     → is_valid serve_shape (map row settings) false ≡ true
 unfolding serve_app
@@ -181,6 +243,10 @@ once-valid settings place names =
     let user = given-row option.User settings place.user [] names.user in
     let base = given-row option.Base settings place.base [] names.base in
     rw (store, user, base) refl
+
+store-valid : (settings : List Setting) (listen : List ℕ) (count : ℕ) → StoresAt settings listen count → is_valid store_shape (map row settings) false ≡ true
+unfolding store_app
+store-valid settings listen count means = rw (given-row option.Listen settings listen [] means.listens) refl
 
 -- ---- what clap does with their words
 
@@ -217,6 +283,25 @@ pub once-rows : (words : List Text) (settings : List Setting) (place : Place) �
 unfolding once_app
 once-rows words settings place spelled means =
     (read once_shape OfOnce once-options settings (drop 1 words) (once-single settings place means) spelled (once-have settings means.listens means.counts)).0
+
+-- the command `store` takes words whose settings the rule takes
+pub store-takes : (words : List Text) (settings : List Setting) (listen : List ℕ) (count : ℕ) → SpellsAll settings (drop 1 words) → StoresAt settings listen count
+    → takes store_app words ≡ true
+unfolding store_app
+store-takes words settings listen count spelled means =
+    let r = read store_shape OfStore store-options settings (drop 1 words) (store-single settings listen count means) spelled
+    (store-have settings means.store means.user means.base) in
+    ap (λ (o : Option (Text × List Text)). entered_passes (built store_app) o
+    && level_passes store_shape [] nothing_held (drop 1 words) (is_some (entered (built store_app) o))) r.1
+    ∙ r.2 (store-valid settings listen count means)
+
+-- and has a row for each setting
+pub store-rows : (words : List Text) (settings : List Setting) (listen : List ℕ) (count : ℕ) → SpellsAll settings (drop 1 words) → StoresAt settings listen count
+    → matches_of store_app words ≡ map row settings
+unfolding store_app
+store-rows words settings listen count spelled means =
+    (read store_shape OfStore store-options settings (drop 1 words) (store-single settings listen count means) spelled
+    (store-have settings means.store means.user means.base)).0
 
 show-none : built_takes (built show_app) nothing_held [] ≡ true
 unfolding clap_on_literals show_app
@@ -290,6 +375,7 @@ serve-meant settings matches place listen some rows means (Serve finds hears cou
     serve-out settings matches place finds listen hears some count rows means given
 serve-meant settings matches place listen some rows means (Once finds) given = absurd given
 serve-meant settings matches place listen some rows means Show given = absurd given
+serve-meant settings matches place listen some rows means (Store hears count) given = absurd given
 serve-meant settings matches place listen some rows means (Explain page) given = absurd given
 
 -- and one that they mean is found
@@ -303,6 +389,7 @@ serve-none settings matches rows none (Serve place listen count) means = none (S
 })
 serve-none settings matches rows none (Once place) means = absurd means
 serve-none settings matches rows none Show means = absurd means
+serve-none settings matches rows none (Store hears count) means = absurd means
 serve-none settings matches rows none (Explain page) means = absurd means
 
 -- the same of `once`: a task that is found is the one that the settings mean
@@ -315,6 +402,7 @@ once-meant settings matches place rows means (Once finds) given = record {
 }
 once-meant settings matches place rows means (Serve finds hears count) given = absurd given
 once-meant settings matches place rows means Show given = absurd given
+once-meant settings matches place rows means (Store hears count) given = absurd given
 once-meant settings matches place rows means (Explain page) given = absurd given
 
 -- and one that they mean is found
@@ -323,4 +411,34 @@ pub once-none : (settings : List Setting) (matches : ArgMatches) → rows_of (fo
 once-none settings matches rows none (Once place) means = none (Once place) (place-in settings matches place rows means.names)
 once-none settings matches rows none (Serve place listen count) means = absurd means
 once-none settings matches rows none Show means = absurd means
+once-none settings matches rows none (Store hears count) means = absurd means
 once-none settings matches rows none (Explain page) means = absurd means
+
+-- the same of `store`: a task that is found is the one that the settings mean
+pub store-meant : (settings : List Setting) (matches : ArgMatches) (listen : List ℕ) (some : ℕ) → rows_of (found_of matches) ≡ map row settings
+    → StoresAt settings listen some → (task : Task) → IsStoreIn (value_in matches) task → IsStore settings task
+store-meant settings matches listen some rows means (Store hears count) given = record {
+  listens = means.listens ∙ ap (λ (t : List ℕ). t ∷ []) (same-value settings matches option.Listen listen hears rows means.listens given.listens);
+  counts = given-counts (values_of option.Connections settings) some count means.counts
+      (subst (λ (o : Option (List ℕ)). CountsGiven o count) (found settings matches rows option.Connections) given.counts);
+  store = means.store;
+  user = means.user;
+  base = means.base;
+}
+store-meant settings matches listen some rows means (Serve finds hears count) given = absurd given
+store-meant settings matches listen some rows means (Once finds) given = absurd given
+store-meant settings matches listen some rows means Show given = absurd given
+store-meant settings matches listen some rows means (Explain page) given = absurd given
+
+-- and one that they mean is found
+pub store-none : (settings : List Setting) (matches : ArgMatches) → rows_of (found_of matches) ≡ map row settings
+    → ((task : Task) → IsStoreIn (value_in matches) task → ⊥) → (task : Task) → IsStore settings task → ⊥
+store-none settings matches rows none (Store listen count) means = none (Store listen count) (record {
+  listens = found settings matches rows option.Listen ∙ ap first means.listens;
+  counts = subst (λ (o : Option (List ℕ)). CountsGiven o count) (sym (found settings matches rows option.Connections))
+      (counts-given (values_of option.Connections settings) count means.counts);
+})
+store-none settings matches rows none (Serve place listen count) means = absurd means
+store-none settings matches rows none (Once place) means = absurd means
+store-none settings matches rows none Show means = absurd means
+store-none settings matches rows none (Explain page) means = absurd means

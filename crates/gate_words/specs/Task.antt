@@ -8,7 +8,7 @@ use Rattle.gate_words.specs.declared.page.Page.{Page}
 use Rattle.gate_words.specs.declared.page.Page.TheVariants as page
 use Rattle.gate_words.specs.declared.place.Place.{Place}
 use Rattle.gate_words.specs.declared.task.Task.{Task}
-use Rattle.gate_words.specs.declared.task.Task.TheVariants.{Serve, Once, Show, Explain}
+use Rattle.gate_words.specs.declared.task.Task.TheVariants.{Serve, Once, Show, Store, Explain}
 
 -- Three options are each given one value, the user and the base by their rules.
 pub record NamesPlace (settings : List Setting) (place : Place) : Type 0 where
@@ -30,6 +30,14 @@ pub record AnswersAt (settings : List Setting) (place : Place) : Type 0 where
   pub listens : values_of option.Listen settings ≡ []
   pub counts : values_of option.Connections settings ≡ []
 
+-- the settings of the command `store`, which is given an address and no place
+pub record StoresAt (settings : List Setting) (listen : List ℕ) (connections : ℕ) : Type 0 where
+  pub listens : values_of option.Listen settings ≡ listen ∷ []
+  pub counts : CountsConnections (values_of option.Connections settings) connections
+  pub store : values_of option.Store settings ≡ []
+  pub user : values_of option.User settings ≡ []
+  pub base : values_of option.Base settings ≡ []
+
 -- settings in any order
 abbrev pub Spelled : (List Setting → Task → Type 0) → List (List ℕ) → Task → Type 0
 Spelled Means options task = (settings : List Setting) × SpellsAll settings options × Means settings task
@@ -42,6 +50,10 @@ abbrev pub IsOnce : List Setting → Task → Type 0
 IsOnce settings (Once place) = AnswersAt settings place
 IsOnce settings _ = ⊥
 
+abbrev pub IsStore : List Setting → Task → Type 0
+IsStore settings (Store listen connections) = StoresAt settings listen connections
+IsStore settings _ = ⊥
+
 -- the command, then its settings
 abbrev pub Commands : List ℕ → (List Setting → Task → Type 0) → List (List ℕ) → Task → Type 0
 Commands command Means words task = (options : List (List ℕ)) × (words ≡ command ∷ options) × Spelled Means options task
@@ -51,13 +63,16 @@ abbrev pub AsksFor : Page → List (List ℕ) → Type 0
 AsksFor page.Program words = words ≡ codes "--help" ∷ []
 AsksFor page.Version words = (words ≡ codes "--version" ∷ []) ⊎ (words ≡ codes "serve" ∷ codes "--version" ∷ [])
     ⊎ (words ≡ codes "once" ∷ codes "--version" ∷ []) ⊎ (words ≡ codes "show" ∷ codes "--version" ∷ [])
+    ⊎ (words ≡ codes "store" ∷ codes "--version" ∷ [])
 AsksFor page.Serve words = words ≡ codes "serve" ∷ codes "--help" ∷ []
 AsksFor page.Once words = words ≡ codes "once" ∷ codes "--help" ∷ []
 AsksFor page.Show words = words ≡ codes "show" ∷ codes "--help" ∷ []
+AsksFor page.Store words = words ≡ codes "store" ∷ codes "--help" ∷ []
 
 -- the words, without the program's name, ask for the task
 abbrev pub IsTask : List (List ℕ) → Task → Type 0
 IsTask words (Serve place listen connections) = Commands (codes "serve") IsServe words (Serve place listen connections)
 IsTask words (Once place) = Commands (codes "once") IsOnce words (Once place)
 IsTask words Show = words ≡ codes "show" ∷ []
+IsTask words (Store listen connections) = Commands (codes "store") IsStore words (Store listen connections)
 IsTask words (Explain page) = AsksFor page words

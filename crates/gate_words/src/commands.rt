@@ -29,6 +29,16 @@ fn with_place<'a>(alloc: Global, command: Command<'a>) -> Result<Command<'a>, Al
     used.arg(base)
 }
 
+/// The command with the options that say where clients are accepted, and how many.
+fn with_listening<'a>(alloc: Global, command: Command<'a>) -> Result<Command<'a>, AllocError>
+    ensures { IfOk result (λ c. app_of c ≡ spec.with_listening (app_of command.entry)) }
+{
+    let listen = option_with(alloc, "listen", true);
+    let connections = option_with(alloc, "connections", false);
+    let listening = command.arg(listen)?;
+    listening.arg(connections)
+}
+
 /// Out of memory, or that the words are refused.
 fn error_of(error: Error) -> WordsError
     ensures { result ≡ Refused → kind_of error ≡ ErrorKind.OutOfMemory → ⊥ }
@@ -58,11 +68,8 @@ pub(crate) fn serve_matches<'a>(
     ensures found { IfOk result (λ m. rows_of (found_of m) ≡ matches_of spec.serve_app (map string_bytes words.entry.now)) }
     ensures refused { IfErr result (λ error. error ≡ Refused → takes spec.serve_app (map string_bytes words.entry.now) ≡ true → ⊥) }
 {
-    let listen = option_with(alloc, "listen", true);
-    let connections = option_with(alloc, "connections", false);
     let placed = with_place(alloc, Command::new(alloc, "serve"))?;
-    let listening = placed.arg(listen)?;
-    let command = listening.arg(connections)?;
+    let command = with_listening(alloc, placed)?;
     found(command, words)
 }
 
@@ -86,4 +93,16 @@ pub(crate) fn show_matches<'a>(
     ensures refused { IfErr result (λ error. error ≡ Refused → takes spec.show_app (map string_bytes words.entry.now) ≡ true → ⊥) }
 {
     found(Command::new(alloc, "show"), words)
+}
+
+/// What the command `store` finds in the words.
+pub(crate) fn store_matches<'a>(
+    alloc: Global,
+    words: &'a [String],
+) -> Result<ArgMatches<'a>, WordsError>
+    ensures found { IfOk result (λ m. rows_of (found_of m) ≡ matches_of spec.store_app (map string_bytes words.entry.now)) }
+    ensures refused { IfErr result (λ error. error ≡ Refused → takes spec.store_app (map string_bytes words.entry.now) ≡ true → ⊥) }
+{
+    let command = with_listening(alloc, Command::new(alloc, "store"))?;
+    found(command, words)
 }

@@ -1,6 +1,6 @@
 // The tasks that what clap found comes to.
 ghost use Rattle.std.specs.Prelude.{◌≡◌, IfOk, IfErr, IfSome, IfNone};
-ghost use Rattle.gate_words.specs.reading.Commands.{IsOnceIn, IsServeIn, PlaceIn, value_in};
+ghost use Rattle.gate_words.specs.reading.Commands.{IsOnceIn, IsServeIn, IsStoreIn, PlaceIn, value_in};
 ghost use Rattle.gate_words.specs.reading.Lent.{place_in};
 ghost use Rattle.gate_words.specs.declared.place.Place.{Place};
 ghost use Rattle.gate_words.specs.declared.task.Task.{Task};
@@ -55,5 +55,22 @@ pub(crate) fn once_found(alloc: Global, matches: &ArgMatches<'_>) -> Result<Task
     };
     Ok(Task::Once {
         place: owned(alloc, place)?,
+    })
+}
+
+/// The task of the command `store` that was found.
+pub(crate) fn store_found(alloc: Global, matches: &ArgMatches<'_>) -> Result<Task, WordsError>
+    ensures ok { IfOk result (IsStoreIn (value_in matches.now)) }
+    ensures refused { IfErr result (λ error. error ≡ Refused → (task : Task) → IsStoreIn (value_in matches.now) task → ⊥) }
+{
+    let Some(listen) = matches.get_str("listen") else {
+        return Err(WordsError::Refused);
+    };
+    let Some(connections) = connections_given(matches.get_str("connections")) else {
+        return Err(WordsError::Refused);
+    };
+    Ok(Task::Store {
+        listen: Text::copy_of(alloc, listen)?,
+        connections,
     })
 }

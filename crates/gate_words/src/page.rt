@@ -13,6 +13,7 @@ Commands:
   serve    answers clients over HTTP, from the mail of a store
   once     answers one JMAP request on standard input, from the mail of a store
   show     writes the message on standard input as an Email object in JSON
+  store    serves a small IMAP store in memory, for tests and for trying it out
 
 jmapgate COMMAND --help says what a command does, with its options and an
 example. Options come in any order, each once, as --name value or --name=value.
@@ -89,6 +90,30 @@ Example:
   jmapgate show < message.eml
 ";
 
+/// The page on the command `store`.
+pub const STORE_PAGE: &str = "\
+jmapgate store serves a small IMAP store in memory, for tests and for trying
+the gateway out. It has the folders INBOX and Archive, both empty. Any user and
+password is let in, one client after the other, and nothing is kept when it
+ends.
+
+It reads the commands that the gateway sends: at any other, as LOGOUT, it says
+BYE and ends the connection. While one client is connected no other is served.
+The gateway connects once for each request that needs the mail, and each of its
+connections counts.
+
+Usage: jmapgate store --listen ADDR [--connections N]
+
+Options:
+  --listen ADDR      where clients are accepted: an address, `:` and a port
+  --connections N    ends after N connections, from 1 to 9223372036854775807
+
+There is no TLS, and no password is asked for: listen on loopback alone.
+
+Example:
+  jmapgate store --listen 127.0.0.1:1143
+";
+
 /// The page on the version.
 pub const VERSION_PAGE: &str = "jmapgate 0.1\n";
 
@@ -103,6 +128,8 @@ pub enum Page {
     Once,
     /// For `show --help`.
     Show,
+    /// For `store --help`.
+    Store,
     /// For `--version`, alone or after a command: one line.
     Version,
 }
@@ -117,6 +144,7 @@ impl Page {
             Page::Serve => SERVE_PAGE,
             Page::Once => ONCE_PAGE,
             Page::Show => SHOW_PAGE,
+            Page::Store => STORE_PAGE,
             Page::Version => VERSION_PAGE,
         }
     }

@@ -3,15 +3,15 @@ ghost use Rattle.std.specs.Prelude.{◌≡◌, List, ℕ, [], ◌∷◌, codes, 
 ghost use Rattle.gate_words.specs.reading.Lent.{setting_in, place_in};
 ghost use Rattle.gate_words.specs.reading.Words as spec;
 ghost use Rattle.gate_words.specs.Rules as rule;
-ghost use Rattle.gate_words.specs.Task.{IsTask, IsServe, IsOnce, Spelled, NamesPlace};
+ghost use Rattle.gate_words.specs.Task.{IsTask, IsServe, IsOnce, IsStore, Spelled, NamesPlace};
 ghost use Rattle.gate_words.specs.declared.place.Place.{Place};
 ghost use Rattle.gate_words.specs.declared.task.Task.{Task};
 ghost use Rattle.gate_words.specs.declared.task.Task.TheVariants.{Show};
 ghost use Rattle.gate_words.specs.declared.task.WordsError.TheVariants.{Refused};
 
-use crate::commands::{once_matches, serve_matches, show_matches};
+use crate::commands::{once_matches, serve_matches, show_matches, store_matches};
 use crate::connections::connections_in;
-use crate::found::{once_found, serve_found};
+use crate::found::{once_found, serve_found, store_found};
 use crate::option::{LentSetting, Name};
 use crate::place::LentPlace;
 use crate::rules::{is_base, is_user};
@@ -89,6 +89,34 @@ fn once_by(
     }
 }
 
+/// The task of the command `store` that words ask for, which spell these settings.
+fn store_by(
+    alloc: Global,
+    words: &[String],
+    settings: &[LentSetting<'_>],
+) -> Result<Task, WordsError>
+    requires spelled { spec.settings None (drop 1 (map string_bytes words.now)) ≡ Some (map setting_in settings.now) }
+    ensures ok { IfOk result (IsStore (map setting_in settings.now)) }
+    ensures refused { IfErr result (λ error. error ≡ Refused → (task : Task) → IsStore (map setting_in settings.now) task → ⊥) }
+{
+    let Some(_listen) = single(settings, Name::Listen) else {
+        return Err(WordsError::Refused);
+    };
+    let Some(_connections) = connections_in(settings) else {
+        return Err(WordsError::Refused);
+    };
+    if !is_absent(settings, Name::Store)
+        || !is_absent(settings, Name::User)
+        || !is_absent(settings, Name::Base)
+    {
+        return Err(WordsError::Refused);
+    }
+    match store_matches(alloc, words) {
+        Ok(matches) => store_found(alloc, &matches),
+        Err(error) => Err(error),
+    }
+}
+
 /// The task of the command `serve`, which the words are with these options.
 fn serve(alloc: Global, words: &[String], options: &[String]) -> Result<Task, WordsError>
     requires words { drop 1 (map string_bytes words.now) ≡ map string_bytes options.now }
@@ -109,6 +137,18 @@ fn once(alloc: Global, words: &[String], options: &[String]) -> Result<Task, Wor
 {
     match settings_of(alloc, options) {
         Ok(settings) => once_by(alloc, words, settings.as_slice()),
+        Err(error) => Err(error),
+    }
+}
+
+/// The task of the command `store`, which the words are with these options.
+fn store(alloc: Global, words: &[String], options: &[String]) -> Result<Task, WordsError>
+    requires words { drop 1 (map string_bytes words.now) ≡ map string_bytes options.now }
+    ensures ok { IfOk result (Spelled IsStore (map string_bytes options.now)) }
+    ensures refused { IfErr result (λ error. error ≡ Refused → (task : Task) → Spelled IsStore (map string_bytes options.now) task → ⊥) }
+{
+    match settings_of(alloc, options) {
+        Ok(settings) => store_by(alloc, words, settings.as_slice()),
         Err(error) => Err(error),
     }
 }
@@ -147,6 +187,7 @@ fn page_on(command: &str) -> Option<Page>
         "serve" => Some(Page::Serve),
         "once" => Some(Page::Once),
         "show" => Some(Page::Show),
+        "store" => Some(Page::Store),
         _ => None,
     }
 }
@@ -176,6 +217,7 @@ fn command_task(alloc: Global, words: &[String]) -> Result<Task, WordsError>
         "serve" => serve(alloc, words, options),
         "once" => once(alloc, words, options),
         "show" => show(alloc, words, options),
+        "store" => store(alloc, words, options),
         _ => Err(WordsError::Refused),
     }
 }

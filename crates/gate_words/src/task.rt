@@ -24,6 +24,13 @@ pub enum Task {
     },
     /// Shows the message on standard input as an Email object.
     Show,
+    /// Serves a small store in memory, at the address `listen`; ends after this many connections.
+    Store {
+        /// An address, `:` and a port; which text is one isn't looked at here.
+        listen: Text,
+        /// From 1 to `MAX_CONNECTIONS`.
+        connections: u64,
+    },
     /// Writes a page of help.
     Explain {
         page: Page,

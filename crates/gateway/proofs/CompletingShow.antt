@@ -9,7 +9,7 @@ use Rattle.gate_world.specs.Sending.{Sends}
 use Rattle.gate_world.specs.declared.outside.Failed.{Failed}
 use Rattle.gate_world.specs.Octets.{client_gave_in, client_took_in}
 use Rattle.gate_words.specs.declared.page.Page.{Page}
-use Rattle.gate_words.specs.declared.task.Task.TheVariants.{Serve, Once, Show, Explain}
+use Rattle.gate_words.specs.declared.task.Task.TheVariants.{Serve, Once, Store, Show, Explain}
 use Rattle.gate_words.proofs.Tasks.{same-task}
 use Rattle.gate_serving.specs.declared.front.FrontError.{FrontError}
 use Rattle.gate_serving.specs.declared.front.FrontError.TheVariants as error
@@ -20,9 +20,10 @@ use Rattle.gateway.specs.Show.{ShowsObject, AnswersShow, Unread, Sent, SendsLine
 use Rattle.gate_words.specs.declared.task.Task.{Task}
 use Rattle.gate_words.specs.declared.place.Place.{Place}
 use Rattle.gate_world.specs.Causes.{Faults, Hidden}
-use Rattle.gateway.specs.Program.{Runs, Refused, OutOfMemory, Done, Performed, Unopened, ServedMany, ServedOnce, ShownOne, Explained, EndsOne, IsAt}
+use Rattle.gateway.specs.Program.{Runs, Refused, OutOfMemory, Done, Performed, Unopened, ServedMany, ServedOnce, StoreUnmade, ServedStore, ShownOne, Explained, EndsOne, IsAt}
 use Rattle.gateway.specs.Complete.{asked_for, GivesWhole, TellsObject, CompletesShow}
-use Rattle.gateway.proofs.Quiet.{gives_took, gives_gave, heard_gave_client, before_one}
+use Rattle.store_sessions.proofs.Answered.{heard_gives_nothing}
+use Rattle.gateway.proofs.Quiet.{gives_took, gives_gave, before_one}
 
 -- all events of a run that showed one client its message
 shown_events : (answered said shown events : List Event) → events ≡ shown ++ said → said ≡ [] → shown ≡ Accepted ∷ (answered ++ ClientDone ∷ [])
@@ -76,7 +77,7 @@ sent_told outcome status answered said shown events a (Ok u) sends is well ends 
     let object : ShowsObject (input_octets input) a.line = a.reads.2 in
     let all = shown_events answered said shown events events_are (ends_shown outcome status said is ends) shown_is in
     let gave = octets_within client_gave_in answered events refl refl all
-    ∙ parts client_gave_in answered a.reading a.heard (input_octets input) [] a.whole (gives_gave 50000000 input a.reading gives) (heard_gave_client a.heard sends.kind)
+    ∙ parts client_gave_in answered a.reading a.heard (input_octets input) [] a.whole (gives_gave 50000000 input a.reading gives) (heard_gives_nothing a.heard sends.kind)
     ∙ append-nil (input_octets input) in
     let took = octets_within client_took_in answered events refl refl all
     ∙ parts client_took_in answered a.reading a.heard [] a.line a.whole (gives_took 50000000 (Ok input) a.reading gives) sends.took_is in
@@ -114,6 +115,9 @@ other_task place is = cc
 not_served : (place : Place) (listen : List ℕ) (most : ℕ) → Serve place listen most ≡ Show → ⊥
 not_served place listen most is = cc
 
+not_store : (listen : List ℕ) (most : ℕ) → Store listen most ≡ Show → ⊥
+not_store listen most is = cc
+
 not_explained : (page : Page) → Explain page ≡ Show → ⊥
 not_explained page is = cc
 
@@ -126,6 +130,8 @@ ran_told : {task : Task} {secrets : Hidden} {status : ℕ} {blames : Faults} (be
 ran_told {task} behind events (Unopened place at opens a b) shows well came = absurd (not_at task place at shows)
 ran_told behind events (ServedMany place listen most is serves) shows well came = absurd (not_served place listen most (sym is ∙ shows))
 ran_told behind events (ServedOnce place is serves) shows well came = absurd (other_task place (sym is ∙ shows))
+ran_told behind events (StoreUnmade listen most is a b c) shows well came = absurd (not_store listen most (sym is ∙ shows))
+ran_told behind events (ServedStore listen most is serves) shows well came = absurd (not_store listen most (sym is ∙ shows))
 ran_told {status = status} behind events (ShownOne is one) shows well came =
     shows_told one.outcome status behind one.said one.shown events one.shows well one.ends one.whole came
 ran_told behind events (Explained page is one) shows well came = absurd (not_explained page (sym is ∙ shows))

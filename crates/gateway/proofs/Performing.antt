@@ -1,13 +1,13 @@
 -- What a task comes to.
 use Rattle.std.proofs.Common.{arith, ◌≡◌, ◌⊎◌, ◌++◌, ℕ, List, [], Result, Ok, Err, refl, ap, subst}
-use Rattle.gate_world.specs.Causes.{Faults, Hidden, NoFault, Later, SayAlone, Rose, no_faults}
+use Rattle.gate_world.specs.Causes.{Faults, FrontAlone, Hidden, NoFault, Later, SayAlone, Rose, RoseBy, no_faults}
 use Rattle.gate_world.specs.declared.event.Event.{Event}
 use Rattle.gate_words.specs.Pages.{page_text}
 use Rattle.gate_words.specs.Task.{IsTask}
 use Rattle.gate_words.specs.declared.page.Page.{Page}
 use Rattle.gate_words.specs.declared.place.Place.{Place}
 use Rattle.gate_words.specs.declared.task.Task.{Task}
-use Rattle.gate_words.specs.declared.task.Task.TheVariants.{Serve, Once, Show, Explain}
+use Rattle.gate_words.specs.declared.task.Task.TheVariants.{Serve, Once, Store, Show, Explain}
 use Rattle.gate_machine.specs.Progress.{Bears}
 use Rattle.gate_serving.specs.declared.door.Door.{Door}
 use Rattle.gate_serving.specs.declared.door.Door.TheVariants.{Bare, Http}
@@ -19,10 +19,13 @@ use Rattle.gate_serving.specs.declared.served.OpenError.TheVariants as opening
 use Rattle.gate_serving.specs.GateState.{GateState}
 use Rattle.gate_serving.specs.Requests.{Account}
 use Rattle.gate_serving.specs.Run.{Opens, AddsSegment, IsServingRun, account_of, run_blamed}
-use Rattle.gate_serving.specs.Segment.{blamed}
+use Rattle.gate_serving.specs.Segment.{blame_front, blamed}
 use Rattle.gate_serving.proofs.Answering.{bears_none, bears_later, bears_earlier, later_same, bears_failed}
-use Rattle.gateway.specs.Program.{EndsDone, EndsFailed, EndsOnce, EndsOne, IsAt, IsSaid, one_blamed, words_refused, Unopened, ServedMany, ServedOnce, ShownOne, Explained, Refused}
-use Rattle.gateway.specs.Program.{OutOfMemory, Done, RunsShow, RunsExplain, Performs, IsWholeRun}
+use Rattle.honest_store.specs.Sessions.{StoreSession}
+use Rattle.small_answers.specs.Changes.{first_session}
+use Rattle.store_sessions.specs.Clients.{ServesAll, ServesSessions}
+use Rattle.gateway.specs.Program.{EndsDone, EndsFailed, EndsOnce, EndsOne, EndsStore, IsAt, IsSaid, one_blamed, words_refused, Unopened, ServedMany, ServedOnce, StoreUnmade, ServedStore, ShownOne, Explained, Refused}
+use Rattle.gateway.specs.Program.{OutOfMemory, Done, RunsShow, RunsExplain, RunsStore, Performs, IsWholeRun}
 
 later_say : (was now : Faults) → SayAlone was now → Later was now
 later_say was now alone = record { link = omega (arith, alone.link); keep = omega (arith, alone.keep); front = omega (arith, alone.front); say = alone.say }
@@ -136,6 +139,40 @@ pub performs_unopened : {secrets : Hidden} {was now : Faults} {events : List Eve
     → Opens (Err e) events → Performs task secrets was now 5 events
 performs_unopened {was = was} {now = now} task place opening.Memory at same opens =
     record { blames = no_faults; ran = Unopened place at opens refl refl; bears = bears_none was now (later_same was now same) }
+
+-- the task `store` where there was no memory for the store
+pub performs_unmade : (most : ℕ) (was now : Faults) → now ≡ was → RunsStore most was now 5 []
+performs_unmade most was now same listen secrets =
+    record { blames = no_faults; ran = StoreUnmade listen most refl refl refl refl; bears = bears_none was now (later_same was now same) }
+
+bears_failed_often : (failed : ℕ) (was mid now : Faults) → FrontAlone was mid → SayAlone mid now → RoseBy failed was.front mid.front
+    → Bears (blame_front failed no_faults) was now
+bears_failed_often failed was mid now front said rose = record {
+  link = omega (arith, front.link, said.link);
+  keep = omega (arith, front.keep, said.keep);
+  front = omega (arith, rose, said.front);
+  say = omega (arith, front.say, said.say);
+}
+
+-- the task `store`: clients are served, and then what is to be said is said
+pub performs_store : {was mid now : Faults} {served status : ℕ} {s t : StoreSession} {xs : List Event} (most : ℕ) (ys : List Event) → s ≡ first_session
+    → ServesAll s t most was.front mid.front served xs → FrontAlone was mid → SayAlone mid now → served ≡ status → EndsStore status ys
+    → RunsStore most was now status (xs ++ ys)
+performs_store {was} {mid} {now} {served} {status} {s} {t} {xs} most ys first serves front said same ends listen secrets = record {
+  blames = blame_front serves.failed no_faults;
+  ran = ServedStore listen most refl record {
+    serving = xs;
+    said = ys;
+    failed = serves.failed;
+    after = t;
+    serves = subst (λ (n : ℕ). ServesSessions first_session most n serves.failed xs t) same
+        (subst (λ (u : StoreSession). ServesSessions u most served serves.failed xs t) first serves.serves);
+    ends = ends;
+    blames_are = refl;
+    whole = refl;
+  };
+  bears = bears_failed_often serves.failed was mid now front said serves.rose;
+}
 
 bears_one : (outcome : Result (Unit {0}) FrontError) (status : ℕ) (said : List Event) (was now : Faults) → Later was now → (status ≡ 6 → Rose was.front now.front)
     → EndsOne outcome status said

@@ -22,17 +22,9 @@ asks_client_took : (e : Event) → IsClientGave e → client_took_in e ≡ []
 asks_client_took (ClientGave octets) here = refl
 asks_client_took _ never = absurd never
 
-heard_client_gave : (e : Event) → IsClientTook e → client_gave_in e ≡ []
-heard_client_gave (ClientTook octets) here = refl
-heard_client_gave _ never = absurd never
-
 -- events by which the client gives octets have none that the client takes
 pub asks_took_client : (es : List Event) → All IsClientGave es → flat_map client_took_in es ≡ []
 asks_took_client = quiet client_took_in IsClientGave asks_client_took
-
--- events by which the client takes octets have none that the client gives
-pub heard_gave_client : (es : List Event) → All IsClientTook es → flat_map client_gave_in es ≡ []
-heard_gave_client = quiet client_gave_in IsClientTook heard_client_gave
 
 -- a list before one event that has none
 pub before_one : (f : Event → List ℕ) (es : List Event) (e : Event) → f e ≡ [] → flat_map f (es ++ e ∷ []) ≡ flat_map f es

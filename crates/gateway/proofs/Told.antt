@@ -1,5 +1,5 @@
 -- Who came to a run of the program of which nothing fails is told.
-use Rattle.std.proofs.Common.{◌≡◌, ◌∙◌, ℕ, List, sym}
+use Rattle.std.proofs.Common.{◌≡◌, ◌+◌, ◌∙◌, ℕ, List, ap, arith, sym}
 use Rattle.gate_world.specs.Causes.{Faults, Hidden, no_faults}
 use Rattle.gate_world.specs.declared.event.Event.{Event}
 use Rattle.gate_words.specs.declared.task.Task.{Task}
@@ -13,7 +13,7 @@ use Rattle.gate_serving.specs.Run.{Run, Stood, account_of, run_blamed}
 use Rattle.gate_serving.specs.declared.served.Served.{Served}
 use Rattle.gate_serving.proofs.Told.{ToldLaw}
 use Rattle.gateway.specs.Complete.{AnswersAll, AreAnswered, IsTaskAnswered, IsTaskTold, CompletesServing}
-use Rattle.gateway.specs.Program.{Performed, Unopened, ServedMany, ServedOnce, ShownOne, Explained, Runs, Refused, OutOfMemory, Done, IsWholeRun}
+use Rattle.gateway.specs.Program.{Performed, Unopened, ServedMany, ServedOnce, StoreUnmade, ServedStore, ShownOne, Explained, Runs, Refused, OutOfMemory, Done, IsWholeRun}
 
 abbrev pub RunsLaw : Type 0
 RunsLaw = (door : Door) (account : Account) (events : List Event) → CompletesRun door account events
@@ -25,6 +25,8 @@ task_told law runs {secrets = secrets} (ServedMany place listen most is serves) 
     runs Http (account_of place secrets) serves.serving serves.before serves.after serves.went serves.run
 task_told law runs {secrets = secrets} (ServedOnce place is serves) =
     law Bare (account_of place secrets) serves.before serves.serving serves.how serves.after serves.segment
+task_told law runs (StoreUnmade listen most a b c d) = tt
+task_told law runs (ServedStore listen most a b) = tt
 task_told law runs (ShownOne a b) = tt
 task_told law runs (Explained page a b) = tt
 
@@ -51,6 +53,9 @@ task_answered law quiet {secrets = secrets} (ServedMany place listen most is ser
     quiet Http (account_of place secrets) serves.before serves.after serves.serving serves.went serves.run (sym serves.blames_are ∙ none)
 task_answered law quiet {secrets = secrets} (ServedOnce place is serves) none = λ obeyed.
     law Bare (account_of place secrets) serves.before serves.serving serves.how serves.after serves.segment obeyed (sym serves.blames_are ∙ none)
+task_answered law quiet (StoreUnmade listen most a b c d) none = tt
+task_answered law quiet (ServedStore listen most is serves) none =
+    let both : 0 + serves.failed ≡ 0 = ap (λ (f : Faults). f.front) (sym serves.blames_are ∙ none) in omega (arith, both)
 task_answered law quiet (ShownOne a b) none = tt
 task_answered law quiet (Explained page a b) none = tt
 

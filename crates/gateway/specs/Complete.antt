@@ -12,7 +12,7 @@ use Rattle.gate_serving.specs.declared.door.Door.TheVariants.{Bare}
 use Rattle.gate_serving.specs.Complete.{AreObeyedTold, IsSegmentObeyed, IsClientTold, IsRunTold}
 use Rattle.gate_serving.specs.Run.{account_of}
 use Rattle.gate_serving.specs.Segment.{blamed}
-use Rattle.gateway.specs.Program.{Performed, Unopened, ServedMany, ServedOnce, ShownOne, Explained, Runs, Refused, OutOfMemory, Done}
+use Rattle.gateway.specs.Program.{Performed, Unopened, ServedMany, ServedOnce, StoreUnmade, ServedStore, ShownOne, Explained, Runs, Refused, OutOfMemory, Done}
 use Rattle.gateway.specs.Show.{message_limit, ShowsObject}
 
 -- all octets that the client gave
@@ -41,6 +41,8 @@ IsTaskTold (Unopened place a b c d) = Unit {0}
 IsTaskTold (ServedMany place listen most a serves) = IsRunTold serves.run
 IsTaskTold {secrets = secrets} (ServedOnce place a serves) =
     IsSegmentObeyed serves.segment → blamed serves.segment ≡ no_faults → IsClientTold Bare (account_of place secrets) serves.serving serves.how serves.after
+IsTaskTold (StoreUnmade listen most a b c d) = Unit {0}
+IsTaskTold (ServedStore listen most a b) = Unit {0}
 IsTaskTold (ShownOne a b) = Unit {0}
 IsTaskTold (Explained page a b) = Unit {0}
 
@@ -50,13 +52,16 @@ AreTold (Refused a b c d) = Unit {0}
 AreTold (OutOfMemory a b c) = Unit {0}
 AreTold (Done task a ran) = IsTaskTold ran
 
--- What comes of each client of a task for whom the store obeyed, where nothing is blamed.
+-- What comes of each client of a task for whom the store obeyed, where nothing is blamed: a small store's clients are served to their ends,
+-- or memory ran out.
 abbrev pub IsTaskAnswered : {task : Task} {secrets : Hidden} {status : ℕ} {blames : Faults} {events : List Event}
     → Performed task secrets status blames events → Type 0
 IsTaskAnswered (Unopened place a b c d) = Unit {0}
 IsTaskAnswered (ServedMany place listen most a serves) = AreObeyedTold serves.run
 IsTaskAnswered {secrets = secrets} (ServedOnce place a serves) =
     IsSegmentObeyed serves.segment → IsClientTold Bare (account_of place secrets) serves.serving serves.how serves.after
+IsTaskAnswered (StoreUnmade listen most a b c d) = Unit {0}
+IsTaskAnswered (ServedStore listen most a serves) = serves.failed ≡ 0
 IsTaskAnswered (ShownOne a b) = Unit {0}
 IsTaskAnswered (Explained page a b) = Unit {0}
 

@@ -8,8 +8,11 @@ use Rattle.gate_words.specs.Task.{IsTask}
 use Rattle.gate_words.specs.declared.page.Page.{Page}
 use Rattle.gate_words.specs.declared.place.Place.{Place}
 use Rattle.gate_words.specs.declared.task.Task.{Task}
-use Rattle.gate_words.specs.declared.task.Task.TheVariants.{Serve, Once, Show, Explain}
+use Rattle.gate_words.specs.declared.task.Task.TheVariants.{Serve, Once, Store, Show, Explain}
 use Rattle.gate_machine.specs.Progress.{Bears}
+use Rattle.honest_store.specs.Sessions.{StoreSession}
+use Rattle.small_answers.specs.Changes.{first_session}
+use Rattle.store_sessions.specs.Clients.{ServesSessions}
 use Rattle.gate_serving.specs.declared.door.Door.TheVariants.{Bare, Http}
 use Rattle.gate_serving.specs.declared.front.FrontError.{FrontError}
 use Rattle.gate_serving.specs.declared.front.FrontError.TheVariants as front
@@ -52,6 +55,10 @@ EndsOnce served.AcceptFault status said = EndsFailed status said
 abbrev pub EndsServing : ℕ → List Served → ℕ → List Event → Type 0
 EndsServing most went status said = Ends most went status × (EndsDone status said ⊎ EndsFailed status said)
 
+-- The same after clients of the small store: a fault ends in status 6 where no client could be accepted.
+abbrev pub EndsStore : ℕ → List Event → Type 0
+EndsStore status said = EndsFailed status said ⊎ ((status ≡ 6 → ⊥) × (said ≡ []))
+
 -- the same after one that gives a message, or is told a page
 abbrev pub EndsOne : Result (Unit {0}) FrontError → ℕ → List Event → Type 0
 EndsOne (Ok _) status said = EndsDone status said
@@ -68,11 +75,13 @@ one_blamed _ = no_faults
 abbrev pub IsAt : Task → Place → Type 0
 IsAt (Serve place listen connections) at = place ≡ at
 IsAt (Once place) at = place ≡ at
+IsAt (Store listen connections) at = ⊥
 IsAt Show at = ⊥
 IsAt (Explain page) at = ⊥
 
--- it has nothing to do with the store
+-- it has nothing to do with a store over the link
 abbrev pub IsApart : Task → Type 0
+IsApart (Store listen connections) = Unit {0}
 IsApart Show = Unit {0}
 IsApart (Explain page) = Unit {0}
 IsApart (Serve place listen connections) = ⊥
@@ -106,6 +115,17 @@ pub record ServesOne (place : Place) (secrets : Hidden) (status : ℕ) (blames :
   pub blames_are : blames ≡ blamed segment
   pub whole : events ≡ (opening ++ serving) ++ said
 
+-- A small store in memory serves clients, from its first mail on.
+pub record ServesStore (most : ℕ) (status : ℕ) (blames : Faults) (events : List Event) : Type 0 where
+  pub serving : List Event
+  pub said : List Event
+  pub failed : ℕ
+  pub after : StoreSession
+  pub serves : ServesSessions first_session most status failed serving after
+  pub ends : EndsStore status said
+  pub blames_are : blames ≡ blame_front failed no_faults
+  pub whole : events ≡ serving ++ said
+
 -- One client is shown its message.
 pub record ShowsOne (status : ℕ) (blames : Faults) (events : List Event) : Type 0 where
   pub shown : List Event
@@ -134,6 +154,10 @@ pub data Performed (task : Task) (secrets : Hidden) (status : ℕ) (blames : Fau
   ServedMany : (place : Place) (listen : List ℕ) (most : ℕ) → task ≡ Serve place listen most → ServesClients place most secrets status blames events
       → Performed task secrets status blames events
   ServedOnce : (place : Place) → task ≡ Once place → ServesOne place secrets status blames events → Performed task secrets status blames events
+  -- there was no memory for the store
+  StoreUnmade : (listen : List ℕ) (most : ℕ) → task ≡ Store listen most → status ≡ 5 → events ≡ [] → blames ≡ no_faults
+      → Performed task secrets status blames events
+  ServedStore : (listen : List ℕ) (most : ℕ) → task ≡ Store listen most → ServesStore most status blames events → Performed task secrets status blames events
   ShownOne : task ≡ Show → ShowsOne status blames events → Performed task secrets status blames events
   Explained : (page : Page) → task ≡ Explain page → ExplainsOne page status blames events → Performed task secrets status blames events
 
@@ -167,3 +191,7 @@ pub record IsWholeRun (words : List (List ℕ)) (secrets : Hidden) (was now : Fa
   pub blames : Faults
   pub runs : Runs words secrets status blames events
   pub bears : Bears blames was now
+
+-- the same of serving a small store
+abbrev pub RunsStore : ℕ → Faults → Faults → ℕ → List Event → Type 0
+RunsStore most was now status events = (listen : List ℕ) (secrets : Hidden) → Performs (Store listen most) secrets was now status events

@@ -7,7 +7,7 @@ ghost use Rattle.gate_words.specs.Task.{IsTask};
 ghost use Rattle.gate_words.specs.declared.task.Task.{Task};
 ghost use Rattle.gate_serving.specs.Run.{Stood};
 ghost use Rattle.gateway.specs.Complete.{AnswersAll, CompletesServing, CompletesShow};
-ghost use Rattle.gateway.specs.Program.{EndsDone, EndsFailed, EndsOnce, IsApart, IsSaid, IsWholeRun, Performs, RunsExplain, RunsShow, front_failed, words_refused};
+ghost use Rattle.gateway.specs.Program.{EndsDone, EndsFailed, EndsOnce, EndsStore, IsApart, IsSaid, IsWholeRun, Performs, RunsExplain, RunsShow, RunsStore, front_failed, words_refused};
 
 use crate::explain::explain_one;
 use crate::laws::{obeyed_programs_tell, quiet_programs_tell};
@@ -15,13 +15,15 @@ use crate::show::show_one;
 use gate_serving::{Door, FrontError, Gate, OpenError, Served, serve};
 use gate_words::{Page, Place, Task, WordsError, read_words};
 use gate_world::{Failed, Watcher, World};
+use small_store::StoreMachine;
 use std::alloc::Global;
+use store_sessions::serve_sessions;
 
 /// The program did what it was asked.
 pub const STATUS_DONE: u8 = 0;
 /// The words are refused.
 pub const STATUS_WORDS: u8 = 2;
-/// Out of memory: before a client came, or while its message was shown.
+/// Out of memory: before a client came, while its message was shown, or while it was served by a small store.
 pub const STATUS_MEMORY: u8 = 5;
 /// The front failed.
 pub const STATUS_FRONT: u8 = 6;
@@ -115,6 +117,40 @@ fn serve_clients<W: World>(alloc: Global, world: &mut W, place: &Place, most: u6
     }
 }
 
+// Ends the serving of a small store's clients.
+fn end_store<W: World>(world: &mut W, served: u8) -> u8
+    requires { (served ≡ 0) ⊎ (served ≡ 5) ⊎ (served ≡ 6) }
+    ensures said { Adds (W.tape world.old) (W.tape world.new) (EndsStore result) }
+    ensures status { result ≡ served }
+    ensures alone { SayAlone (W.faults world.old) (W.faults world.new) }
+    ensures hidden { W.hidden world.new ≡ W.hidden world.old }
+{
+    if served == STATUS_FRONT {
+        end_failed(world)
+    } else {
+        served
+    }
+}
+
+// Serves a small store in memory.
+fn store<W: World>(alloc: Global, world: &mut W, most: u64) -> u8
+    ensures run { Adds (W.tape world.old) (W.tape world.new) (RunsStore most (W.faults world.old) (W.faults world.new) result) }
+    ensures statuses { (result ≡ 0) ⊎ (result ≡ 5) ⊎ (result ≡ 6) }
+    ensures front { result ≡ 6 → Rose (W.faults world.old).front (W.faults world.new).front }
+    ensures later { Later (W.faults world.old) (W.faults world.new) }
+    ensures apart { (W.faults world.new).link ≡ (W.faults world.old).link }
+    ensures hidden { W.hidden world.new ≡ W.hidden world.old }
+{
+    match StoreMachine::new(alloc) {
+        Err(_) => STATUS_MEMORY,
+        Ok(mut machine) => {
+            machine.is_tellable();
+            let served = serve_sessions(alloc, &mut machine, world, most);
+            end_store(world, served)
+        }
+    }
+}
+
 // Shows one client its message.
 fn show<W: World>(alloc: Global, world: &mut W) -> u8
     ensures run { Adds (W.tape world.old) (W.tape world.new) (RunsShow result) }
@@ -163,6 +199,7 @@ fn perform<W: World>(alloc: Global, world: &mut W, task: &Task) -> u8
             ..
         } => serve_clients(alloc, world, place, *connections),
         Task::Once { place } => once(alloc, world, place),
+        Task::Store { connections, .. } => store(alloc, world, *connections),
         Task::Show => show(alloc, world),
         Task::Explain { page } => explain(world, *page),
     }
@@ -175,11 +212,12 @@ pub fn run<W: World>(words: &[String], world: &mut W, watchers: &mut Vec<Box<dyn
     ensures run { Adds (W.tape world.old) (W.tape world.new)
         (IsWholeRun (map string_bytes words.now) (W.hidden world.old) (W.faults world.old) (W.faults world.new) result) }
 
-    // A law over that run: of whom nothing is blamed and for whom the store obeyed takes the whole response over the mail that is
+    // A law over that run of `serve` or `once`: of whom nothing is blamed and for whom the store obeyed takes the whole response over the mail that is
     // served then, whatever comes of the others; or memory ran out, and they take the text of that.
     ensures complete { Adds (W.tape world.old) (W.tape world.new) (CompletesServing (map string_bytes words.now) (W.hidden world.old) result) }
 
-    // Where no count of faults rises, whoever comes and for whom the store obeyed takes that response; or memory ran out.
+    // Where no count of faults rises, whoever comes to `serve` or `once` and for whom the store obeyed takes that response, and a small
+    // store's clients are served to their ends; or memory ran out.
     ensures quiet { Stood (W.faults world.old) (W.faults world.new)
         → Adds (W.tape world.old) (W.tape world.new) (AnswersAll (map string_bytes words.now) (W.hidden world.old) result) }
 
@@ -193,7 +231,7 @@ pub fn run<W: World>(words: &[String], world: &mut W, watchers: &mut Vec<Box<dyn
     ensures refused { ((task : Task) → IsTask (map string_bytes words.now) task → ⊥) → (result ≡ 2) ⊎ (result ≡ 5) }
     ensures front { result ≡ 6 → Rose (W.faults world.old).front (W.faults world.new).front }
 
-    // What stays. Showing a message and explaining have nothing to do with the store.
+    // What stays. A small store in memory, showing a message and explaining have nothing to do with a store over the link.
     ensures later { Later (W.faults world.old) (W.faults world.new) }
     ensures apart { (task : Task) → IsTask (map string_bytes words.now) task → IsApart task → (W.faults world.new).link ≡ (W.faults world.old).link }
     ensures hidden { W.hidden world.new ≡ W.hidden world.old }

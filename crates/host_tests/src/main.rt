@@ -20,6 +20,7 @@ fn take(rt: HostRuntime, line: &str, out: &mut String) -> io::Result<()> {
         "" | "#" => return Ok(()),
         "scripted" => scenes::scripted(rt, row, steps)?,
         "loopback" => scenes::loopback(rt, row, steps)?,
+        "sessions" => scenes::sessions(rt, row, steps)?,
         "standard" => scenes::standard(rt, row, steps)?,
         _ => String::new(rt.alloc()),
     };

@@ -4,7 +4,7 @@ use crate::peers::Peers;
 use crate::scripted::{RoughInput, scripted_of};
 use crate::steps::Scenario;
 use client_front::{ClientListener, TcpClients, Ticks};
-use gate_host::{Clients, HostWorld, ListenerFront, StandardFront};
+use gate_host::{Clients, HostWorld, ListenerFront, SessionFront, StandardFront, TcpSessions};
 use gate_world::{Bytes, Text};
 use std::alloc::Global;
 use std::io;
@@ -54,6 +54,24 @@ pub(crate) fn loopback(rt: HostRuntime, address: &str, steps: &str) -> io::Resul
         peers.address.set_port(listener.port().unwrap_or(0));
     }
     played(peers, listener, rt, steps)
+}
+
+/// A scenario with clients over loopback that have sessions, who come to a listener at this address, or to none where there is no
+/// such address.
+pub(crate) fn sessions(rt: HostRuntime, address: &str, steps: &str) -> io::Result<String> {
+    let mut peers = Peers::listening(Desk { rt, random: None })?;
+    let listener = TcpSessions::bind(&rt, rt, address);
+    if let Some(listener) = &listener {
+        peers.address.set_port(listener.port().unwrap_or(0));
+    }
+    let mut scenario = begun(peers, "", SessionFront::new(listener))?;
+    let mut out = scenario.play(steps)?;
+    write!(out, "; faults {}", scenario.world.front.faults)?;
+    if let Some(stream) = &scenario.world.front.current {
+        let limits = (stream.read_timeout().ok(), stream.write_timeout().ok());
+        write!(out, ", client {limits:?}")?;
+    }
+    Ok(out)
 }
 
 /// The host of these random octets, or of none where they aren't eight, and a listener there.

@@ -2,21 +2,25 @@
 use Rattle.std.specs.Prelude.{◌≡◌, ◌⊎◌, ℕ, List, [], Option, Some, None}
 use Rattle.gate_words.specs.Task.{IsTask}
 use Rattle.gate_words.specs.declared.task.Task.{Task}
-use Rattle.gate_words.specs.declared.task.Task.TheVariants.{Serve, Once, Show, Explain}
+use Rattle.gate_words.specs.declared.task.Task.TheVariants.{Serve, Once, Show, Store, Explain}
+use Rattle.jmapgate.specs.declared.Listening.{Listening}
+use Rattle.jmapgate.specs.declared.Listening.TheVariants.{Requests, Sessions, Nobody}
 
--- the store of a task, where it has one
+-- the store that a task dials, where it dials one
 abbrev pub store_in : Task → Option (List ℕ)
 store_in (Serve place listen connections) = Some place.store
 store_in (Once place) = Some place.store
 store_in Show = None
+store_in (Store listen connections) = None
 store_in (Explain page) = None
 
--- where a task has clients accepted
-abbrev pub listener_in : Task → Option (List ℕ)
-listener_in (Serve place listen connections) = Some listen
-listener_in (Once place) = None
-listener_in Show = None
-listener_in (Explain page) = None
+-- whom a task listens for
+abbrev pub listening_in : Task → Listening
+listening_in (Serve place listen connections) = Requests listen
+listening_in (Once place) = Nobody
+listening_in Show = Nobody
+listening_in (Store listen connections) = Sessions listen
+listening_in (Explain page) = Nobody
 
 -- the words ask for no task of which this is something
 abbrev pub AsksForNone : (Task → Option (List ℕ)) → List (List ℕ) → Type 0
@@ -27,7 +31,7 @@ abbrev pub NamesStore : List (List ℕ) → List ℕ → Type 0
 NamesStore words store =
     ((task : Task) × IsTask words task × (store_in task ≡ Some store)) ⊎ (AsksForNone store_in words × (store ≡ []))
 
--- where the task that the words ask for has clients accepted, or nowhere
-abbrev pub NamesListener : List (List ℕ) → Option (List ℕ) → Type 0
-NamesListener words None = AsksForNone listener_in words
-NamesListener words (Some listen) = (task : Task) × IsTask words task × (listener_in task ≡ Some listen)
+-- whom the task that the words ask for listens for, and nobody where they ask for none
+abbrev pub NamesListener : List (List ℕ) → Listening → Type 0
+NamesListener words listening =
+    ((task : Task) × IsTask words task × (listening_in task ≡ listening)) ⊎ (((task : Task) → IsTask words task → ⊥) × (listening ≡ Nobody))

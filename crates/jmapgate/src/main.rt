@@ -2,16 +2,19 @@
 #![tactic(auto)]
 
 ghost use Rattle.std.specs.Prelude.{◌≡◌, [], map, string_bytes, IfOk};
+ghost use Rattle.jmapgate.specs.Clientele.{AreListenedFor};
 ghost use Rattle.jmapgate.specs.Devices.{NamesListener, NamesStore};
 
 use client_front::TcpClients;
-use gate_host::{Clients, Host, HostWorld, ListenerFront, StandardFront};
+use gate_host::{
+    Clients, Host, HostWorld, ListenerFront, SessionFront, StandardFront, TcpSessions,
+};
 use gate_words::{Task, WordsError, read_words};
 use gate_world::{Bytes, Text, Watcher};
 use std::alloc::{AllocError, Global};
 use std::env;
 use std::env::VarError;
-use std::io::ErrorKind;
+use std::io::{ErrorKind, Stdin, Stdout};
 use std::process::ExitCode;
 
 /// The status of a run that finds no memory to begin with.
@@ -24,16 +27,53 @@ fn main(rt: HostRuntime) -> ExitCode {
     }
 }
 
+/// Whom the program listens for.
+#[derive(Drop)]
+enum Listening {
+    /// Clients that give requests, at this address.
+    Requests(Text),
+    /// Clients that have sessions, at this address: they may wait to be sent something first.
+    Sessions(Text),
+    /// Nobody.
+    Nobody,
+}
+
+/// The clients of the program.
+#[derive(Drop)]
+enum Clientele {
+    /// Those that give requests.
+    Requests(ListenerFront<TcpClients, HostRuntime>),
+    /// Those that have sessions.
+    Sessions(SessionFront<TcpSessions<HostRuntime>>),
+    /// The one on standard input and output.
+    Standard(StandardFront<Stdin, Stdout>),
+}
+
 /// Makes the devices that the words ask for, and runs the gateway over them.
 fn run(rt: HostRuntime) -> Result<u8, AllocError> {
     let words = words_of(&rt)?;
-    match listen_of(rt.alloc(), &words)? {
-        Some(address) => {
+    match clientele_of(rt, listening_of(rt.alloc(), &words)?) {
+        Clientele::Requests(front) => run_over(rt, &words, front),
+        Clientele::Sessions(front) => run_over(rt, &words, front),
+        Clientele::Standard(front) => run_over(rt, &words, front),
+    }
+}
+
+/// The clients that are listened for, or the one on standard input and output. Where there is no listening at the address, each
+/// of the front's calls fails.
+fn clientele_of(rt: HostRuntime, listening: Listening) -> Clientele
+    ensures { AreListenedFor listening result }
+{
+    match listening {
+        Listening::Requests(address) => {
             let listener = TcpClients::bind(rt.alloc(), &rt, address.as_str());
-            let front = ListenerFront::new(rt.alloc(), listener, rt);
-            run_over(rt, &words, front)
+            Clientele::Requests(ListenerFront::new(rt.alloc(), listener, rt))
         }
-        None => run_over(rt, &words, StandardFront::new(rt.input(), rt.output())),
+        Listening::Sessions(address) => {
+            let listener = TcpSessions::bind(&rt, rt, address.as_str());
+            Clientele::Sessions(SessionFront::new(listener))
+        }
+        Listening::Nobody => Clientele::Standard(StandardFront::new(rt.input(), rt.output())),
     }
 }
 
@@ -76,22 +116,24 @@ fn store_of(alloc: Global, words: &[String]) -> Result<Text, AllocError>
         Ok(Task::Serve { place, .. }) => Ok(place.store),
         Ok(Task::Once { place }) => Ok(place.store),
         Ok(Task::Show) => Ok(no_store(alloc)),
+        Ok(Task::Store { .. }) => Ok(no_store(alloc)),
         Ok(Task::Explain { .. }) => Ok(no_store(alloc)),
         Err(WordsError::Refused) => Ok(no_store(alloc)),
         Err(WordsError::Memory) => Err(AllocError),
     }
 }
 
-/// Where the words have clients accepted: at no address but in `serve`.
-fn listen_of(alloc: Global, words: &[String]) -> Result<Option<Text>, AllocError>
+/// Whom the program listens for by the words: for clients in `serve` and `store` alone, each at its address.
+fn listening_of(alloc: Global, words: &[String]) -> Result<Listening, AllocError>
     ensures { IfOk result (NamesListener (map string_bytes words.now)) }
 {
     match read_words(alloc, words) {
-        Ok(Task::Serve { listen, .. }) => Ok(Some(listen)),
-        Ok(Task::Once { .. }) => Ok(None),
-        Ok(Task::Show) => Ok(None),
-        Ok(Task::Explain { .. }) => Ok(None),
-        Err(WordsError::Refused) => Ok(None),
+        Ok(Task::Serve { listen, .. }) => Ok(Listening::Requests(listen)),
+        Ok(Task::Once { .. }) => Ok(Listening::Nobody),
+        Ok(Task::Show) => Ok(Listening::Nobody),
+        Ok(Task::Store { listen, .. }) => Ok(Listening::Sessions(listen)),
+        Ok(Task::Explain { .. }) => Ok(Listening::Nobody),
+        Err(WordsError::Refused) => Ok(Listening::Nobody),
         Err(WordsError::Memory) => Err(AllocError),
     }
 }

@@ -1,5 +1,5 @@
 -- A comparator whose property stands earlier decides nothing.
-use Rattle.std.proofs.Common.{◌≡◌, inl, inr, ℕ, zero, suc, List, [], ◌∷◌, ◌++◌, map, Bool, true, false, not, ◌||◌, Vec, Global, Bor, nat_cmp, is_eq, refl, sym, ap, subst, ◌∙◌, append_assoc}
+use Rattle.std.proofs.Common.{◌≡◌, inl, inr, ℕ, zero, suc, ◌+◌, ◌<◌, List, [], ◌∷◌, ◌++◌, length, get_or, drop, map, Bool, true, false, not, ◌||◌, Vec, Global, Bor, nat_cmp, is_eq, refl, sym, ap, subst, ◌∙◌, append_assoc}
 use Rattle.std.specs.BTreeSet.{insert_key}
 use Rattle.std.specs.BTreeMap.{is_at}
 use Rattle.std.specs.Cmp.Lexicographic.{slice_cmp}
@@ -7,15 +7,20 @@ use Rattle.std.specs.List.{AllByRecursion, list_any}
 use Rattle.std.specs.declared.cmp.Ordering.{Ordering}
 use Rattle.std.specs.declared.cmp.Ordering.TheVariants.{Less, Equal, Greater}
 use Rattle.std.specs.Ordering.{match_ordering, ordering_reverse, ordering_then}
-use Rattle.std.proofs.lemmas.List.{map_push}
+use Rattle.std.proofs.lemmas.List.{drop_more, map_push}
 use Rattle.std.proofs.lemmas.Map.Text.{is_eq-slice_cmp}
 use Rattle.std.proofs.lemmas.Slice.Eq.{bytes_eq-Decides}
-use Rattle.mail_maps.specs.Serve.{Email}
+use Rattle.mail_maps.specs.Serve.{Email, ServedMailbox}
 use Rattle.mail_orders.specs.Directions.{directed}
 use Rattle.mail_orders.specs.Emails.{cmp_by_property, email_cmp}
+use Rattle.mail_orders.specs.Mailboxes.{mailbox_cmp, mailbox_cmp_by}
+use Rattle.mail_orders.specs.Texts.{text_cmp}
 use Rattle.mail_orders.specs.declared.comparators.EmailComparator.{EmailComparator}
 use Rattle.mail_orders.specs.declared.comparators.EmailSort.{EmailSort}
 use Rattle.mail_orders.specs.declared.comparators.EmailSort.TheVariants as sort
+use Rattle.mail_orders.specs.declared.comparators.MailboxComparator.{MailboxComparator}
+use Rattle.mail_orders.specs.declared.comparators.MailboxSort.{MailboxSort}
+use Rattle.mail_orders.specs.declared.comparators.MailboxSort.TheVariants.{Name, SortOrder}
 use Rattle.mail_orders.specs.reading.PropertyKeys.{HasProperty, property_key}
 use Rattle.mail_orders.proofs.SortLemmas.{then_assoc}
 
@@ -173,3 +178,45 @@ module _ (kept : List (Bor EmailComparator)) (c : Bor EmailComparator) where
 pub not_new : (new there : Bool) → new ≡ not there → new ≡ false → there ≡ true
 not_new new true is old = refl
 not_new new false is old = let e : true ≡ false = sym is ∙ old in cc
+
+-- ---- Mailboxes
+
+decides_alone : (o rest : Ordering) → (o ≡ Equal → rest ≡ Equal) → ordering_then o rest ≡ o
+decides_alone Less rest tie = refl
+decides_alone Equal rest tie = tie refl
+decides_alone Greater rest tie = refl
+
+module _ (a b : ServedMailbox) where
+  ties_by : (s : MailboxSort) → text_cmp a.name b.name ≡ Equal → mailbox_cmp_by s a b ≡ Equal
+  ties_by Name e = e
+  ties_by SortOrder e = refl
+
+  -- Mailboxes with one name are told apart by no comparator
+  none_decides : (cs : List MailboxComparator) → text_cmp a.name b.name ≡ Equal → mailbox_cmp cs a b ≡ Equal
+  none_decides [] e = refl
+  none_decides (c ∷ cs) e =
+      ap (λ (o : Ordering). ordering_then o (mailbox_cmp cs a b)) (either_way true c.is_ascending (mailbox_cmp_by c.property a b) (ties_by c.property e))
+      ∙ none_decides cs e
+
+  abbrev by_first : MailboxComparator → List MailboxComparator → MailboxSort → Ordering
+  by_first c cs s = ordering_then (directed c.is_ascending (mailbox_cmp_by s a b)) (mailbox_cmp cs a b)
+
+  name_decides : (c : MailboxComparator) (cs : List MailboxComparator) → c.property ≡ Name → directed c.is_ascending (text_cmp a.name b.name) ≡ mailbox_cmp (c ∷ cs) a b
+  name_decides c cs is =
+      sym (ap (by_first c cs) is
+      ∙ decides_alone (directed c.is_ascending (text_cmp a.name b.name)) (mailbox_cmp cs a b)
+      (λ e. none_decides cs (either_way c.is_ascending true (text_cmp a.name b.name) e)))
+
+  sort_order_passed : (c : MailboxComparator) (cs : List MailboxComparator) → c.property ≡ SortOrder → mailbox_cmp cs a b ≡ mailbox_cmp (c ∷ cs) a b
+  sort_order_passed c cs is =
+      sym (ap (by_first c cs) is ∙ ap (λ (o : Ordering). ordering_then o (mailbox_cmp cs a b)) (either_way true c.is_ascending Equal refl))
+
+  module _ (cs : List MailboxComparator) (i : ℕ) (d : MailboxComparator) (within : i < length cs) where
+    from_here : mailbox_cmp (get_or cs i d ∷ drop (i + 1) cs) a b ≡ mailbox_cmp (drop i cs) a b
+    from_here = sym (ap (λ (ds : List MailboxComparator). mailbox_cmp ds a b) (drop_more cs i d within))
+
+    pub decided_here : (get_or cs i d).property ≡ Name → directed (get_or cs i d).is_ascending (text_cmp a.name b.name) ≡ mailbox_cmp (drop i cs) a b
+    decided_here is = name_decides (get_or cs i d) (drop (i + 1) cs) is ∙ from_here
+
+    pub passed_here : (get_or cs i d).property ≡ SortOrder → mailbox_cmp (drop (i + 1) cs) a b ≡ mailbox_cmp (drop i cs) a b
+    passed_here is = sort_order_passed (get_or cs i d) (drop (i + 1) cs) is ∙ from_here

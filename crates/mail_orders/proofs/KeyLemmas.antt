@@ -3,20 +3,16 @@ use Rattle.std.proofs.Common.{◌≡◌, ◌↔◌, ℕ, List, Option, None, Som
 use Rattle.std.specs.Cmp.{IsTotalOrder}
 use Rattle.std.specs.Cmp.Lexicographic.{slice_cmp}
 use Rattle.std.specs.Option.{option_cmp, option_map}
-use Rattle.mail_maps.specs.Serve.{Email, mailbox_of}
+use Rattle.mail_maps.specs.Serve.{Email}
 use Rattle.mail_conditions.specs.Entries.{email_at}
 use Rattle.mail_conditions.specs.declared.entry.EmailEntry.{EmailEntry}
 use Rattle.mail_orders.specs.Directions.{directed}
 use Rattle.mail_orders.specs.Emails.{cmp_by_property}
-use Rattle.mail_orders.specs.Mailboxes.{mailbox_cmp_by}
 use Rattle.mail_orders.specs.Texts.{folded, text_cmp}
 use Rattle.mail_orders.specs.declared.comparators.EmailComparator.{EmailComparator}
 use Rattle.mail_orders.specs.declared.comparators.EmailSort.{EmailSort}
-use Rattle.mail_orders.specs.declared.comparators.MailboxComparator.{MailboxComparator}
-use Rattle.mail_orders.specs.declared.comparators.MailboxSort.{MailboxSort}
-use Rattle.mail_orders.specs.declared.entry.MailboxEntry.{MailboxEntry}
 use Rattle.mail_orders.specs.reading.Keys.{IsStableSort, by_key}
-use Rattle.mail_orders.specs.reading.Rows.{emails_by, mailboxes_by}
+use Rattle.mail_orders.specs.reading.Rows.{emails_by}
 
 pub ascending : {X K : Type 0} (cmp : K → K → Ordering) (key : X → K) (is_ascending : Bool) → is_ascending ≡ true
     → (λ (x y : X). cmp (key x) (key y)) ≡ by_key is_ascending cmp key
@@ -36,13 +32,6 @@ pub email_sort : {K : Type 0} (cmp : K → K → Ordering) (key : EmailEntry →
 email_sort cmp key emails c s old new is same =
     subst (λ R. IsStableSort R old new)
     (λ i a b. directed c.is_ascending ((same a b ∙ ap (λ (t : EmailSort). cmp_by_property emails t (email_at a) (email_at b)) (sym is)) i))
-
-pub mailbox_sort : {K : Type 0} (cmp : K → K → Ordering) (key : MailboxEntry → K) (c : MailboxComparator) (s : MailboxSort) (old new : List MailboxEntry)
-    → c.property ≡ s → ((a b : MailboxEntry) → cmp (key a) (key b) ≡ mailbox_cmp_by s (mailbox_of a.row.now) (mailbox_of b.row.now))
-    → IsStableSort (by_key c.is_ascending cmp key) old new → IsStableSort (mailboxes_by c) old new
-mailbox_sort cmp key c s old new is same =
-    subst (λ R. IsStableSort R old new)
-    (λ i a b. directed c.is_ascending ((same a b ∙ ap (λ (t : MailboxSort). mailbox_cmp_by t (mailbox_of a.row.now) (mailbox_of b.row.now)) (sym is)) i))
 
 -- two tests that are true of the same are one
 pub same_truth : (a b : Bool) → IsTrue a ↔ IsTrue b → a ≡ b

@@ -1,6 +1,6 @@
 -- Rows that are sorted by one comparator more.
-use Rattle.std.proofs.Common.{◌≡◌, ◌↔◌, ℕ, ◌+◌, ◌-◌, ◌<◌, ◌≤◌, List, [], ◌∷◌, length, get_or, drop, map, Bool, true, false, Contains, IsPermutation, nat_cmp}
-use Rattle.std.proofs.Common.{refl, sym, ap, subst, ◌∙◌, arith, Bor}
+use Rattle.std.proofs.Common.{◌≡◌, ◌↔◌, ℕ, ◌+◌, ◌-◌, ◌<◌, ◌≤◌, List, [], ◌∷◌, length, get_or, drop, map, Bool, Contains, IsPermutation, nat_cmp}
+use Rattle.std.proofs.Common.{sym, ap, subst, ◌∙◌, arith, Bor}
 use Rattle.std.specs.declared.cmp.Ordering.{Ordering}
 use Rattle.std.specs.Ordering.{ordering_then}
 use Rattle.std.specs.Cmp.{IsTotalOrder}
@@ -16,13 +16,14 @@ use Rattle.query_lists.specs.Ordered.{AscendByNumber, row_cmp}
 use Rattle.mail_orders.specs.Directions.{directed}
 use Rattle.mail_orders.specs.Emails.{cmp_by_property, email_cmp}
 use Rattle.mail_orders.specs.Entries.{mailboxes_at}
-use Rattle.mail_orders.specs.Mailboxes.{mailbox_cmp, mailbox_cmp_by}
+use Rattle.mail_orders.specs.Mailboxes.{mailbox_cmp}
+use Rattle.mail_orders.specs.Texts.{text_cmp}
 use Rattle.mail_orders.specs.declared.comparators.EmailComparator.{EmailComparator}
 use Rattle.mail_orders.specs.declared.comparators.MailboxComparator.{MailboxComparator}
 use Rattle.mail_orders.specs.declared.entry.MailboxEntry.{MailboxEntry}
-use Rattle.mail_orders.specs.reading.Keys.{IsStableSort}
-use Rattle.mail_orders.specs.reading.Rows.{emails_by, emails_in_order, mailboxes_by, mailboxes_in_order}
-use Rattle.mail_orders.proofs.OrderLaws.{directed_total, property_total, mailbox_property_total}
+use Rattle.mail_orders.specs.reading.Keys.{IsStableSort, by_key}
+use Rattle.mail_orders.specs.reading.Rows.{emails_by, emails_in_order}
+use Rattle.mail_orders.proofs.OrderLaws.{directed_total, property_total, mailbox_total}
 use Rattle.mail_orders.proofs.SortLemmas.{sorted_before, sorted_mapped, then_assoc, then_sorted}
 
 -- from the place before on
@@ -66,35 +67,28 @@ emails_sorted emails cs rows h = sorted_mapped (λ (e : EmailEntry). let p : ℕ
 
 -- ---- Mailboxes
 
-pub mailboxes_by_number : (rows : List MailboxEntry) → AscendByNumber (mailboxes_at rows) → IsStrictlySortedBy (mailboxes_in_order []) rows
-mailboxes_by_number rows up =
-    sorted_before (λ (b : MailboxEntry). let p : ℕ × ServedMailbox = (b.number, mailbox_of b.row.now) in p) (row_cmp (mailbox_cmp [])) rows
+-- by an order that tells none apart
+pub none_apart : (cs : List MailboxComparator) (rows : List MailboxEntry) → ((a b : ServedMailbox) → mailbox_cmp cs a b ≡ Equal)
+    → AscendByNumber (mailboxes_at rows) → IsStrictlySortedBy (row_cmp (mailbox_cmp cs)) (mailboxes_at rows)
+none_apart cs rows tie up =
+    same_order (λ (a b : ServedMailbox). Equal) (mailbox_cmp cs) (mailboxes_at rows) (λ a b. sym (tie a b))
     (sorted_before (λ (b : ℕ × ServedMailbox). b.0) nat_cmp (mailboxes_at rows) up)
 
-mailboxes_next : (c : MailboxComparator) (cs : List MailboxComparator) (old new : List MailboxEntry)
-    → IsStrictlySortedBy (mailboxes_in_order cs) old → IsStableSort (mailboxes_by c) old new → IsStrictlySortedBy (mailboxes_in_order (c ∷ cs)) new
-mailboxes_next c cs old new was sort =
-    let total : IsTotalOrder (mailboxes_by c) =
-    on_total (λ (b : MailboxEntry). mailbox_of b.row.now) (directed_total (mailbox_cmp_by c.property) (mailbox_property_total c.property) c.is_ascending) in
-    subst (λ R. IsStrictlySortedBy R new)
-    (λ i a b. sym (then_assoc (mailboxes_by c a b) (mailbox_cmp cs (mailbox_of a.row.now) (mailbox_of b.row.now)) (nat_cmp a.number b.number)) i)
-    (then_sorted (mailboxes_by c) (mailboxes_in_order cs) total old new was sort)
-
-pub mailboxes_more : (cs : List MailboxComparator) (left : ℕ) (d : MailboxComparator) (old new : List MailboxEntry) → 0 < left → left ≤ length cs
-    → IsStrictlySortedBy (mailboxes_in_order (drop left cs)) old → IsStableSort (mailboxes_by (get_or cs (left - 1) d)) old new
-    → IsStrictlySortedBy (mailboxes_in_order (drop (left - 1) cs)) new
-mailboxes_more cs left d old new some within was sort =
-    subst (λ (rest : List MailboxComparator). IsStrictlySortedBy (mailboxes_in_order rest) new) (sym (front_more cs left d some within))
-    (mailboxes_next (get_or cs (left - 1) d) (drop left cs) old new was sort)
-
-pub mailboxes_sorted : (cs : List MailboxComparator) (rows : List MailboxEntry)
-    → IsStrictlySortedBy (mailboxes_in_order cs) rows → IsStrictlySortedBy (row_cmp (mailbox_cmp cs)) (mailboxes_at rows)
-mailboxes_sorted cs rows h = sorted_mapped (λ (b : MailboxEntry). let p : ℕ × ServedMailbox = (b.number, mailbox_of b.row.now) in p) (row_cmp (mailbox_cmp cs)) rows h
-
--- an order that tells none apart leaves the rows as they are
-pub none_apart : {X : Type 0} (is_ascending : Bool) (rows : List X) → IsStableSort (λ (a b : X). directed is_ascending Equal) rows rows
-none_apart true rows = record { ascends = λ k d low within. refl; stays = λ x. refl }
-none_apart false rows = record { ascends = λ k d low within. refl; stays = λ x. refl }
+-- by an order that is the names', in a direction
+pub sorted_by_name : (cs : List MailboxComparator) (is_ascending : Bool) (old new : List MailboxEntry)
+    → ((a b : ServedMailbox) → directed is_ascending (text_cmp a.name b.name) ≡ mailbox_cmp cs a b)
+    → AscendByNumber (mailboxes_at old) → IsStableSort (by_key is_ascending text_cmp (λ (b : MailboxEntry). b.row.now.name)) old new
+    → IsStrictlySortedBy (row_cmp (mailbox_cmp cs)) (mailboxes_at new)
+sorted_by_name cs is_ascending old new same up sort =
+    let numbered : MailboxEntry → ℕ × ServedMailbox = λ b. (b.number, mailbox_of b.row.now) in
+    let first : MailboxEntry → MailboxEntry → Ordering = λ a b. mailbox_cmp cs (mailbox_of a.row.now) (mailbox_of b.row.now) in
+    let next : MailboxEntry → MailboxEntry → Ordering = λ a b. nat_cmp a.number b.number in
+    let total : IsTotalOrder first = on_total (λ (b : MailboxEntry). mailbox_of b.row.now) (mailbox_total cs) in
+    let was : IsStrictlySortedBy next old =
+    sorted_before numbered (λ x y. nat_cmp x.0 y.0) old (sorted_before (λ (b : ℕ × ServedMailbox). b.0) nat_cmp (mailboxes_at old) up) in
+    sorted_mapped numbered (row_cmp (mailbox_cmp cs)) new
+    (then_sorted first next total old new was
+    (subst (λ R. IsStableSort R old new) (λ i a b. same (mailbox_of a.row.now) (mailbox_of b.row.now) i) sort))
 
 -- values of rows in another order are the same
 pub same_values : {X Y : Type 0} (f : X → Y) (old new : List X) → IsPermutation old new → (y : Y) → Contains (map f new) y ↔ Contains (map f old) y

@@ -1,5 +1,5 @@
 -- What each call plays of a script.
-use Rattle.std.specs.Prelude.{◌≡◌, ◌⊎◌, ◌+◌, ◌-◌, ◌^◌, ◌<◌, ◌==◌, ◌&&◌, ◌||◌, ℕ, Bool, true, false, List, [], ◌∷◌, length, take, drop, min, max, nat_lt, nat_le}
+use Rattle.std.specs.Prelude.{◌≡◌, ◌⊎◌, ◌+◌, ◌-◌, ◌^◌, ◌<◌, ◌==◌, ◌&&◌, ◌||◌, ℕ, Bool, true, false, List, [], ◌∷◌, ◌++◌, length, take, drop, min, max, nat_lt, nat_le}
 use Rattle.std.specs.Prelude.{Option, Some, None, IsSome, Result, Ok, Err, All}
 use Rattle.std.specs.List.{list_any}
 use Rattle.scripted_world.specs.declared.left.Left.{Left}
@@ -62,6 +62,10 @@ ended left = record left { link = None }
 -- the store gave octets of the link life
 abbrev pub read_on : ℕ → Left → Left
 read_on count left = record left { link = without count left.link }
+
+-- one client more comes, after the others
+abbrev pub with_client : Left → List ℕ → Left
+with_client left octets = record left { script = record left.script { clients = left.script.clients ++ octets ∷ [] } }
 
 -- the next client came
 abbrev pub accepted : Left → Left

@@ -1,11 +1,12 @@
 // What is left of a script, and what each call plays of it.
-ghost use Rattle.std.specs.Prelude.{◌≡◌, ◌+◌, ◌-◌, ◌<◌, ◌≤◌, ◌↔◌, [], IsSome, IsTrue, MatchBool, drop, length, max, min, nat_le, nat_lt, take, ◌==◌, ◌&&◌};
+ghost use Rattle.std.specs.Prelude.{◌≡◌, ◌+◌, ◌-◌, ◌<◌, ◌≤◌, ◌↔◌, [], IsSome, IsTrue, MatchBool, OnErr, OnOk, drop, length, max, min, nat_le, nat_lt, take, ◌==◌, ◌&&◌};
 ghost use Rattle.std.specs.List.{list_any};
 ghost use Rattle.gate_world.specs.Pieces.{Gives, octets_of, without};
-ghost use Rattle.scripted_world.specs.Script.{accepted, counted, dialed, drawn, ended, is_next_to_fail, next_word, read_on, received_on, unplayed};
+ghost use Rattle.scripted_world.specs.Script.{accepted, counted, dialed, drawn, ended, is_next_to_fail, next_word, read_on, received_on, unplayed, with_client};
 
 use crate::{Fail, Script};
 use gate_world::Bytes;
+use std::alloc::AllocError;
 use std::marker::Model;
 
 /// What is left of a text.
@@ -146,6 +147,14 @@ impl Left {
         ensures rest { self.new ≡ read_on result self.old }
     {
         read_of(&mut self.link, self.script.piece, into)
+    }
+
+    /// One client more comes, after the others.
+    pub(crate) fn add_client(&mut self, octets: Bytes) -> Result<(), AllocError>
+        ensures ok { OnOk result (self.new ≡ with_client self.old octets) }
+        ensures err { OnErr result (self.new ≡ self.old) }
+    {
+        self.script.clients.push(octets)
     }
 
     /// The next client comes, where there is one.

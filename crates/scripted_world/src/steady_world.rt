@@ -1,16 +1,16 @@
 // A world in memory that follows a script, and in which no call fails.
-ghost use Rattle.std.specs.Prelude.{◌≡◌, ◌<◌, ◌≤◌, ℕ, [], Some, None, All, IfOk, IfSome, IsNone, IsOk, OnErr, OnOk, length, min, take, if◌then◌else◌};
+ghost use Rattle.std.specs.Prelude.{◌≡◌, ◌<◌, ◌≤◌, ◌↔◌, ℕ, [], Some, None, All, IfOk, IfSome, IsNone, IsOk, IsSome, IsTrue, OnErr, OnOk, length, min, take, if◌then◌else◌};
 ghost use Rattle.gate_world.specs.Causes.{FrontAlone, LinkAlone, NoFault, Rose, SayAlone};
 ghost use Rattle.gate_world.specs.declared.event.Event.TheVariants.{Accepted, ClientDone, ClientTook, Dialed, FrontFailed, LinkEnded, NoMore, Said, SayFailed, StoreGave, StoreTook, Word};
 ghost use Rattle.gate_world.specs.Pieces.{Gives, octets_of};
 ghost use Rattle.gate_world.specs.Read.{given};
-ghost use Rattle.scripted_world.specs.Script.{SteadyAcceptPlays, SteadyReadPlays, begun, dialed, drawn, ended, next_word, received_on};
+ghost use Rattle.scripted_world.specs.Script.{SteadyAcceptPlays, SteadyReadPlays, begun, dialed, drawn, ended, next_word, received_on, with_client};
 ghost use Rattle.gate_world.specs.Tape.{AddsOne};
 
 use crate::Script;
 use crate::playback::Playback;
-use gate_world::{Chance, Console, Event, Failed, Front, Link, Secrets, Taped, World};
-use std::alloc::Global;
+use gate_world::{Bytes, Chance, Console, Event, Failed, Front, Link, Secrets, Taped, World};
+use std::alloc::{AllocError, Global};
 use std::marker::Model;
 
 /// A world in which no call fails: of its script, `fails` and `stop_at` count for nothing, and a read past the end of
@@ -45,6 +45,31 @@ impl SteadyWorld {
         ensures stopped { IsNone result → self.now.tape ≡ None }
     {
         self.playback.tape.events()
+    }
+
+    /// Whether a link life is there.
+    pub fn is_linked(&self) -> bool
+        ensures { IsTrue result ↔ IsSome self.now.left.link }
+    {
+        self.playback.left.is_linked()
+    }
+
+    /// Tells that the store gave these octets, whatever the script has. Nothing of the script is played.
+    pub fn tell_store_gave(&mut self, octets: &[u8])
+        ensures tape { AddsOne self.old.tape self.new.tape (StoreGave octets.now) }
+        ensures faults { NoFault self.old.faults self.new.faults }
+        ensures hidden { self.new.hidden ≡ self.old.hidden }
+        ensures plays { self.new.left ≡ self.old.left }
+    {
+        self.playback.tell_store_gave(octets);
+    }
+
+    /// One client more for `accept`, after the others. A refusal changes nothing.
+    pub fn add_client(&mut self, octets: Bytes) -> Result<(), AllocError>
+        ensures ok { OnOk result (self.new ≡ record self.old { left = with_client self.old.left octets }) }
+        ensures err { OnErr result (self.new ≡ self.old) }
+    {
+        self.playback.left.add_client(octets)
     }
 }
 

@@ -1,14 +1,17 @@
 -- Each NO of the small store is honest.
-use Rattle.std.proofs.Common.{◌≡◌, None, ℕ, ◌<◌, [], refl, arith}
+use Rattle.std.proofs.Common.{◌≡◌, Option, Some, None, ℕ, ◌<◌, [], refl, arith}
+use Rattle.imap_syntax.specs.declared.code.Code.TheVariants as code
 use Rattle.imap_syntax.specs.declared.command.Command.{Command}
 use Rattle.imap_syntax.specs.declared.command.Command.TheVariants as command
 use Rattle.honest_store.specs.WellFormed.{IsStoreMail}
 use Rattle.honest_store.specs.Others.{NoStep}
-use Rattle.honest_store.specs.TrueResponses.{NoMore}
+use Rattle.honest_store.specs.StoreMail.{StoreMail}
+use Rattle.honest_store.specs.TrueResponses.{TellsTruly, NoMore, Tells}
 use Rattle.honest_store.specs.Sessions.{StoreSession}
 use Rattle.honest_store.specs.Honest.{MayRefuse, after_no, Honest}
 use Rattle.small_answers.specs.Causes.{RefusalCause, NotThere, IsThere, IsInbox, HasChildren, NothingSelected, NoMessage, NameTooLong, FlagsTooLong, NumberSpent}
-use Rattle.small_answers.specs.Answers.{no_answer}
+use Rattle.small_answers.specs.Answers.{no_answer, refusal_responses}
+use Rattle.small_answers.specs.ToldResponses.{closed_responses, ok_response}
 
 nothing_below : (k : ℕ) → k < 0 → ⊥
 nothing_below k l = omega (arith, l)
@@ -54,10 +57,19 @@ may_refuse s command.Enable h = absurd (never_enable s h)
 may_refuse s command.Unselect h = none_selected s h
 may_refuse s _ h = tt
 
-pub refusals_are_honest : (s : StoreSession) (c : Command) → IsStoreMail s.mail → RefusalCause s c → Honest NoStep s c no_answer (after_no c s)
+-- what is told with NO may come at any time
+closed_told : (was selected : Option ℕ) (mail : StoreMail) → TellsTruly NoStep selected mail (closed_responses was) mail
+closed_told None selected mail = NoMore
+closed_told (Some n) selected mail = Tells (ok_response code.Closed) tt tt NoMore
+
+refusal_told : (c : Command) (was selected : Option ℕ) (mail : StoreMail) → TellsTruly NoStep selected mail (refusal_responses c was) mail
+refusal_told (command.Select name known) was selected mail = closed_told was selected mail
+refusal_told _ was selected mail = NoMore
+
+pub refusals_are_honest : (s : StoreSession) (c : Command) → IsStoreMail s.mail → RefusalCause s c → Honest NoStep s c (no_answer c s.selected) (after_no c s)
 refusals_are_honest s c whole h = record {
   early = [];
-  late = [];
+  late = refusal_responses c s.selected;
   from = s;
   to = after_no c s;
   whole = refl;
@@ -65,6 +77,6 @@ refusals_are_honest s c whole h = record {
   still_selected = refl;
   acts = record { may = may_refuse s c h; nothing = refl };
   well_formed = whole;
-  told_late = NoMore;
+  told_late = refusal_told c s.selected (after_no c s).selected s.mail;
   stays_selected = refl;
 }

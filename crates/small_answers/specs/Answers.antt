@@ -17,7 +17,7 @@ use Rattle.small_answers.specs.Changes.{next_modseq, mail_with, mail_without, ma
 use Rattle.small_answers.specs.Changes.{mail_subscribed, selected_folder}
 use Rattle.small_answers.specs.Causes.{are_same_names, RefusalCause}
 use Rattle.small_answers.specs.ToldResponses.{set_of, ok_response, list_response, flags_response, change_response, header_response, body_response, with_uids}
-use Rattle.small_answers.specs.ToldResponses.{is_between, is_from_on, select_responses}
+use Rattle.small_answers.specs.ToldResponses.{closed_responses, is_between, is_from_on, select_responses}
 
 -- what OK tells, its code, and the session after it
 pub record Reply : Type 0 where
@@ -144,12 +144,17 @@ ok_reply s (command.Subscribe name on) = changed_reply s (mail_subscribed s.mail
 
 -- ---- the answer
 
-abbrev pub no_answer : StoreAnswer
-no_answer = record { responses = []; status = status.No; code = code.Absent }
+-- a SELECT that is refused closes the folder that was selected, and says so (RFC 9051 section 6.3.2)
+abbrev pub refusal_responses : Command → Option ℕ → List Response
+refusal_responses (command.Select name known) selected = closed_responses selected
+refusal_responses _ selected = []
+
+abbrev pub no_answer : Command → Option ℕ → StoreAnswer
+no_answer c selected = record { responses = refusal_responses c selected; status = status.No; code = code.Absent }
 
 abbrev pub ok_answer : Reply → StoreAnswer
 ok_answer r = record { responses = r.responses; status = status.Ok; code = r.code }
 
 pub data AnswersCommand (s : StoreSession) (c : Command) : StoreAnswer → StoreSession → Type 0 where
-  Refused : RefusalCause s c → AnswersCommand s c no_answer (after_no c s)
+  Refused : RefusalCause s c → AnswersCommand s c (no_answer c s.selected) (after_no c s)
   Accepted : (RefusalCause s c → ⊥) → AnswersCommand s c (ok_answer (ok_reply s c)) (ok_reply s c).session

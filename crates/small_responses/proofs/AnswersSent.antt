@@ -21,7 +21,7 @@ use Rattle.store_responses.specs.Sendable.{IsNonZeroNumber, IsSendable, IsSendab
 use Rattle.small_answers.specs.Causes.{RefusalCause, FlagsTooLong, NumberSpent, IsAtEnd, are_same_names, changes_flags, ends_message, flags_of_store}
 use Rattle.small_answers.specs.ToldResponses.{body_response, change_response, changes_since, closed_responses, flags_response, folder_responses, header_response}
 use Rattle.small_answers.specs.ToldResponses.{is_between, is_from_on, known_changes, list_response, set_of, with_uids}
-use Rattle.small_answers.specs.Answers.{AnswersCommand, Refused, Accepted, Reply, append_reply, expunge_reply, expunged_reply, fetch_reply, flags_reply, move_reply, move_reply_to}
+use Rattle.small_answers.specs.Answers.{AnswersCommand, Refused, Accepted, Reply, refusal_responses, append_reply, expunge_reply, expunged_reply, fetch_reply, flags_reply, move_reply, move_reply_to}
 use Rattle.small_answers.specs.Answers.{ok_reply, reply_in, reply_with, select_reply, store_reply, told_change}
 use Rattle.small_answers.specs.SmallMail.{IsSmallFolder, IsSmallMail}
 use Rattle.small_answers.proofs.Elements.{each_append, each_mapped, each_weaker, each_both, told_all}
@@ -308,10 +308,15 @@ sent_after s (command.Delete name) small told parts free = record { responses = 
 sent_after s (command.Rename from to) small told parts free = record { responses = tt; code = absent_short }
 sent_after s (command.Subscribe name on) small told parts free = record { responses = tt; code = absent_short }
 
+refusal_sent : (c : Command) (o : Option ℕ) → AllByRecursion IsSendable (refusal_responses c o)
+refusal_sent (command.Select name known) o = closed_sent o
+refusal_sent _ o = tt
+
 answered : {s t : StoreSession} {c : Command} {a : StoreAnswer} → IsSmallMail s.mail → IsSendableMail s.mail → HasSendableParts c → AnswersCommand s c a t → (tag : List ℕ)
     → IsSendableTag tag
     → AllByRecursion IsSendable (sent_responses tag a)
-answered small told parts (Refused cause) tag is = (no_sent tag is, tt)
+answered {s} {t} {c} small told parts (Refused cause) tag is =
+    each_append IsSendable (refusal_responses c s.selected) (response.Tagged tag status.No code.Absent ∷ []) (refusal_sent c s.selected) (no_sent tag is, tt)
 answered {s} {t} {c} small told parts (Accepted free) tag is =
     let sent : IsSent (ok_reply s c) = sent_after s c small told parts free in
     each_append IsSendable (ok_reply s c).responses (response.Tagged tag status.Ok (ok_reply s c).code ∷ []) sent.responses (ok_sent tag (ok_reply s c).code is sent.code, tt)

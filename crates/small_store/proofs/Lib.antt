@@ -19,3 +19,4 @@ pub mod Naming
 pub mod MachineReplies
 pub mod MachineAnswers
 pub mod MachineMoves
+pub mod Honesty

@@ -1,6 +1,6 @@
 -- What is answered is an answer to the command, and leaves mail that can be told.
 use Rattle.std.proofs.Common.{◌≡◌, Bool, true, false, Result, Ok, Err, sym, subst}
-use Rattle.std.specs.Prelude.{IfOk, MatchBool, OnErr}
+use Rattle.std.specs.Prelude.{IfOk, MatchBool, OnErr, OnOk}
 use Rattle.std.specs.declared.alloc.AllocError.{AllocError}
 use Rattle.imap_syntax.specs.declared.command.Command.{Command}
 use Rattle.honest_store.specs.Honest.{after_no}
@@ -12,9 +12,12 @@ use Rattle.small_store.specs.reading.Steps.{Gives}
 use Rattle.small_store.proofs.Telling.{tellable_answered}
 
 module _ (s after : StoreSession) (c : Command) where
-  pub refused : (a : StoreAnswer) → RefusalCause s c → a ≡ no_answer → after ≡ after_no c s → AnswersCommand s c a after
-  refused a cause answer session =
-      subst (λ (x : StoreAnswer). AnswersCommand s c x after) (sym answer) (subst (λ (t : StoreSession). AnswersCommand s c no_answer t) (sym session) (Refused cause))
+  pub refused : (result : Result StoreAnswer AllocError) → RefusalCause s c → IfOk result (λ (a : StoreAnswer). a ≡ no_answer c s.selected)
+      → OnOk result (after ≡ after_no c s) → IfOk result (λ (a : StoreAnswer). AnswersCommand s c a after)
+  refused (Ok a) cause answer session =
+      subst (λ (x : StoreAnswer). AnswersCommand s c x after) (sym answer)
+      (subst (λ (t : StoreSession). AnswersCommand s c (no_answer c s.selected) t) (sym session) (Refused cause))
+  refused (Err e) cause answer session = tt
 
   pub accepted : (a : StoreAnswer) → (RefusalCause s c → ⊥) → Gives (ok_reply s c) a after → AnswersCommand s c a after
   accepted a free gives =

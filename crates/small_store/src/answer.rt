@@ -2,7 +2,6 @@
 ghost use Rattle.std.specs.Prelude.{◌≡◌, []};
 ghost use Rattle.imap_syntax.specs.declared.code.Code.TheVariants as codes;
 ghost use Rattle.imap_syntax.specs.declared.response.Status.TheVariants as status;
-ghost use Rattle.small_answers.specs.Answers.{no_answer};
 
 use imap_syntax::{Code, Response, Status};
 use std::alloc::Global;
@@ -50,12 +49,12 @@ impl Answer {
         }
     }
 
-    /// NO.
-    pub(crate) fn refused(alloc: Global) -> Answer
-        ensures { result ≡ no_answer }
+    /// NO, and this is told.
+    pub(crate) fn refused(responses: Vec<Response>) -> Answer
+        ensures { result ≡ record { responses = responses.items; status = status.No; code = codes.Absent } }
     {
         Answer {
-            responses: Vec::new(alloc),
+            responses,
             status: Status::No,
             code: Code::Absent,
         }

@@ -9,11 +9,14 @@ mod told;
 // What it does to the messages of a folder.
 mod messages;
 
-// The store: its folders, when it refuses, and what its owner does.
+// What it holds and does: its folders, when it refuses, and what its owner does.
 mod machine;
 mod owner;
 mod refusals;
 mod selecting;
 
+// The store as its users have it.
+mod store_machine;
+
 pub use answer::Answer;
-pub use machine::StoreMachine;
+pub use store_machine::StoreMachine;

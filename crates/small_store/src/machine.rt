@@ -21,7 +21,7 @@ ghost use Rattle.store_responses.specs.ResponseTexts.{text_of_response};
 use crate::answer::Answer;
 use crate::fetches::{Asked, Which, greatest_uid, push_fetches};
 use crate::messages::{append, expunge, move_out, store};
-use crate::selecting::select_responses;
+use crate::selecting::{closed_responses, select_responses};
 use crate::told::{list_responses, two_names};
 use gate_world::Bytes;
 use imap_syntax::{Code, Command, Response};
@@ -31,16 +31,16 @@ use std::alloc::{AllocError, Global};
 use std::marker::Model;
 use store_responses::push_response;
 
-/// A store in memory, of one user, and one session over it.
+/// What a store holds and does, where its mail is one that can be told.
 #[derive(Drop)]
-pub struct StoreMachine {
+pub(crate) struct Machine {
     pub(crate) mail: StoredMail,
     /// The number of the folder that is selected.
     pub(crate) selected: Option<u32>,
     pub(crate) alloc: Global,
 }
 
-impl Model for StoreMachine {
+impl Model for Machine {
     ghost use Rattle.honest_store.specs.Sessions.{StoreSession};
 
     ghost Value = { StoreSession };
@@ -48,14 +48,14 @@ impl Model for StoreMachine {
     ghost view = { λ s. record { mail = s.mail; selected = s.selected } };
 }
 
-impl StoreMachine {
+impl Machine {
     /// INBOX and Archive, both empty, with the UIDVALIDITIES 1 and 2, and no folder selected.
-    pub fn new(alloc: Global) -> Result<StoreMachine, AllocError>
+    pub(crate) fn new(alloc: Global) -> Result<Machine, AllocError>
         ensures first { IfOk result (λ s. s ≡ first_session) }
         ensures tellable { IfOk result (λ s. IsTellableMail s.mail) }
     {
         let mail = StoredMail::new(alloc)?;
-        Ok(StoreMachine {
+        Ok(Machine {
             mail,
             selected: None,
             alloc,
@@ -63,7 +63,7 @@ impl StoreMachine {
     }
 
     /// A session begins over the mail as it is, with no folder selected.
-    pub fn begin_session(&mut self)
+    pub(crate) fn begin_session(&mut self)
         ensures { self.new ≡ answers.unselected self.old }
     {
         self.selected = None;
@@ -71,7 +71,7 @@ impl StoreMachine {
 
     /// The octets of the answer to the command, under its tag. Where memory is wanting, the answer is lost, and the command has
     /// done all that it does or nothing.
-    pub fn answer(&mut self, tag: &[u8], command: &Command) -> Result<Vec<u8>, AllocError>
+    pub(crate) fn answer(&mut self, tag: &[u8], command: &Command) -> Result<Vec<u8>, AllocError>
         requires tellable { IsTellableMail self.old.mail }
         requires command { IsTellableCommand command.now }
         ensures ok { IfOk result (λ octets. (a : StoreAnswer) × AnswersCommand self.old command.now a self.new × (octets.items ≡ text_of_answer tag.now a)) }
@@ -85,7 +85,7 @@ impl StoreMachine {
     }
 
     /// What the command is answered. Where memory is wanting nothing changes.
-    pub fn respond(&mut self, command: &Command) -> Result<Answer, AllocError>
+    pub(crate) fn respond(&mut self, command: &Command) -> Result<Answer, AllocError>
         requires tellable { IsTellableMail self.old.mail }
         requires command { IsTellableCommand command.now }
         ensures ok { IfOk result (λ a. AnswersCommand self.old command.now a self.new) }
@@ -93,20 +93,24 @@ impl StoreMachine {
         ensures tellable { IsTellableMail self.new.mail }
     {
         if self.refuses(command)? {
-            return Ok(self.refuse(command));
+            return self.refuse(command);
         }
         self.accept(command)
     }
 
-    /// NO. A SELECT that is refused leaves no folder selected (RFC 9051 section 6.3.2).
-    fn refuse(&mut self, command: &Command) -> Answer
-        ensures answer { result ≡ answers.no_answer }
-        ensures session { self.new ≡ after_no command.now self.old }
+    /// NO. A SELECT that is refused leaves no folder selected, and tells that one was closed (RFC 9051 section 6.3.2). Where memory is
+    /// wanting nothing changes.
+    fn refuse(&mut self, command: &Command) -> Result<Answer, AllocError>
+        ensures answer { IfOk result (λ a. a ≡ answers.no_answer command.now self.old.selected) }
+        ensures session { OnOk result (self.new ≡ after_no command.now self.old) }
+        ensures err { OnErr result (self.new ≡ self.old) }
     {
-        if let Command::Select { .. } = command {
-            self.selected = None;
-        }
-        Answer::refused(self.alloc)
+        let Command::Select { .. } = command else {
+            return Ok(Answer::refused(Vec::new(self.alloc)));
+        };
+        let responses = closed_responses(self.alloc, self.selected)?;
+        self.selected = None;
+        Ok(Answer::refused(responses))
     }
 
     /// OK to a command for whose refusal there is no cause.

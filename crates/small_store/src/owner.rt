@@ -6,7 +6,7 @@ ghost use Rattle.small_mail.specs.Places.{IsFolderAt, IsMessageAt};
 ghost use Rattle.small_answers.specs.OwnersCalls as calls;
 ghost use Rattle.small_responses.specs.Tellable.{IsTellableMail};
 
-use crate::StoreMachine;
+use crate::machine::Machine;
 use crate::messages::is_full_for_move;
 use gate_world::{Bytes, Names};
 use small_mail::StoredMail;
@@ -49,10 +49,15 @@ fn seen_flag(alloc: Global) -> Result<Names, AllocError>
     Ok(names)
 }
 
-impl StoreMachine {
+impl Machine {
     /// Delivers a message to the folder. False where no such folder is there, or a number would pass its end. The date is in
     /// seconds since 1970-01-01T00:00:00Z, within the years 0 to 9999.
-    pub fn deliver(&mut self, folder: &[u8], message: &[u8], date: i64) -> Result<bool, AllocError>
+    pub(crate) fn deliver(
+        &mut self,
+        folder: &[u8],
+        message: &[u8],
+        date: i64,
+    ) -> Result<bool, AllocError>
         requires tellable { IsTellableMail self.old.mail }
         requires date { nearest_date date ≡ date }
         requires fits { length message.now < 2 ^ 63 }
@@ -75,7 +80,7 @@ impl StoreMachine {
 
     /// Sets `\Seen` of the message at the place among all, from 0 on, or takes it. False where none is there, or a number would
     /// pass its end.
-    pub fn toggle_seen(&mut self, at: usize) -> Result<bool, AllocError>
+    pub(crate) fn toggle_seen(&mut self, at: usize) -> Result<bool, AllocError>
         requires tellable { IsTellableMail self.old.mail }
         ensures ok { IfOk result (λ done. calls.CallGives self.old.mail (calls.seen_toggled self.old.mail (calls.message_at_place self.old.mail at)) done self.new.mail) }
         ensures selected { self.new.selected ≡ self.old.selected }
@@ -99,7 +104,7 @@ impl StoreMachine {
 
     /// Moves the message at the place to the other of INBOX and Archive. False as in `toggle_seen`, and where that folder isn't
     /// there.
-    pub fn shift(&mut self, at: usize) -> Result<bool, AllocError>
+    pub(crate) fn shift(&mut self, at: usize) -> Result<bool, AllocError>
         requires tellable { IsTellableMail self.old.mail }
         ensures ok { IfOk result (λ done. calls.CallGives self.old.mail (calls.shifted self.old.mail (calls.message_at_place self.old.mail at)) done self.new.mail) }
         ensures selected { self.new.selected ≡ self.old.selected }
@@ -122,7 +127,7 @@ impl StoreMachine {
     }
 
     /// Ends the message at the place. False as in `toggle_seen`.
-    pub fn expunge(&mut self, at: usize) -> Result<bool, AllocError>
+    pub(crate) fn expunge(&mut self, at: usize) -> Result<bool, AllocError>
         requires tellable { IsTellableMail self.old.mail }
         ensures ok { IfOk result (λ done. calls.CallGives self.old.mail (calls.message_expunged self.old.mail (calls.message_at_place self.old.mail at)) done self.new.mail) }
         ensures selected { self.new.selected ≡ self.old.selected }

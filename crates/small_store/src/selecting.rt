@@ -68,6 +68,17 @@ fn push_changes(
     push_fetches(alloc, responses, folder.messages(), changed, Asked::Change)
 }
 
+/// What a SELECT tells of the folder that was selected.
+pub fn closed_responses(alloc: Global, selected: Option<u32>) -> Result<Vec<Response>, AllocError>
+    ensures { IfOk result (λ rs. rs.items ≡ told.closed_responses selected) }
+{
+    let mut responses = Vec::new(alloc);
+    if selected.is_some() {
+        responses.push(ok_response(Code::Closed))?;
+    }
+    Ok(responses)
+}
+
 /// What a SELECT of the folder tells, while a folder is selected or none.
 pub fn select_responses(
     alloc: Global,
@@ -78,10 +89,7 @@ pub fn select_responses(
     requires { IsStoreFolder folder.now }
     ensures { IfOk result (λ rs. rs.items ≡ told.select_responses selected folder.now known) }
 {
-    let mut responses = Vec::new(alloc);
-    if selected.is_some() {
-        responses.push(ok_response(Code::Closed))?;
-    }
+    let mut responses = closed_responses(alloc, selected)?;
     push_folder(alloc, &mut responses, folder)?;
     push_changes(alloc, &mut responses, folder, known)?;
     Ok(responses)

@@ -2,3 +2,4 @@ pub mod Telling
 pub mod Stepping
 pub mod Conversing
 pub mod Serving
+pub mod Answered

@@ -11,12 +11,12 @@ mod clients;
 mod next;
 mod session;
 
-// What holds of commands as they are read.
+// What holds of commands and of sessions.
 mod laws;
 
 pub use clients::serve_sessions;
 pub use command_store::CommandStore;
-pub use laws::read_may_be_told;
+pub use laws::{clients_are_answered, read_may_be_told};
 pub use next::SessionError;
 pub use session::{GREETING, serve_client};
 pub use turn::{Turn, take_turn};

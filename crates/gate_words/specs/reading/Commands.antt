@@ -8,7 +8,7 @@ use Rattle.gate_words.specs.declared.option.Name.{Name}
 use Rattle.gate_words.specs.declared.option.Name.TheVariants.{Store, User, Base, Listen, Connections}
 use Rattle.gate_words.specs.declared.place.Place.{Place}
 use Rattle.gate_words.specs.declared.task.Task.{Task}
-use Rattle.gate_words.specs.declared.task.Task.TheVariants.{Serve, Once}
+use Rattle.gate_words.specs.declared.task.Task.TheVariants as task
 
 -- ---- commands
 
@@ -27,14 +27,20 @@ option_rule required id = record (new_rule id) { long = Some id; required = requ
 abbrev pub with_place : App → App
 with_place app = with_rule (with_rule (with_rule app (option_rule true (codes "store"))) (option_rule true (codes "user"))) (option_rule true (codes "base"))
 
+abbrev pub with_listening : App → App
+with_listening app = with_rule (with_rule app (option_rule true (codes "listen"))) (option_rule false (codes "connections"))
+
 unfoldable pub serve_app : App
-serve_app = with_rule (with_rule (with_place (new_app (codes "serve"))) (option_rule true (codes "listen"))) (option_rule false (codes "connections"))
+serve_app = with_listening (with_place (new_app (codes "serve")))
 
 unfoldable pub once_app : App
 once_app = with_place (new_app (codes "once"))
 
 unfoldable pub show_app : App
 show_app = new_app (codes "show")
+
+unfoldable pub store_app : App
+store_app = with_listening (new_app (codes "store"))
 
 -- ---- what they find
 
@@ -59,9 +65,17 @@ pub record ServeIn (value : Name → Option (List ℕ)) (place : Place) (listen 
   pub counts : CountsGiven (value Connections) connections
 
 abbrev pub IsServeIn : (Name → Option (List ℕ)) → Task → Type 0
-IsServeIn value (Serve place listen connections) = ServeIn value place listen connections
+IsServeIn value (task.Serve place listen connections) = ServeIn value place listen connections
 IsServeIn value _ = ⊥
 
 abbrev pub IsOnceIn : (Name → Option (List ℕ)) → Task → Type 0
-IsOnceIn value (Once place) = PlaceIn value place
+IsOnceIn value (task.Once place) = PlaceIn value place
 IsOnceIn value _ = ⊥
+
+pub record StoreIn (value : Name → Option (List ℕ)) (listen : List ℕ) (connections : ℕ) : Type 0 where
+  pub listens : value Listen ≡ Some listen
+  pub counts : CountsGiven (value Connections) connections
+
+abbrev pub IsStoreIn : (Name → Option (List ℕ)) → Task → Type 0
+IsStoreIn value (task.Store listen connections) = StoreIn value listen connections
+IsStoreIn value _ = ⊥

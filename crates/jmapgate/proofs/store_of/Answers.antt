@@ -12,6 +12,10 @@ returns-in-Ok-Once c = with_store _ c.in-Ok-Once.field-0 _ c.in-Ok-Once.ensures.
 pub returns-in-Ok-Show : goal.returns-in-Ok-Show
 returns-in-Ok-Show c = without_store _ c.in-Ok-Show.field-0 _ c.in-Ok-Show.ensures.ok (ap store_in c.in-Ok-Show.field-0-is) c.no_store.ensures
 
+pub returns-in-Ok-Store : goal.returns-in-Ok-Store
+returns-in-Ok-Store c =
+    without_store _ c.in-Ok-Store.field-0 _ c.in-Ok-Store.ensures.ok (ap store_in c.in-Ok-Store.field-0-is) c.no_store-in-Ok-Store.ensures
+
 pub returns-in-Ok-Explain : goal.returns-in-Ok-Explain
 returns-in-Ok-Explain c =
     without_store _ c.in-Ok-Explain.field-0 _ c.in-Ok-Explain.ensures.ok (ap store_in c.in-Ok-Explain.field-0-is) c.no_store-in-Ok-Explain.ensures

@@ -1,0 +1,4 @@
+pub mod Giving
+pub mod Replying
+pub mod Standing
+pub mod Writing
