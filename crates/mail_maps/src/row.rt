@@ -3,7 +3,7 @@
 use crate::Envelope;
 use gate_world::{Bytes, Names, Text};
 
-/// An Email (RFC 8621 section 4).
+/// An Email (RFC 8621 section 4). What most queries read stands first, so that they read one place in memory a row.
 #[derive(Debug, Drop)]
 pub struct EmailRow {
     /// The key of the row among Emails.
@@ -12,16 +12,16 @@ pub struct EmailRow {
     pub mark: u64,
     /// The number of its folder.
     pub folder: u64,
-    /// Not served.
-    pub uid: u32,
-    /// Sorted by octets, each once.
-    pub keywords: Names,
     /// When it came, in seconds since 1970-01-01T00:00:00Z.
     pub received: i64,
     /// Octets of the whole message.
     pub size: u64,
     /// The number of its Thread.
     pub thread: u64,
+    /// Not served.
+    pub uid: u32,
+    /// Sorted by octets, each once.
+    pub keywords: Names,
     /// As the message has it: where it is long, its first lines.
     pub header: Bytes,
     /// What the header says, as `read_envelope` reads it.

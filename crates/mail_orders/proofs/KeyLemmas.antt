@@ -1,6 +1,5 @@
 -- Orders by keys, and the orders of comparators.
-use Rattle.std.proofs.Common.{◌≡◌, ◌↔◌, ℕ, List, Option, None, Some, Bool, true, false, IsTrue, nat_cmp, refl, sym, ap, subst, ◌∙◌, Ordering}
-use Rattle.std.specs.Cmp.{IsTotalOrder}
+use Rattle.std.proofs.Common.{◌≡◌, ◌↔◌, ℕ, List, Option, None, Some, Bool, true, false, IsTrue, map, nat_cmp, refl, sym, ap, subst, ◌∙◌, Ordering}
 use Rattle.std.specs.Cmp.Lexicographic.{slice_cmp}
 use Rattle.std.specs.Option.{option_cmp, option_map}
 use Rattle.mail_maps.specs.Serve.{Email}
@@ -11,27 +10,20 @@ use Rattle.mail_orders.specs.Emails.{cmp_by_property}
 use Rattle.mail_orders.specs.Texts.{folded, text_cmp}
 use Rattle.mail_orders.specs.declared.comparators.EmailComparator.{EmailComparator}
 use Rattle.mail_orders.specs.declared.comparators.EmailSort.{EmailSort}
-use Rattle.mail_orders.specs.reading.Keys.{IsStableSort, by_key}
+use Rattle.mail_orders.specs.reading.Keys.{AreInOrder, IsSortedByKeys}
+use Rattle.mail_orders.proofs.PairLemmas.{in_order}
 use Rattle.mail_orders.specs.reading.Rows.{emails_by}
 
-pub ascending : {X K : Type 0} (cmp : K → K → Ordering) (key : X → K) (is_ascending : Bool) → is_ascending ≡ true
-    → (λ (x y : X). cmp (key x) (key y)) ≡ by_key is_ascending cmp key
-ascending cmp key true is = refl
-ascending cmp key false is = absurd (cc)
-
--- the keys' order the other way round is the descending one
-pub descending : {X K : Type 0} (cmp : K → K → Ordering) → IsTotalOrder cmp → (key : X → K) (is_ascending : Bool) → is_ascending ≡ false
-    → (λ (x y : X). cmp (key y) (key x)) ≡ by_key is_ascending cmp key
-descending cmp total key true is = absurd (cc)
-descending cmp total key false is = λ i x y. total.antisymm (key y) (key x) i
-
--- a sort by the keys that a property compares is one by the comparator
-pub email_sort : {K : Type 0} (cmp : K → K → Ordering) (key : EmailEntry → K) (emails : List (ℕ × Email)) (c : EmailComparator) (s : EmailSort) (old new : List EmailEntry)
+-- values that are sorted by the keys that a property compares are in the Emails' order by the comparator
+pub email_order : {K V : Type 0} (cmp : K → K → Ordering) (key : EmailEntry → K) (emails : List (ℕ × Email)) (c : EmailComparator) (s : EmailSort)
+    (rows : List EmailEntry) (values sorted : List V)
     → c.property ≡ s → ((a b : EmailEntry) → cmp (key a) (key b) ≡ cmp_by_property emails s (email_at a) (email_at b))
-    → IsStableSort (by_key c.is_ascending cmp key) old new → IsStableSort (emails_by emails c) old new
-email_sort cmp key emails c s old new is same =
-    subst (λ R. IsStableSort R old new)
+    → IsSortedByKeys c.is_ascending cmp (map key rows) values sorted
+    → (of : EmailEntry → V) → values ≡ map of rows → AreInOrder (emails_by emails c) of rows sorted
+email_order cmp key emails c s rows values sorted is same sorts of are =
+    subst (λ R. AreInOrder R of rows sorted)
     (λ i a b. directed c.is_ascending ((same a b ∙ ap (λ (t : EmailSort). cmp_by_property emails t (email_at a) (email_at b)) (sym is)) i))
+    (in_order cmp key of c.is_ascending rows values sorted are sorts)
 
 -- two tests that are true of the same are one
 pub same_truth : (a b : Bool) → IsTrue a ↔ IsTrue b → a ≡ b

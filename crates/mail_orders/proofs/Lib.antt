@@ -1,4 +1,5 @@
 pub mod SortLemmas
+pub mod PairLemmas
 pub mod KeyLemmas
 pub mod OrderLaws
 pub mod RowLemmas

@@ -4,4 +4,5 @@ pub mod Texts
 pub mod Emails
 pub mod Mailboxes
 pub mod Entries
+pub mod Listed
 pub mod reading

@@ -2,4 +2,4 @@
 pub mod Keys
 pub mod Rows
 pub mod PropertyKeys
-pub mod FoldedTexts
+pub mod Joined

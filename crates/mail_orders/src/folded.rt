@@ -1,30 +1,25 @@
 // Texts that compare without regard to the case of letters.
-ghost use Rattle.std.specs.Prelude.{◌≡◌, []};
+ghost use Rattle.std.specs.Prelude.{◌≡◌, IfOk, map};
 ghost use Rattle.std.proofs.Common.{rules};
 ghost use Rattle.std.specs.Cmp.{partial_order_from_own_ties};
 ghost use Rattle.std.specs.Cmp.Lexicographic.{slice_cmp};
 ghost use Rattle.std.specs.Cmp.Rules.{comparing};
+ghost use Rattle.std.specs.Option.{option_cmp, option_copied, option_map};
 ghost use Rattle.std.specs.Ordering.{as_partial_cmp, eq_by_cmp, nat_cmp};
-ghost use Rattle.mail_orders.specs.Texts.{folded, text_cmp};
-ghost use Rattle.mail_orders.specs.reading.FoldedTexts.{octets_compared};
+ghost use Rattle.mail_orders.specs.Texts.{folded};
+ghost use Rattle.mail_orders.specs.reading.Keys.{IsSortedByKeys};
+ghost use Rattle.mail_orders.specs.reading.Joined.{joined};
 
-use std::alloc::Global;
+use crate::keys::sorted_by_keys;
+use std::alloc::{AllocError, Global};
 use std::cmp::Ordering;
 use std::marker::Model;
 
-/// The octets of a text.
+/// Octets that contracts see as a list, which they don't of a `&[u8]` within a key. They compare as they are: a text is made small
+/// before.
 #[derive(Drop)]
-enum Octets<'a> {
-    /// In small letters.
-    Lowercase(Vec<u8>),
-    /// As they stand, each to be made small as it is compared.
-    Plain(&'a [u8]),
-}
-
-/// A text that compares by its octets, with A to Z as a to z.
-#[derive(Drop)]
-pub(crate) struct FoldedText<'a> {
-    octets: Octets<'a>,
+struct FoldedText<'a> {
+    octets: &'a [u8],
 }
 
 impl<'a> Model for FoldedText<'a> {
@@ -32,106 +27,7 @@ impl<'a> Model for FoldedText<'a> {
 
     ghost Value = { List ℕ };
 
-    ghost use Rattle.mail_orders.specs.reading.FoldedTexts.{octets_compared};
-
-    ghost view = { λ t. octets_compared t.octets };
-}
-
-impl<'a> FoldedText<'a> {
-    /// The text, to be compared a few times.
-    pub(crate) fn new(octets: &'a [u8]) -> FoldedText<'a>
-        ensures { result ≡ folded octets.now }
-    {
-        FoldedText {
-            octets: Octets::Plain(octets),
-        }
-    }
-
-    /// The text, to be compared many times: a copy in small letters, if there is memory for one.
-    pub(crate) fn copied(alloc: Global, octets: &'a [u8]) -> FoldedText<'a>
-        ensures { result ≡ folded octets.now }
-    {
-        match octets.to_ascii_lowercase(alloc) {
-            Ok(lowercase) => FoldedText {
-                octets: Octets::Lowercase(lowercase),
-            },
-            Err(_) => FoldedText::new(octets),
-        }
-    }
-}
-
-/// How the empty text compares with another.
-fn order_of_none(other: &[u8]) -> Ordering
-    ensures { result ≡ text_cmp [] other.now }
-{
-    match other {
-        [] => Ordering::Equal,
-        [_, ..] => Ordering::Less,
-    }
-}
-
-/// How the texts compare.
-fn compare(one: &[u8], other: &[u8]) -> Ordering
-    ensures { result ≡ text_cmp one.now other.now }
-{
-    let mut left = one;
-    let mut right = other;
-    loop {
-        match left {
-            [] => return order_of_none(right),
-            [first, left_rest @ ..] => match right {
-                [] => return Ordering::Greater,
-                [second, right_rest @ ..] => {
-                    let order = first.to_ascii_lowercase().cmp(&second.to_ascii_lowercase());
-                    if order != Ordering::Equal {
-                        return order;
-                    }
-                    left = left_rest;
-                    right = right_rest;
-                }
-            },
-        }
-    }
-}
-
-/// How a text in small letters compares with another.
-fn compare_lowercase(lowercase: &[u8], other: &[u8]) -> Ordering
-    ensures { result ≡ slice_cmp nat_cmp lowercase.now (folded other.now) }
-{
-    let mut left = lowercase;
-    let mut right = other;
-    loop {
-        match left {
-            [] => return order_of_none(right),
-            [first, left_rest @ ..] => match right {
-                [] => return Ordering::Greater,
-                [second, right_rest @ ..] => {
-                    let order = first.cmp(&second.to_ascii_lowercase());
-                    if order != Ordering::Equal {
-                        return order;
-                    }
-                    left = left_rest;
-                    right = right_rest;
-                }
-            },
-        }
-    }
-}
-
-/// How the octets compare.
-fn compare_octets(one: &Octets<'_>, other: &Octets<'_>) -> Ordering
-    ensures { result ≡ slice_cmp nat_cmp (octets_compared one.now) (octets_compared other.now) }
-{
-    match one {
-        Octets::Lowercase(one) => match other {
-            Octets::Lowercase(other) => one.as_slice().cmp(other.as_slice()),
-            Octets::Plain(other) => compare_lowercase(one.as_slice(), other),
-        },
-        Octets::Plain(one) => match other {
-            Octets::Lowercase(other) => compare_lowercase(other.as_slice(), one).reverse(),
-            Octets::Plain(other) => compare(one, other),
-        },
-    }
+    ghost view = { λ t. t.octets.now };
 }
 
 impl<'a> PartialEq for FoldedText<'a> {
@@ -140,7 +36,7 @@ impl<'a> PartialEq for FoldedText<'a> {
     ghost laws = { Prim.search (comparing, rules) };
 
     fn eq(&self, other: &FoldedText<'a>) -> bool {
-        compare_octets(&self.octets, &other.octets) == Ordering::Equal
+        self.octets.cmp(other.octets) == Ordering::Equal
     }
 }
 
@@ -168,6 +64,61 @@ impl<'a> Ord for FoldedText<'a> {
     ghost matches_eq = { Prim.search (comparing, rules) };
 
     fn cmp(&self, other: &FoldedText<'a>) -> Ordering {
-        compare_octets(&self.octets, &other.octets)
+        self.octets.cmp(other.octets)
     }
+}
+
+/// The texts that there are, one after another.
+fn joined_texts(alloc: Global, texts: &[Option<&[u8]>]) -> Result<Vec<u8>, AllocError>
+    ensures { IfOk result (λ v. v.items ≡ joined (map option_copied texts.now)) }
+{
+    let mut octets = Vec::new(alloc);
+    for text in texts {
+        match text {
+            Some(text) => octets.extend_from_slice(text)?,
+            None => {}
+        }
+    }
+    Ok(octets)
+}
+
+/// The texts in small letters, of which these are the octets one after another.
+fn cut_texts<'a>(
+    alloc: Global,
+    texts: &[Option<&[u8]>],
+    letters: &'a [u8],
+) -> Result<Vec<Option<FoldedText<'a>>>, AllocError>
+    requires { letters.now ≡ folded (joined (map option_copied texts.now)) }
+    ensures { IfOk result (λ v. v.items ≡ map (option_map folded) (map option_copied texts.now)) }
+{
+    let mut keys = Vec::with_capacity(alloc, texts.len())?;
+    let mut left = letters;
+    for text in texts {
+        match text {
+            Some(text) => {
+                let (octets, rest) = left.split_at(text.len());
+                keys.push(Some(FoldedText { octets }))?;
+                left = rest;
+            }
+            None => keys.push(None)?,
+        }
+    }
+    Ok(keys)
+}
+
+/// Values in the order of their texts, where A to Z count as a to z and what is missing comes first. All texts are copied into one
+/// piece of memory, since a comparison of texts that lie far from one another takes much longer.
+pub(crate) fn sorted_by_texts<V: Copy>(
+    alloc: Global,
+    texts: &[Option<&[u8]>],
+    values: &[V],
+    is_ascending: bool,
+) -> Result<Vec<V>, AllocError>
+    ensures { IfOk result (λ v. IsSortedByKeys is_ascending (option_cmp (slice_cmp nat_cmp))
+        (map (option_map folded) (map option_copied texts.now)) values.now v.items) }
+{
+    let mut letters = joined_texts(alloc, texts)?;
+    letters.make_ascii_lowercase();
+    let keys = cut_texts(alloc, texts, letters.as_slice())?;
+    sorted_by_keys(alloc, keys, values, is_ascending)
 }

@@ -2,8 +2,6 @@
 ghost use Rattle.std.specs.Prelude.{◌↔◌, ℕ, List, Contains, IsPermutation};
 ghost use Rattle.std.specs.Cmp.{IsTotalOrder};
 ghost use Rattle.mail_maps.specs.Serve.{Email, ServedMailbox};
-ghost use Rattle.mail_conditions.specs.Entries.{emails_at};
-ghost use Rattle.mail_conditions.specs.declared.entry.EmailEntry.{EmailEntry};
 ghost use Rattle.mail_orders.specs.Emails.{email_cmp};
 ghost use Rattle.mail_orders.specs.Entries.{mailboxes_at};
 ghost use Rattle.mail_orders.specs.Mailboxes.{mailbox_cmp};
@@ -21,12 +19,7 @@ pub fn mailbox_order_is_total()
     ensures { (comparators : List MailboxComparator) → IsTotalOrder (mailbox_cmp comparators) }
 {}
 
-/// Rows that were put in order are the Emails that they were.
-pub fn the_same_emails()
-    ensures { (old new : List EmailEntry) → IsPermutation old new → (e : ℕ × Email) → Contains (emails_at new) e ↔ Contains (emails_at old) e }
-{}
-
-/// The same of Mailboxes.
+/// Rows that were put in order are the Mailboxes that they were.
 pub fn the_same_mailboxes()
     ensures { (old new : List MailboxEntry) → IsPermutation old new
         → (e : ℕ × ServedMailbox) → Contains (mailboxes_at new) e ↔ Contains (mailboxes_at old) e }

@@ -18,6 +18,6 @@ mod mailboxes;
 pub mod laws;
 
 pub use comparators::{EmailComparator, EmailSort, MailboxComparator, MailboxSort};
-pub use emails::sort_emails;
+pub use emails::{numbers_in_order, threads_in_order};
 pub use entry::MailboxEntry;
 pub use mailboxes::sort_mailboxes;

@@ -71,3 +71,9 @@ kept_next {V} P f rows i kept new x taken within here same is keeps =
 -- nothing is kept of nothing
 pub keeps_none : {V X : Type 0} (P : ℕ × V → Type 0) (f : X → ℕ × V) (rows : List X) → rows ≡ [] → Keeps P [] (map f rows)
 keeps_none {X = X} P f rows none = subst (λ (xs : List X). Keeps P [] (map f xs)) (sym none) KeepsNone
+
+-- what is kept where another property holds of the same rows
+pub keeps_same : {V : Type 0} (P Q : ℕ × V → Type 0) (all kept : List (ℕ × V)) → ((e : ℕ × V) → P e ↔ Q e) → Keeps P all kept → Keeps Q all kept
+keeps_same P Q _ _ same KeepsNone = KeepsNone
+keeps_same P Q _ _ same (KeepsOne e all kept p k) = KeepsOne e all kept ((same e).0 p) (keeps_same P Q all kept same k)
+keeps_same P Q _ _ same (LeavesOne e all kept non k) = LeavesOne e all kept (λ q. non ((same e).1 q)) (keeps_same P Q all kept same k)

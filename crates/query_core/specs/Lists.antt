@@ -7,6 +7,7 @@ use Rattle.mail_conditions.specs.Records.{RecordMatches}
 use Rattle.mail_conditions.specs.ThreadKeywords.{ThreadMatches}
 use Rattle.mail_conditions.specs.declared.mailbox_condition.MailboxCondition.{MailboxCondition}
 use Rattle.mail_orders.specs.Emails.{email_cmp, sort_reads_thread}
+use Rattle.mail_orders.specs.Entries.{in_its_thread}
 use Rattle.mail_orders.specs.Mailboxes.{mailbox_cmp}
 use Rattle.mail_orders.specs.declared.comparators.EmailComparator.{EmailComparator}
 use Rattle.mail_orders.specs.declared.comparators.MailboxComparator.{MailboxComparator}
@@ -36,10 +37,6 @@ abbrev pub reads_thread : EmailCondition → Bool
 reads_thread (Record c) = false
 reads_thread (Header name word) = false
 reads_thread (Thread quantity keyword) = true
-
--- an Email in its Thread
-abbrev pub in_its_thread : ℕ × Email → GroupedRow
-in_its_thread e = record { number = e.0; group = e.1.immutable.thread }
 
 -- all rows, or of each Thread the first
 abbrev pub collapsed_if : Bool → List (ℕ × Email) → List ℕ

@@ -2,3 +2,4 @@
 pub mod Found
 pub mod Kept
 pub mod ListAnswers
+pub mod Ordered

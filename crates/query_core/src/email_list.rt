@@ -1,5 +1,5 @@
 // The list of a query of Emails.
-ghost use Rattle.std.specs.Prelude.{◌≡◌, ◌++◌, ◌∷◌, [], IfOk, OnOk, if◌then◌else◌, map};
+ghost use Rattle.std.specs.Prelude.{◌≡◌, ◌++◌, ◌∷◌, [], IfOk, IfSome, OnOk, if◌then◌else◌, map};
 ghost use Rattle.served_maps.specs.Past.{served};
 ghost use Rattle.mail_maps.specs.Serve.{email_of};
 ghost use Rattle.mail_conditions.specs.Entries.{emails_at};
@@ -7,18 +7,19 @@ ghost use Rattle.mail_state.specs.History.{MailHistory};
 ghost use Rattle.mail_state.specs.State.{IsStateOf};
 ghost use Rattle.query_arguments.specs.Asked.{list_seen};
 ghost use Rattle.query_arguments.specs.FilterTrees.{filter_tree};
-ghost use Rattle.query_lists.specs.Filters.{PassesFilter};
+ghost use Rattle.query_lists.specs.Filters.{PassesFilter, conditions};
 ghost use Rattle.query_lists.specs.Groups as groups;
-ghost use Rattle.query_lists.specs.Ordered as ordered;
 ghost use Rattle.query_lists.specs.Ordered.{AscendByNumber};
-ghost use Rattle.query_core.specs.Lists.{EmailMatches, IsEmailList, collapsed_if, in_its_thread};
+ghost use Rattle.query_core.specs.Lists.{EmailMatches, IsEmailList};
+ghost use Rattle.query_core.specs.reading.Found.{EachCondition, KnowsThreads};
 ghost use Rattle.query_core.specs.reading.Kept.{Keeps};
+ghost use Rattle.query_core.specs.reading.Ordered.{AreNumbersAsked};
 
 use crate::emails::TestedEmail;
-use crate::filter_walk::takes;
-use crate::keyword_threads::threads_for;
+use crate::filter_walk::{Tested, takes};
+use crate::keyword_threads::{FoundThreads, threads_for};
 use mail_conditions::EmailEntry;
-use mail_orders::{EmailComparator, sort_emails};
+use mail_orders::{EmailComparator, numbers_in_order, threads_in_order};
 use mail_state::{MailState, MailType};
 use query_arguments::{AskedList, EmailCondition, Filter};
 use query_lists::{GroupedRow, first_of_each};
@@ -54,6 +55,68 @@ fn keep_if<'a>(
     Ok(())
 }
 
+/// Those of which the condition holds, in their order. It is for a filter of one condition alone: the filter isn't walked for each
+/// row then, so that the processor reads several rows at a time.
+fn matching<'a>(
+    alloc: Global,
+    emails: &[EmailEntry<'a>],
+    found: &FoundThreads,
+    condition: &EmailCondition,
+) -> Result<Vec<EmailEntry<'a>>, AllocError>
+    ensures { KnowsThreads (emails_at emails.now) found.now condition.now
+        → IfOk result (λ v. Keeps (λ e. EmailMatches (emails_at emails.now) e.1 condition.now) (emails_at emails.now) (emails_at v.items)) }
+{
+    let mut rows = Vec::with_capacity(alloc, emails.len())?;
+    for email in emails {
+        let tested = TestedEmail {
+            alloc,
+            emails: &*emails,
+            found,
+            email: *email,
+        };
+        let holds = tested.holds(condition)?;
+        keep_if(&mut rows, *email, holds)?;
+    }
+    Ok(rows)
+}
+
+/// Those that the filter takes, in their order, by a walk over the filter for each.
+fn taken_by<'a>(
+    alloc: Global,
+    emails: &[EmailEntry<'a>],
+    found: &FoundThreads,
+    filter: &Filter<EmailCondition>,
+) -> Result<Vec<EmailEntry<'a>>, AllocError>
+    ensures { EachCondition (KnowsThreads (emails_at emails.now) found.now) (filter_tree filter.now)
+        → IfOk result (λ v. Keeps (λ e. PassesFilter (EmailMatches (emails_at emails.now) e.1) (filter_tree filter.now)) (emails_at emails.now) (emails_at v.items)) }
+{
+    let mut rows = Vec::new(alloc);
+    for email in emails {
+        let tested = TestedEmail {
+            alloc,
+            emails: &*emails,
+            found,
+            email: *email,
+        };
+        let taken = takes(&tested, filter)?;
+        keep_if(&mut rows, *email, taken)?;
+    }
+    Ok(rows)
+}
+
+/// The condition, where the filter is one alone.
+fn only_condition(filter: &Filter<EmailCondition>) -> Option<&EmailCondition>
+    ensures { IfSome result (λ c. filter_tree filter.now ≡ conditions (c.now ∷ [])) }
+{
+    match filter {
+        Filter::Conditions(conditions) => match conditions.as_slice() {
+            [only] => Some(only),
+            _ => None,
+        },
+        Filter::Joined(_, _) => None,
+    }
+}
+
 /// Those that the filter takes, in their order.
 fn taken<'a>(
     alloc: Global,
@@ -64,51 +127,17 @@ fn taken<'a>(
         (emails_at emails.now) (emails_at v.items)) }
 {
     let found = threads_for(alloc, emails, filter)?;
-    let mut rows = Vec::new(alloc);
-    for email in emails {
-        let tested = TestedEmail {
-            alloc,
-            emails: &*emails,
-            found: &found,
-            email: *email,
-        };
-        let taken = takes(&tested, filter)?;
-        keep_if(&mut rows, *email, taken)?;
+    match only_condition(filter) {
+        Some(condition) => matching(alloc, emails, &found, condition),
+        None => taken_by(alloc, emails, &found, filter),
     }
-    Ok(rows)
-}
-
-/// The numbers of rows, in their order.
-fn numbers_of(alloc: Global, rows: &[EmailEntry<'_>]) -> Result<Vec<u64>, AllocError>
-    ensures { IfOk result (λ v. v.items ≡ ordered.numbers_of (emails_at rows.now)) }
-{
-    let mut numbers = Vec::with_capacity(alloc, rows.len())?;
-    for row in rows {
-        numbers.push(row.number)?;
-    }
-    Ok(numbers)
-}
-
-/// Rows with their Threads.
-fn in_threads(alloc: Global, rows: &[EmailEntry<'_>]) -> Result<Vec<GroupedRow>, AllocError>
-    ensures { IfOk result (λ v. v.items ≡ map in_its_thread (emails_at rows.now)) }
-{
-    let mut grouped = Vec::with_capacity(alloc, rows.len())?;
-    for row in rows {
-        grouped.push(GroupedRow {
-            number: row.number,
-            group: row.row.thread,
-        })?;
-    }
-    Ok(grouped)
 }
 
 /// The numbers of the first of each Thread (RFC 8621 section 4.4.3).
-fn first_of_threads(alloc: Global, rows: &[EmailEntry<'_>]) -> Result<Vec<u64>, AllocError>
-    ensures { IfOk result (λ v. v.items ≡ map (λ r. r.number) (groups.first_of_each (map in_its_thread (emails_at rows.now)))) }
+fn first_of_threads(alloc: Global, rows: &[GroupedRow]) -> Result<Vec<u64>, AllocError>
+    ensures { IfOk result (λ v. v.items ≡ map (λ r. r.number) (groups.first_of_each rows.now)) }
 {
-    let grouped = in_threads(alloc, rows)?;
-    let first = first_of_each(alloc, &grouped)?;
+    let first = first_of_each(alloc, rows)?;
     let mut numbers = Vec::with_capacity(alloc, first.len())?;
     for row in &first {
         numbers.push(row.number)?;
@@ -116,18 +145,22 @@ fn first_of_threads(alloc: Global, rows: &[EmailEntry<'_>]) -> Result<Vec<u64>, 
     Ok(numbers)
 }
 
-/// The numbers of rows: of all, or of the first of each Thread.
+/// The numbers of rows in the order asked: of all, or of the first of each Thread.
 fn numbers_asked(
     alloc: Global,
-    rows: &[EmailEntry<'_>],
+    emails: &[EmailEntry<'_>],
+    rows: Vec<EmailEntry<'_>>,
+    comparators: &[EmailComparator],
     collapses: bool,
 ) -> Result<Vec<u64>, AllocError>
-    ensures { IfOk result (λ v. v.items ≡ collapsed_if collapses (emails_at rows.now)) }
+    ensures { AscendByNumber (emails_at rows.entry.items)
+        → IfOk result (λ v. AreNumbersAsked (emails_at emails.now) comparators.now collapses (emails_at rows.entry.items) v.items) }
 {
     if collapses {
-        first_of_threads(alloc, rows)
+        let grouped = threads_in_order(alloc, emails, rows, comparators)?;
+        first_of_threads(alloc, &grouped)
     } else {
-        numbers_of(alloc, rows)
+        numbers_in_order(alloc, emails, rows, comparators)
     }
 }
 
@@ -142,7 +175,6 @@ pub fn email_numbers(
     ensures histories { IfOk result (λ v. (h : MailHistory) → IsStateOf h state.now → IsEmailList h.emails.now (list_seen asked.now) v.items) }
 {
     let emails = email_entries(alloc, state)?;
-    let mut rows = taken(alloc, &emails, &asked.filter)?;
-    sort_emails(alloc, &emails, &mut rows, &asked.sort)?;
-    numbers_asked(alloc, &rows, asked.collapses)
+    let rows = taken(alloc, &emails, &asked.filter)?;
+    numbers_asked(alloc, &emails, rows, &asked.sort, asked.collapses)
 }

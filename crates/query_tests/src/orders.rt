@@ -3,7 +3,7 @@ use gate_world::Bytes;
 use mail_conditions::EmailEntry;
 use mail_maps::{EmailRow, MailboxRow};
 use mail_orders::{
-    EmailComparator, EmailSort, MailboxComparator, MailboxEntry, MailboxSort, sort_emails,
+    EmailComparator, EmailSort, MailboxComparator, MailboxEntry, MailboxSort, numbers_in_order,
     sort_mailboxes,
 };
 use std::alloc::{AllocError, Global};
@@ -71,9 +71,8 @@ pub(crate) fn put_emails(
         entries.push(EmailEntry { number, row })?;
         rows.push(EmailEntry { number, row })?;
     }
-    sort_emails(alloc, &entries, &mut rows, &comparators)?;
-    for email in &rows {
-        write!(out, " e{}", email.number)?;
+    for number in &numbers_in_order(alloc, &entries, rows, &comparators)? {
+        write!(out, " e{number}")?;
     }
     Ok(())
 }

@@ -1,26 +1,28 @@
-use Rattle.std.proofs.Common.{ℕ, List, take, subst, take_all}
+use Rattle.std.proofs.Common.{ℕ, List, [], ◌∷◌, sym, subst}
+use Rattle.std.proofs.lemmas.Result.{IfOk-weaker}
 use Rattle.mail_maps.specs.Serve.{Email}
-use Rattle.mail_conditions.specs.Entries.{email_at, emails_at}
-use Rattle.mail_conditions.specs.declared.entry.EmailEntry.{EmailEntry}
+use Rattle.mail_conditions.specs.Entries.{emails_at}
 use Rattle.query_arguments.specs.FilterTrees.{filter_tree}
-use Rattle.query_lists.specs.Filters.{PassesFilter}
+use Rattle.query_arguments.specs.declared.email_condition.EmailCondition.{EmailCondition}
+use Rattle.query_lists.specs.Filters.{FilterTree, PassesFilter, conditions}
 use Rattle.query_core.specs.Lists.{EmailMatches}
+use Rattle.query_core.specs.reading.Found.{EachCondition, KnowsThreads}
 use Rattle.query_core.specs.reading.Kept.{Keeps}
-use Rattle.query_core.proofs.KeptLemmas.{keeps_none, kept_next}
+use Rattle.query_core.proofs.KeptLemmas.{keeps_same}
 use Rattle.query_core.proofs.email_list.taken.Goals as goal
 
-pub loop-email-init : goal.loop-email-init
-loop-email-init c =
-    keeps_none (λ (e : ℕ × Email). PassesFilter (EmailMatches (emails_at c.args.emails.now) e.1) (filter_tree c.args.filter.now))
-    (λ (e : EmailEntry). let p : ℕ × Email = (e.number, email_at e) in p) c.new-rows.result.items c.new-rows.ensures.items
-
-pub loop-email-preserved : goal.loop-email-preserved
-loop-email-preserved c =
-    kept_next (λ (e : ℕ × Email). PassesFilter (EmailMatches (emails_at c.args.emails.now) e.1) (filter_tree c.args.filter.now))
-    (λ (e : EmailEntry). let p : ℕ × Email = (e.number, email_at e) in p) c.args.emails.now c.loop-email.email-index _ _ c.email-item.result _
-    c.loop-email-test.true c.email-item.is (c.in_ok-taken.ensures c.in_ok-found.ensures) c.in_ok-keep_if.ensures c.loop-email.invariant
+pub returns-in-Some : goal.returns-in-Some
+returns-in-Some c =
+    let all : List (ℕ × Email) = emails_at c.args.emails.now in
+    let condition : EmailCondition = c.in-Some.condition.now in
+    let knows : EachCondition (KnowsThreads all c.in_ok-found.found) (conditions (condition ∷ [])) =
+    subst (λ (f : FilterTree EmailCondition). EachCondition (KnowsThreads all c.in_ok-found.found) f) c.in-Some.ensures c.in_ok-found.ensures in
+    IfOk-weaker c.matching.result _ _
+    (λ v keeps.
+    subst (λ (f : FilterTree EmailCondition). Keeps (λ (e : ℕ × Email). PassesFilter (EmailMatches all e.1) f) all (emails_at v.items)) (sym c.in-Some.ensures)
+    (keeps_same (λ (e : ℕ × Email). EmailMatches all e.1 condition) (λ (e : ℕ × Email). PassesFilter (EmailMatches all e.1) (conditions (condition ∷ []))) all (emails_at v.items)
+    (λ e. (λ holds. (holds, tt), λ holds. holds.0)) keeps))
+    (c.matching.ensures knows.0)
 
 pub returns : goal.returns
-returns c =
-    subst (λ (es : List EmailEntry). Keeps (λ (e : ℕ × Email). PassesFilter (EmailMatches (emails_at c.args.emails.now) e.1) (filter_tree c.args.filter.now))
-    (emails_at es) (emails_at c.loop-email.rows.items)) (take_all c.loop-email.email-index c.args.emails.now c.loop-email-test.false) c.loop-email.invariant
+returns c = c.taken_by.ensures c.in_ok-found.ensures
