@@ -1,5 +1,4 @@
 mod AnswerLemmas
-mod EmailLemmas
 mod OneAnswer
 mod ReplyLemmas
 mod RowLemmas

@@ -29,7 +29,7 @@ use Rattle.query_lists.specs.Splices.{spliced}
 use Rattle.query_changes.specs.Changes.{were_there, now_in, FoundChanges, AnswersQueryChanges, ReadsMore, NamesNoState, TooMany, Answered, RefusedOr}
 use Rattle.query_changes.specs.Replies.{email_calculable, mailbox_calculable, RepliesEmailQueryChanges, RepliesMailboxQueryChanges}
 use Rattle.query_changes.specs.Splicing.{IsListNow, BringsListToNow, SplicesEmails, SplicesMailboxes}
-use Rattle.query_changes.proofs.EmailLemmas.{alone_parts, order_same, takes_same}
+use Rattle.query_core.proofs.EmailLemmas.{alone_parts, order_same, takes_same}
 use Rattle.query_changes.proofs.RowLemmas.{splices_to_now}
 
 -- ---- lists

@@ -1,9 +1,12 @@
 -- Filters of which some were tried: what is still to be tried decides.
-use Rattle.std.proofs.Common.{◌≡◌, ◌↔◌, ◌⊎◌, inl, inr, ⊎_elim, ℕ, ◌+◌, ◌<◌, ◌≤◌, List, [], ◌∷◌, length}
-use Rattle.std.proofs.Common.{get_or, drop, map, Bool, true, false, IsTrue, not, refl, sym, ap, subst, ◌∙◌, drop_of_length-le}
+use Rattle.std.proofs.Common.{◌≡◌, ◌↔◌, inl, inr, ⊎_elim, ℕ, ◌+◌, ◌<◌, ◌≤◌, List, [], ◌∷◌, length}
+use Rattle.std.proofs.Common.{get_or, drop, map, Bool, true, false, IsTrue, not, Option, None, Some, IfSome, refl, sym, ap, subst, ◌∙◌, drop_of_length-le}
 use Rattle.std.proofs.lemmas.List.{drop_more}
 use Rattle.std.specs.List.{AllByRecursion}
+use Rattle.mail_conditions.specs.declared.email_condition.RecordCondition.TheVariants.{InMailbox}
 use Rattle.query_arguments.specs.FilterTrees.{filter_tree, trees_of}
+use Rattle.query_arguments.specs.declared.email_condition.EmailCondition.{EmailCondition}
+use Rattle.query_arguments.specs.declared.email_condition.EmailCondition.TheVariants.{Record}
 use Rattle.query_arguments.specs.declared.filter.Filter.{Filter}
 use Rattle.query_lists.specs.Filters.{FilterTree, conditions, joined_by, FilterTrees, no_filters, filters, PassesEach, PassesFilter, PassesSome}
 use Rattle.query_core.specs.reading.Found.{EachCondition, EachConditionOf}
@@ -131,3 +134,10 @@ module _ {C : Type 0} where
     nothing_needed_of : (fs : FilterTrees C) → EachConditionOf (λ (c : C). Unit {0}) fs
     nothing_needed_of no_filters = tt
     nothing_needed_of (filters f fs) = (nothing_needed f, nothing_needed_of fs)
+
+-- ---- the Emails of one Mailbox
+
+pub mailbox_asked : (tree : FilterTree EmailCondition) (condition : EmailCondition) (mailbox : Option ℕ) → tree ≡ conditions (condition ∷ []) → condition ≡ Record (InMailbox mailbox)
+    → IfSome mailbox (λ m. tree ≡ conditions (Record (InMailbox (Some m)) ∷ []))
+mailbox_asked tree condition None is same = tt
+mailbox_asked tree condition (Some m) is same = is ∙ ap (λ (c : EmailCondition). conditions (c ∷ [])) same

@@ -1,9 +1,10 @@
 -- Rows that are kept of others.
-use Rattle.std.proofs.Common.{◌≡◌, ◌↔◌, ◌⊎◌, inl, inr, ℕ, ◌+◌, ◌<◌, List, [], ◌∷◌, ◌++◌, length, get_or, take, map, Contains, Bool, true, false, IsTrue, if◌then◌else◌}
-use Rattle.std.proofs.Common.{nat_cmp, Less, refl, sym, ap, subst, ◌∙◌}
+use Rattle.std.proofs.Common.{◌≡◌, ◌↔◌, inl, inr, ℕ, ◌+◌, ◌<◌, List, [], ◌∷◌, ◌++◌, length, get_or, take, map, Contains, Bool, true, false, IsTrue, if◌then◌else◌}
+use Rattle.std.proofs.Common.{nat_cmp, Less, refl, sym, ap, subst, ◌∙◌, append_assoc, append-nil}
 use Rattle.std.proofs.lemmas.List.{map_push, take_more}
 use Rattle.std.specs.List.{AllByRecursion}
 use Rattle.std.specs.List.Sorted.{IsStrictlySortedBy}
+use Rattle.served_maps.specs.Past.{served}
 use Rattle.query_lists.specs.Ordered.{numbers_of}
 use Rattle.query_lists.proofs.MemberLemmas.{IsMember, has_from, contains_from}
 use Rattle.query_core.specs.reading.Kept.{Keeps, KeepsNone, KeepsOne, LeavesOne}
@@ -77,3 +78,30 @@ pub keeps_same : {V : Type 0} (P Q : ℕ × V → Type 0) (all kept : List (ℕ 
 keeps_same P Q _ _ same KeepsNone = KeepsNone
 keeps_same P Q _ _ same (KeepsOne e all kept p k) = KeepsOne e all kept ((same e).0 p) (keeps_same P Q all kept same k)
 keeps_same P Q _ _ same (LeavesOne e all kept non k) = LeavesOne e all kept (λ q. non ((same e).1 q)) (keeps_same P Q all kept same k)
+
+-- ---- rows of a map that is walked
+
+module _ {R V : Type 0} (P : ℕ × V → Type 0) (serve : R → V) where
+  -- what is kept so far goes before whatever is kept of the rows that are left
+  abbrev pub KeepsOnward : List (ℕ × R) → List (ℕ × R) → List (ℕ × V) → Type 0
+  KeepsOnward all left kept = (rest : List (ℕ × V)) → Keeps P (served serve left) rest → Keeps P (served serve all) (kept ++ rest)
+
+  pub onward_begins : (left all : List (ℕ × R)) (kept : List (ℕ × V)) → left ≡ all → kept ≡ [] → KeepsOnward all left kept
+  onward_begins left all kept same none = λ rest k.
+      subst (λ (ks : List (ℕ × V)). Keeps P (served serve all) (ks ++ rest)) (sym none) (subst (λ (es : List (ℕ × R)). Keeps P (served serve es) rest) same k)
+
+  pub onward_kept : (e : ℕ × R) (left before all : List (ℕ × R)) (kept : List (ℕ × V)) → before ≡ e ∷ left → P (e.0, serve e.1)
+      → KeepsOnward all before kept → KeepsOnward all left (kept ++ (e.0, serve e.1) ∷ [])
+  onward_kept e left before all kept next p so_far = λ rest k.
+      subst (Keeps P (served serve all)) (sym (append_assoc kept ((e.0, serve e.1) ∷ []) rest))
+      (so_far ((e.0, serve e.1) ∷ rest)
+      (subst (λ (es : List (ℕ × R)). Keeps P (served serve es) ((e.0, serve e.1) ∷ rest)) (sym next) (KeepsOne (e.0, serve e.1) (served serve left) rest p k)))
+
+  pub onward_left : (e : ℕ × R) (left before all : List (ℕ × R)) (kept : List (ℕ × V)) → before ≡ e ∷ left → (¬ P (e.0, serve e.1))
+      → KeepsOnward all before kept → KeepsOnward all left kept
+  onward_left e left before all kept next non so_far = λ rest k.
+      so_far rest (subst (λ (es : List (ℕ × R)). Keeps P (served serve es) rest) (sym next) (LeavesOne (e.0, serve e.1) (served serve left) rest non k))
+
+  pub onward_ends : (left all : List (ℕ × R)) (kept : List (ℕ × V)) → left ≡ [] → KeepsOnward all left kept → Keeps P (served serve all) kept
+  onward_ends left all kept none so_far =
+      subst (Keeps P (served serve all)) (append-nil kept) (so_far [] (subst (λ (es : List (ℕ × R)). Keeps P (served serve es) []) (sym none) KeepsNone))

@@ -6,3 +6,4 @@ pub mod AnswerLemmas
 pub mod FoundLemmas
 pub mod OneAnswer
 pub mod HeaderLemmas
+pub mod EmailLemmas

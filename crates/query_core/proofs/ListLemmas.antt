@@ -1,5 +1,5 @@
 -- Rows that are kept and put in order are the list that is asked.
-use Rattle.std.proofs.Common.{◌≡◌, ◌↔◌, ◌⊎◌, inl, inr, ℕ, List, [], ◌∷◌, Bool, true, false, cond, Option, Some, None, Contains, nat_cmp, refl, sym, ap, subst, ◌∙◌, Ordering}
+use Rattle.std.proofs.Common.{◌≡◌, ◌↔◌, ◌⊎◌, inl, inr, ℕ, List, [], ◌∷◌, Bool, true, false, cond, Some, None, Contains, nat_cmp, refl, sym, subst, Ordering}
 use Rattle.std.specs.BTreeMap.{is_at}
 use Rattle.std.specs.List.Sorted.{IsStrictlySortedBy}
 use Rattle.change_list.specs.Advance.{row_at}

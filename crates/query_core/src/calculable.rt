@@ -69,7 +69,7 @@ fn property_reads_thread(property: &EmailSort) -> bool
     }
 }
 
-fn sort_reads_threads(comparators: &Vec<EmailComparator>) -> bool
+pub(crate) fn sort_reads_threads(comparators: &Vec<EmailComparator>) -> bool
     ensures { result ≡ list_any (λ c. sort_reads_thread c.property) comparators.now.items }
 {
     for comparator in comparators {

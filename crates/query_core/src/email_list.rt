@@ -1,12 +1,15 @@
 // The list of a query of Emails.
-ghost use Rattle.std.specs.Prelude.{◌≡◌, ◌++◌, ◌∷◌, [], IfOk, IfSome, OnOk, if◌then◌else◌, map};
+ghost use Rattle.std.specs.Prelude.{◌≡◌, ◌++◌, ◌∷◌, [], IfOk, IfSome, OnOk, Some, if◌then◌else◌, map};
 ghost use Rattle.served_maps.specs.Past.{served};
-ghost use Rattle.mail_maps.specs.Serve.{email_of};
+ghost use Rattle.mail_maps.specs.Serve.{Email, email_of};
 ghost use Rattle.mail_conditions.specs.Entries.{emails_at};
+ghost use Rattle.mail_conditions.specs.declared.email_condition.RecordCondition.TheVariants.{InMailbox};
 ghost use Rattle.mail_state.specs.History.{MailHistory};
 ghost use Rattle.mail_state.specs.State.{IsStateOf};
+ghost use Rattle.mail_orders.specs.Emails.{email_cmp};
 ghost use Rattle.query_arguments.specs.Asked.{list_seen};
 ghost use Rattle.query_arguments.specs.FilterTrees.{filter_tree};
+ghost use Rattle.query_arguments.specs.declared.email_condition.EmailCondition.TheVariants.{Record};
 ghost use Rattle.query_lists.specs.Filters.{PassesFilter, conditions};
 ghost use Rattle.query_lists.specs.Groups as groups;
 ghost use Rattle.query_lists.specs.Ordered.{AscendByNumber};
@@ -15,10 +18,11 @@ ghost use Rattle.query_core.specs.reading.Found.{EachCondition, KnowsThreads};
 ghost use Rattle.query_core.specs.reading.Kept.{Keeps};
 ghost use Rattle.query_core.specs.reading.Ordered.{AreNumbersAsked};
 
+use crate::calculable::sort_reads_threads;
 use crate::emails::TestedEmail;
 use crate::filter_walk::{Tested, takes};
 use crate::keyword_threads::{FoundThreads, threads_for};
-use mail_conditions::EmailEntry;
+use mail_conditions::{EmailEntry, RecordCondition};
 use mail_orders::{EmailComparator, numbers_in_order, threads_in_order};
 use mail_state::{MailState, MailType};
 use query_arguments::{AskedList, EmailCondition, Filter};
@@ -37,6 +41,28 @@ fn email_entries<'a>(alloc: Global, state: &'a MailState) -> Result<Vec<EmailEnt
             number: *number,
             row,
         })?;
+    }
+    Ok(entries)
+}
+
+/// The Emails in a Mailbox, by number. The loop does nothing else, so that the processor reads several rows at a time.
+fn in_mailbox<'a>(
+    alloc: Global,
+    state: &'a MailState,
+    mailbox: u64,
+) -> Result<Vec<EmailEntry<'a>>, AllocError>
+    ensures rows { IfOk result (λ v. Keeps (λ e. mailbox ≡ e.1.folder) (served email_of state.now.rows.numbered.rows) (emails_at v.items)) }
+    ensures ascending { IfOk result (λ v. AscendByNumber (served email_of state.now.rows.numbered.rows)) }
+{
+    let count = state.count(MailType::Email);
+    let mut entries = Vec::with_capacity(alloc, count)?;
+    for (number, row) in state.emails().iter() {
+        if mailbox == row.folder {
+            entries.push(EmailEntry {
+                number: *number,
+                row,
+            })?;
+        }
     }
     Ok(entries)
 }
@@ -117,6 +143,16 @@ fn only_condition(filter: &Filter<EmailCondition>) -> Option<&EmailCondition>
     }
 }
 
+/// The Mailbox, where the filter asks for the Emails of one and nothing else.
+fn only_mailbox(filter: &Filter<EmailCondition>) -> Option<u64>
+    ensures { IfSome result (λ m. filter_tree filter.now ≡ conditions (Record (InMailbox (Some m)) ∷ [])) }
+{
+    match only_condition(filter) {
+        Some(EmailCondition::Record(RecordCondition::InMailbox(mailbox))) => *mailbox,
+        _ => None,
+    }
+}
+
 /// Those that the filter takes, in their order.
 fn taken<'a>(
     alloc: Global,
@@ -130,6 +166,41 @@ fn taken<'a>(
     match only_condition(filter) {
         Some(condition) => matching(alloc, emails, &found, condition),
         None => taken_by(alloc, emails, &found, filter),
+    }
+}
+
+/// The Emails that the filter takes, by number.
+fn emails_taken<'a>(
+    alloc: Global,
+    state: &'a MailState,
+    filter: &Filter<EmailCondition>,
+) -> Result<Vec<EmailEntry<'a>>, AllocError>
+    ensures rows { IfOk result (λ v. Keeps (λ e. PassesFilter (EmailMatches (served email_of state.now.rows.numbered.rows) e.1) (filter_tree filter.now))
+        (served email_of state.now.rows.numbered.rows) (emails_at v.items)) }
+    ensures ascending { IfOk result (λ v. AscendByNumber (served email_of state.now.rows.numbered.rows)) }
+{
+    match only_mailbox(filter) {
+        Some(mailbox) => in_mailbox(alloc, state, mailbox),
+        None => {
+            let emails = email_entries(alloc, state)?;
+            taken(alloc, &emails, filter)
+        }
+    }
+}
+
+/// The Emails of whose Threads the comparators ask: all, or none where none does.
+fn emails_compared<'a>(
+    alloc: Global,
+    state: &'a MailState,
+    comparators: &Vec<EmailComparator>,
+) -> Result<Vec<EmailEntry<'a>>, AllocError>
+    ensures { IfOk result (λ v. (a b : Email) → email_cmp (emails_at v.items) comparators.now.items a b
+        ≡ email_cmp (served email_of state.now.rows.numbered.rows) comparators.now.items a b) }
+{
+    if sort_reads_threads(comparators) {
+        email_entries(alloc, state)
+    } else {
+        Ok(Vec::new(alloc))
     }
 }
 
@@ -174,7 +245,7 @@ pub fn email_numbers(
     ensures list { IfOk result (λ v. IsEmailList (served email_of state.now.rows.numbered.rows) (list_seen asked.now) v.items) }
     ensures histories { IfOk result (λ v. (h : MailHistory) → IsStateOf h state.now → IsEmailList h.emails.now (list_seen asked.now) v.items) }
 {
-    let emails = email_entries(alloc, state)?;
-    let rows = taken(alloc, &emails, &asked.filter)?;
+    let rows = emails_taken(alloc, state, &asked.filter)?;
+    let emails = emails_compared(alloc, state, &asked.sort)?;
     numbers_asked(alloc, &emails, rows, &asked.sort, asked.collapses)
 }

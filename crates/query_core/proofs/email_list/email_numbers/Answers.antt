@@ -1,15 +1,15 @@
-use Rattle.std.proofs.Common.{ℕ, List, subst}
+use Rattle.std.proofs.Common.{ℕ, List, refl, subst}
 use Rattle.std.proofs.lemmas.List.Sorted.{Contains-permutation, IsPermutation-sym}
 use Rattle.std.proofs.lemmas.Result.{IfOk-weaker}
 use Rattle.served_maps.specs.Past.{served}
 use Rattle.mail_maps.specs.Serve.{Email, email_of}
 use Rattle.mail_conditions.specs.Entries.{emails_at}
 use Rattle.mail_conditions.specs.declared.entry.EmailEntry.{EmailEntry}
+use Rattle.mail_orders.specs.Emails.{email_cmp}
 use Rattle.mail_orders.specs.declared.comparators.EmailComparator.{EmailComparator}
+use Rattle.mail_orders.proofs.RowLemmas.{same_order}
 use Rattle.query_arguments.specs.Asked.{list_seen}
-use Rattle.query_lists.specs.Filters.{PassesFilter}
-use Rattle.query_core.specs.Lists.{EmailMatches, IsEmailList}
-use Rattle.query_core.specs.reading.Kept.{Keeps}
+use Rattle.query_core.specs.Lists.{IsEmailList}
 use Rattle.query_core.specs.reading.Ordered.{AreNumbersAsked}
 use Rattle.query_core.proofs.KeptLemmas.{keeps_order}
 use Rattle.query_core.proofs.ListLemmas.{email_list_is}
@@ -18,21 +18,20 @@ use Rattle.query_core.proofs.email_list.email_numbers.Goals as goal
 pub returns-clause-list : goal.returns-clause-list
 returns-clause-list c =
     let asked = list_seen c.args.asked.now in
-    let all = emails_at c.in_ok-emails.emails.items in
+    let all = served email_of c.args.state.now.rows.numbered.rows in
+    let compared = emails_at c.in_ok-emails.emails.items in
     let kept = emails_at c.in_ok-rows.rows.items in
-    let keeps : Keeps (λ (e : ℕ × Email). PassesFilter (EmailMatches all e.1) asked.filter) all kept =
-    subst (λ (es : List EmailEntry). Keeps (λ (e : ℕ × Email). PassesFilter (EmailMatches (emails_at es) e.1) asked.filter) (emails_at es) kept)
-    c.deref.ensures.value c.in_ok-rows.ensures in
-    let up = keeps_order _ all kept keeps c.in_ok-emails.ensures.ascending in
+    let keeps = c.in_ok-rows.ensures.rows in
+    let ascends = c.in_ok-rows.ensures.ascending in
+    let up = keeps_order _ all kept keeps ascends in
     IfOk-weaker c.numbers_asked.result _ _
     (λ numbers made.
-    let ordered : AreNumbersAsked all asked.sort asked.collapses kept numbers.items =
-    subst (λ (cs : List EmailComparator). AreNumbersAsked all cs asked.collapses kept numbers.items) c.deref-3.ensures.value
-    (subst (λ (es : List EmailEntry). AreNumbersAsked (emails_at es) c.deref-3.result.now asked.collapses kept numbers.items) c.deref-2.ensures.value made) in
-    email_list_is all kept ordered.sorted (served email_of c.args.state.now.rows.numbered.rows) asked numbers.items
-    c.in_ok-emails.ensures.rows c.in_ok-emails.ensures.ascending keeps
+    let ordered : AreNumbersAsked compared asked.sort asked.collapses kept numbers.items =
+    subst (λ (cs : List EmailComparator). AreNumbersAsked compared cs asked.collapses kept numbers.items) c.deref-2.ensures.value
+    (subst (λ (es : List EmailEntry). AreNumbersAsked (emails_at es) c.deref-2.result.now asked.collapses kept numbers.items) c.deref.ensures.value made) in
+    email_list_is all kept ordered.sorted all asked numbers.items refl ascends keeps
     (λ e. (Contains-permutation ordered.sorted kept e (IsPermutation-sym kept ordered.sorted ordered.permutes), Contains-permutation kept ordered.sorted e ordered.permutes))
-    ordered.ascends ordered.are)
+    (same_order (email_cmp compared asked.sort) (email_cmp all asked.sort) ordered.sorted c.in_ok-emails.ensures ordered.ascends) ordered.are)
     (c.numbers_asked.ensures up)
 
 pub returns-clause-histories : goal.returns-clause-histories

@@ -1,4 +1,4 @@
-use Rattle.std.proofs.Common.{ℕ, List, take, subst, take_all}
+use Rattle.std.proofs.Common.{ℕ, List, subst, take_all}
 use Rattle.mail_maps.specs.Serve.{Email}
 use Rattle.mail_conditions.specs.Entries.{email_at, emails_at}
 use Rattle.mail_conditions.specs.declared.entry.EmailEntry.{EmailEntry}

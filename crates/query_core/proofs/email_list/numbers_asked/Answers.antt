@@ -1,8 +1,5 @@
-use Rattle.std.proofs.Common.{◌≡◌, ℕ, List, Bool, true, false, map, sym, ap, subst, ◌∙◌}
+use Rattle.std.proofs.Common.{List, Bool, map, sym, ap, ◌∙◌}
 use Rattle.std.proofs.lemmas.Result.{IfOk-weaker}
-use Rattle.mail_maps.specs.Serve.{Email}
-use Rattle.mail_conditions.specs.Entries.{emails_at}
-use Rattle.mail_orders.specs.Entries.{in_its_thread}
 use Rattle.query_lists.specs.Groups.{first_of_each}
 use Rattle.query_lists.specs.declared.groups.GroupedRow.{GroupedRow}
 use Rattle.query_core.specs.Lists.{collapsed_if}

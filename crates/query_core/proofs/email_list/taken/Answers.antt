@@ -2,7 +2,6 @@ use Rattle.std.proofs.Common.{ℕ, List, [], ◌∷◌, sym, subst}
 use Rattle.std.proofs.lemmas.Result.{IfOk-weaker}
 use Rattle.mail_maps.specs.Serve.{Email}
 use Rattle.mail_conditions.specs.Entries.{emails_at}
-use Rattle.query_arguments.specs.FilterTrees.{filter_tree}
 use Rattle.query_arguments.specs.declared.email_condition.EmailCondition.{EmailCondition}
 use Rattle.query_lists.specs.Filters.{FilterTree, PassesFilter, conditions}
 use Rattle.query_core.specs.Lists.{EmailMatches}

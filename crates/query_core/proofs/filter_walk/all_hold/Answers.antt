@@ -1,4 +1,4 @@
-use Rattle.std.proofs.Common.{◌↔◌, List, IsTrue, true, false, subst}
+use Rattle.std.proofs.Common.{◌↔◌, IsTrue, true, false, subst}
 use Rattle.std.specs.List.{AllByRecursion}
 use Rattle.query_core.proofs.FilterLemmas.{all_begins, all_ends, all_goes_on, all_stops}
 use Rattle.query_core.proofs.filter_walk.all_hold.Goals as goal

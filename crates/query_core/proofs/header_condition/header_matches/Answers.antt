@@ -1,4 +1,4 @@
-use Rattle.std.proofs.Common.{List, ℕ, Option, Some, None, IsTrue, ◌↔◌, refl, sym, subst}
+use Rattle.std.proofs.Common.{List, ℕ, Option, Some, IsTrue, ◌↔◌, refl, sym, subst}
 use Rattle.std.proofs.lemmas.Result.{IfOk-weaker}
 use Rattle.mail_header.specs.Fields.{names_and_raws}
 use Rattle.query_core.specs.Headers.{HeaderMatches}

@@ -1,4 +1,4 @@
-use Rattle.std.proofs.Common.{rules, ◌<◌, ◌≡◌, ℕ, List, [], true, Some, slice_get, slice_index_or, length, refl, sym, subst, arith}
+use Rattle.std.proofs.Common.{◌<◌, [], slice_index_or, length, refl, sym, arith}
 use Rattle.std.proofs.lemmas.Option.{slice_get-get_or, slice_get_read}
 use Rattle.std.proofs.lemmas.List.Elements.{Contains-get_or}
 use Rattle.mail_header.specs.Fields.{NameAndRaw, names_and_raws}

@@ -1,6 +1,5 @@
 use Rattle.std.proofs.Common.{List, ℕ, Vec, Global, sym, subst, ◌∙◌}
 use Rattle.std.specs.BTreeMap.{insert_entry}
-use Rattle.std.specs.List.{AllByRecursion}
 use Rattle.std.specs.Map.{lookup}
 use Rattle.mail_conditions.specs.Entries.{emails_at}
 use Rattle.mail_conditions.specs.ThreadKeywords.{AreThreadsOf}

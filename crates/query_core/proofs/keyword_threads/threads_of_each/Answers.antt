@@ -1,4 +1,4 @@
-use Rattle.std.proofs.Common.{◌≡◌, List, ℕ, Bor, map, take, take_all, subst, sym, ap, ◌∙◌}
+use Rattle.std.proofs.Common.{List, ℕ, Bor, map, take_all, subst}
 use Rattle.std.specs.List.{AllByRecursion}
 use Rattle.mail_conditions.specs.Entries.{emails_at}
 use Rattle.query_core.specs.reading.Found.{HasThreads}
