@@ -16,6 +16,6 @@ pub use email_condition::{Quantity, RecordCondition, TextField};
 pub use entry::EmailEntry;
 pub use mailbox_condition::MailboxCondition;
 pub use mailboxes::mailbox_matches;
-pub use records::record_matches;
+pub use records::{field_text, record_matches};
 pub use threads::{KeywordThreads, keyword_threads, thread_matches};
 pub use words::has_word;

@@ -21,8 +21,8 @@ fn text_or_empty(text: &Option<Bytes>) -> &[u8]
     }
 }
 
-/// The text of a field; it is empty where there is no such field.
-fn field_text(envelope: &Envelope, field: TextField) -> &[u8]
+/// The text of a field, as it is searched; it is empty where there is no such field.
+pub fn field_text(envelope: &Envelope, field: TextField) -> &[u8]
     ensures { result.now ≡ records.field_text field envelope.now }
 {
     match field {

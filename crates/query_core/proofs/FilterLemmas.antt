@@ -25,7 +25,7 @@ pub turned : {P : Type 0} (b : Bool) → IsTrue b ↔ P → IsTrue (not b) ↔ (
 turned true same = (λ t. absurd (let e : false ≡ true = t in cc), λ non. absurd (non (same.0 refl)))
 turned false same = (λ t p. let e : false ≡ true = same.1 p in cc, λ non. refl)
 
-splits : {A : Type 0} (xs : List A) (i : ℕ) (x : A) → i < length xs → x ≡ get_or xs i x → drop i xs ≡ x ∷ drop (i + 1) xs
+pub splits : {A : Type 0} (xs : List A) (i : ℕ) (x : A) → i < length xs → x ≡ get_or xs i x → drop i xs ≡ x ∷ drop (i + 1) xs
 splits xs i x within is = drop_more xs i x within ∙ ap (λ y. y ∷ drop (i + 1) xs) (sym is)
 
 -- ---- conditions

@@ -7,3 +7,6 @@ pub mod FoundLemmas
 pub mod OneAnswer
 pub mod HeaderLemmas
 pub mod EmailLemmas
+pub mod NarrowLemmas
+pub mod TextLemmas
+pub mod TreeLemmas

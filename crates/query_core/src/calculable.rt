@@ -69,6 +69,7 @@ fn property_reads_thread(property: &EmailSort) -> bool
     }
 }
 
+/// Whether a comparator asks of Threads.
 pub(crate) fn sort_reads_threads(comparators: &Vec<EmailComparator>) -> bool
     ensures { result ≡ list_any (λ c. sort_reads_thread c.property) comparators.now.items }
 {

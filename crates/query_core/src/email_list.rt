@@ -1,5 +1,5 @@
 // The list of a query of Emails.
-ghost use Rattle.std.specs.Prelude.{◌≡◌, ◌++◌, ◌∷◌, [], IfOk, IfSome, OnOk, Some, if◌then◌else◌, map};
+ghost use Rattle.std.specs.Prelude.{◌≡◌, ◌∷◌, [], IfOk, IfSome, Some, map};
 ghost use Rattle.served_maps.specs.Past.{served};
 ghost use Rattle.mail_maps.specs.Serve.{Email, email_of};
 ghost use Rattle.mail_conditions.specs.Entries.{emails_at};
@@ -14,14 +14,11 @@ ghost use Rattle.query_lists.specs.Filters.{PassesFilter, conditions};
 ghost use Rattle.query_lists.specs.Groups as groups;
 ghost use Rattle.query_lists.specs.Ordered.{AscendByNumber};
 ghost use Rattle.query_core.specs.Lists.{EmailMatches, IsEmailList};
-ghost use Rattle.query_core.specs.reading.Found.{EachCondition, KnowsThreads};
 ghost use Rattle.query_core.specs.reading.Kept.{Keeps};
 ghost use Rattle.query_core.specs.reading.Ordered.{AreNumbersAsked};
 
 use crate::calculable::sort_reads_threads;
-use crate::emails::TestedEmail;
-use crate::filter_walk::{Tested, takes};
-use crate::keyword_threads::{FoundThreads, threads_for};
+use crate::email_filter::taken;
 use mail_conditions::{EmailEntry, RecordCondition};
 use mail_orders::{EmailComparator, numbers_in_order, threads_in_order};
 use mail_state::{MailState, MailType};
@@ -67,69 +64,6 @@ fn in_mailbox<'a>(
     Ok(entries)
 }
 
-/// Adds an Email, where it is taken.
-fn keep_if<'a>(
-    rows: &mut Vec<EmailEntry<'a>>,
-    email: EmailEntry<'a>,
-    taken: bool,
-) -> Result<(), AllocError>
-    ensures { OnOk result (rows.new.items ≡ (if taken then rows.old.items ++ email.entry ∷ [] else rows.old.items)) }
-{
-    if taken {
-        rows.push(email)?;
-    }
-    Ok(())
-}
-
-/// Those of which the condition holds, in their order. It is for a filter of one condition alone: the filter isn't walked for each
-/// row then, so that the processor reads several rows at a time.
-fn matching<'a>(
-    alloc: Global,
-    emails: &[EmailEntry<'a>],
-    found: &FoundThreads,
-    condition: &EmailCondition,
-) -> Result<Vec<EmailEntry<'a>>, AllocError>
-    ensures { KnowsThreads (emails_at emails.now) found.now condition.now
-        → IfOk result (λ v. Keeps (λ e. EmailMatches (emails_at emails.now) e.1 condition.now) (emails_at emails.now) (emails_at v.items)) }
-{
-    let mut rows = Vec::with_capacity(alloc, emails.len())?;
-    for email in emails {
-        let tested = TestedEmail {
-            alloc,
-            emails: &*emails,
-            found,
-            email: *email,
-        };
-        let holds = tested.holds(condition)?;
-        keep_if(&mut rows, *email, holds)?;
-    }
-    Ok(rows)
-}
-
-/// Those that the filter takes, in their order, by a walk over the filter for each.
-fn taken_by<'a>(
-    alloc: Global,
-    emails: &[EmailEntry<'a>],
-    found: &FoundThreads,
-    filter: &Filter<EmailCondition>,
-) -> Result<Vec<EmailEntry<'a>>, AllocError>
-    ensures { EachCondition (KnowsThreads (emails_at emails.now) found.now) (filter_tree filter.now)
-        → IfOk result (λ v. Keeps (λ e. PassesFilter (EmailMatches (emails_at emails.now) e.1) (filter_tree filter.now)) (emails_at emails.now) (emails_at v.items)) }
-{
-    let mut rows = Vec::new(alloc);
-    for email in emails {
-        let tested = TestedEmail {
-            alloc,
-            emails: &*emails,
-            found,
-            email: *email,
-        };
-        let taken = takes(&tested, filter)?;
-        keep_if(&mut rows, *email, taken)?;
-    }
-    Ok(rows)
-}
-
 /// The condition, where the filter is one alone.
 fn only_condition(filter: &Filter<EmailCondition>) -> Option<&EmailCondition>
     ensures { IfSome result (λ c. filter_tree filter.now ≡ conditions (c.now ∷ [])) }
@@ -153,22 +87,6 @@ fn only_mailbox(filter: &Filter<EmailCondition>) -> Option<u64>
     }
 }
 
-/// Those that the filter takes, in their order.
-fn taken<'a>(
-    alloc: Global,
-    emails: &[EmailEntry<'a>],
-    filter: &Filter<EmailCondition>,
-) -> Result<Vec<EmailEntry<'a>>, AllocError>
-    ensures { IfOk result (λ v. Keeps (λ e. PassesFilter (EmailMatches (emails_at emails.now) e.1) (filter_tree filter.now))
-        (emails_at emails.now) (emails_at v.items)) }
-{
-    let found = threads_for(alloc, emails, filter)?;
-    match only_condition(filter) {
-        Some(condition) => matching(alloc, emails, &found, condition),
-        None => taken_by(alloc, emails, &found, filter),
-    }
-}
-
 /// The Emails that the filter takes, by number.
 fn emails_taken<'a>(
     alloc: Global,
@@ -188,7 +106,7 @@ fn emails_taken<'a>(
     }
 }
 
-/// The Emails of whose Threads the comparators ask: all, or none where none does.
+/// Emails of whose Threads the comparators ask: these order as they do with all Emails. All, where one asks of Threads.
 fn emails_compared<'a>(
     alloc: Global,
     state: &'a MailState,

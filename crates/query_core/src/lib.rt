@@ -8,6 +8,11 @@ mod filter_walk;
 mod header_condition;
 mod keyword_threads;
 
+// Rows that a filter takes.
+mod email_filter;
+mod kept;
+mod text_search;
+
 // Lists.
 mod calculable;
 mod email_list;

@@ -1,5 +1,5 @@
 // The list of a query of Mailboxes.
-ghost use Rattle.std.specs.Prelude.{◌≡◌, ◌++◌, ◌∷◌, [], IfOk, OnOk, if◌then◌else◌};
+ghost use Rattle.std.specs.Prelude.{◌≡◌, IfOk};
 ghost use Rattle.served_maps.specs.Past.{served};
 ghost use Rattle.mail_maps.specs.Serve.{mailbox_of};
 ghost use Rattle.mail_conditions.specs.Mailboxes.{MailboxMatches};
@@ -15,6 +15,7 @@ ghost use Rattle.query_core.specs.Lists.{IsMailboxList};
 ghost use Rattle.query_core.specs.reading.Kept.{Keeps};
 
 use crate::filter_walk::{Tested, takes};
+use crate::kept::keep_if;
 use mail_conditions::{MailboxCondition, mailbox_matches};
 use mail_orders::{MailboxComparator, MailboxEntry, sort_mailboxes};
 use mail_state::{MailState, MailType};
@@ -51,20 +52,6 @@ fn mailbox_entries<'a>(
         })?;
     }
     Ok(entries)
-}
-
-/// Adds a Mailbox, where it is taken.
-fn keep_if<'a>(
-    rows: &mut Vec<MailboxEntry<'a>>,
-    mailbox: MailboxEntry<'a>,
-    taken: bool,
-) -> Result<(), AllocError>
-    ensures { OnOk result (rows.new.items ≡ (if taken then rows.old.items ++ mailbox.entry ∷ [] else rows.old.items)) }
-{
-    if taken {
-        rows.push(mailbox)?;
-    }
-    Ok(())
 }
 
 /// Those that the filter takes, in their order.

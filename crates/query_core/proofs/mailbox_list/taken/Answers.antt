@@ -1,4 +1,4 @@
-use Rattle.std.proofs.Common.{ℕ, List, take, subst, take_all}
+use Rattle.std.proofs.Common.{ℕ, List, subst, take_all}
 use Rattle.mail_maps.specs.Serve.{ServedMailbox, mailbox_of}
 use Rattle.mail_conditions.specs.Mailboxes.{MailboxMatches}
 use Rattle.mail_orders.specs.Entries.{mailboxes_at}

@@ -7,20 +7,20 @@ use Rattle.query_lists.specs.Filters.{PassesFilter}
 use Rattle.query_core.specs.Lists.{EmailMatches}
 use Rattle.query_core.specs.reading.Kept.{Keeps}
 use Rattle.query_core.proofs.KeptLemmas.{keeps_none, kept_next}
-use Rattle.query_core.proofs.email_list.taken_by.Goals as goal
+use Rattle.query_core.proofs.email_filter.taken_by.Goals as goal
 
 pub loop-email-init : goal.loop-email-init
 loop-email-init c = λ knows.
     keeps_none (λ (e : ℕ × Email). PassesFilter (EmailMatches (emails_at c.args.emails.now) e.1) (filter_tree c.args.filter.now))
-    (λ (e : EmailEntry). let p : ℕ × Email = (e.number, email_at e) in p) c.new-rows.result.items c.new-rows.ensures.items
+    (λ (e : EmailEntry). let p : ℕ × Email = (e.number, email_at e) in p) c.new-kept.result.items c.new-kept.ensures.items
 
 pub loop-email-preserved : goal.loop-email-preserved
 loop-email-preserved c = λ knows.
     kept_next (λ (e : ℕ × Email). PassesFilter (EmailMatches (emails_at c.args.emails.now) e.1) (filter_tree c.args.filter.now))
-    (λ (e : EmailEntry). let p : ℕ × Email = (e.number, email_at e) in p) c.args.emails.now c.loop-email.email-index _ _ c.email-item.result _
+    (λ (e : EmailEntry). let p : ℕ × Email = (e.number, email_at e) in p) c.args.rows.now c.loop-email.email-index _ _ c.email-item.result _
     c.loop-email-test.true c.email-item.is (c.in_ok-taken.ensures knows) c.in_ok-keep_if.ensures (c.loop-email.invariant knows)
 
 pub returns : goal.returns
 returns c = λ knows.
     subst (λ (es : List EmailEntry). Keeps (λ (e : ℕ × Email). PassesFilter (EmailMatches (emails_at c.args.emails.now) e.1) (filter_tree c.args.filter.now))
-    (emails_at es) (emails_at c.loop-email.rows.items)) (take_all c.loop-email.email-index c.args.emails.now c.loop-email-test.false) (c.loop-email.invariant knows)
+    (emails_at es) (emails_at c.loop-email.kept.items)) (take_all c.loop-email.email-index c.args.rows.now c.loop-email-test.false) (c.loop-email.invariant knows)

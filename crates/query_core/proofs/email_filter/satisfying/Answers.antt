@@ -1,0 +1,24 @@
+use Rattle.std.proofs.Common.{ℕ, List, ap, sym, subst, ◌∙◌}
+use Rattle.std.proofs.lemmas.Result.{IfOk-weaker}
+use Rattle.mail_maps.specs.Serve.{Email}
+use Rattle.mail_conditions.specs.Entries.{emails_at}
+use Rattle.mail_conditions.specs.Records.{field_text}
+use Rattle.mail_conditions.specs.Words.{HasWord}
+use Rattle.mail_conditions.specs.declared.email_condition.RecordCondition.{RecordCondition}
+use Rattle.query_arguments.specs.declared.email_condition.EmailCondition.{EmailCondition}
+use Rattle.query_arguments.specs.declared.email_condition.EmailCondition.TheVariants.{Record}
+use Rattle.query_core.specs.Lists.{EmailMatches}
+use Rattle.query_core.specs.reading.Kept.{Keeps}
+use Rattle.query_core.proofs.email_filter.satisfying.Goals as goal
+
+pub returns-in-InField : goal.returns-in-InField
+returns-in-InField c = λ knows.
+    let found = c.in-InField in
+    let all = emails_at c.args.emails.now in
+    let rows = emails_at c.args.rows.now in
+    IfOk-weaker c.having_word.result _ _
+    (λ v keeps.
+    subst (λ (asked : EmailCondition). Keeps (λ (e : ℕ × Email). EmailMatches all e.1 asked) rows (emails_at v.items))
+    (sym (c.in-Record.is ∙ ap (λ (r : RecordCondition). Record r) found.is))
+    (subst (λ (word : List ℕ). Keeps (λ (e : ℕ × Email). HasWord word (field_text found.field e.1.immutable.envelope)) rows (emails_at v.items)) c.as_slice.ensures keeps))
+    c.having_word.ensures
