@@ -1,7 +1,8 @@
 -- Rows that are narrowed by one condition after another.
-use Rattle.std.proofs.Common.{◌≡◌, ◌↔◌, ℕ, ◌+◌, ◌<◌, ◌≤◌, List, [], ◌∷◌, length, get_or, drop, map, Bool, true, false, refl, sym, subst, drop_of_length-le}
+use Rattle.std.proofs.Common.{◌≡◌, ◌↔◌, ℕ, ◌+◌, ◌<◌, ◌≤◌, List, [], ◌∷◌, length, get_or, drop, map, Bool, IsTrue, true, false, arith, refl, sym, subst, drop_of_length-le}
 use Rattle.std.proofs.Math.Bool.{beq}
-use Rattle.std.specs.List.{AllByRecursion}
+use Rattle.std.specs.List.{AllByRecursion, items_where_true}
+use Rattle.std.specs.List.Retain.{IsFiltered, ReturnsInTurn}
 use Rattle.query_arguments.specs.FilterTrees.{filter_tree, trees_of}
 use Rattle.query_arguments.specs.declared.filter.Filter.{Filter}
 use Rattle.query_lists.specs.Filters.{PassesEach, PassesFilter}
@@ -117,3 +118,24 @@ other_if true true is = absurd (cc)
 other_if true false is = λ same. let no : true ≡ false = same in cc
 other_if false true is = λ same. let no : false ≡ true = same in cc
 other_if false false is = absurd (cc)
+
+-- ---- what `retain` leaves
+
+module _ {X F V : Type 0} (R : F → X → Bool → F → Type 0) (P : ℕ × V → Type 0) (shown : X → ℕ × V) (f : F)
+    (tests : (x : X) (b : Bool) (g : F) → R f x b g → (IsTrue b ↔ P (shown x)) × (g ≡ f)) where
+  keeps_where : (bs : List Bool) (xs : List X) (p q : F) → p ≡ f → length bs ≡ length xs → ReturnsInTurn R p bs xs q
+      → Keeps P (map shown xs) (map shown (items_where_true bs xs))
+  keeps_where [] [] p q at long r = KeepsNone
+  keeps_where [] (x ∷ xs) p q at long r = absurd (omega (arith, long))
+  keeps_where (b ∷ bs) [] p q at long r = absurd r
+  keeps_where (true ∷ bs) (x ∷ xs) p q at long r =
+      let step = tests x true r.0 (subst (λ (g : F). R g x true r.0) at r.1) in
+      KeepsOne (shown x) (map shown xs) (map shown (items_where_true bs xs)) (step.0.0 refl) (keeps_where bs xs r.0 q step.1 (omega (arith, long)) r.2)
+  keeps_where (false ∷ bs) (x ∷ xs) p q at long r =
+      let step = tests x false r.0 (subst (λ (g : F). R g x false r.0) at r.1) in
+      LeavesOne (shown x) (map shown xs) (map shown (items_where_true bs xs)) (λ h. let no : false ≡ true = step.0.1 h in cc)
+      (keeps_where bs xs r.0 q step.1 (omega (arith, long)) r.2)
+
+  pub keeps_retained : (xs ys : List X) → IsFiltered R f xs ys → Keeps P (map shown xs) (map shown ys)
+  keeps_retained xs ys r =
+      subst (λ (zs : List X). Keeps P (map shown xs) (map shown zs)) (sym r.4) (keeps_where r.0 xs f r.1 refl r.2 r.3)

@@ -2,6 +2,7 @@
 ghost use Rattle.std.specs.Prelude.{◌≡◌, IfOk, map};
 ghost use Rattle.std.specs.List.{AllByRecursion};
 ghost use Rattle.mail_conditions.specs.Entries.{emails_at};
+ghost use Rattle.mail_conditions.specs.Records.{RecordMatches};
 ghost use Rattle.query_arguments.specs.FilterTrees.{filter_tree, trees_of};
 ghost use Rattle.query_lists.specs.Filters.{PassesEach, PassesFilter};
 ghost use Rattle.query_core.specs.Lists.{EmailMatches};
@@ -14,7 +15,7 @@ use crate::filter_walk::{Tested, takes};
 use crate::kept::keep_if;
 use crate::keyword_threads::{FoundThreads, threads_for};
 use crate::text_search::having_word;
-use mail_conditions::{EmailEntry, RecordCondition};
+use mail_conditions::{EmailEntry, RecordCondition, record_matches};
 use query_arguments::{EmailCondition, Filter};
 use query_lists::FilterOperator;
 use std::alloc::{AllocError, Global};
@@ -44,23 +45,34 @@ fn matching<'a>(
     Ok(kept)
 }
 
-/// The same: where the condition is one of a field's text, all texts are copied before they are searched.
+/// Leaves those of which the condition holds. It takes no memory.
+fn retain_matching(rows: &mut Vec<EmailEntry<'_>>, condition: &RecordCondition)
+    ensures { Keeps (λ e. RecordMatches e.1 condition.now) (emails_at rows.old.items) (emails_at rows.new.items) }
+{
+    rows.retain(|email| record_matches(email.row, condition));
+}
+
+/// Those of which the condition holds, in their order: where it is one of a field's text, all texts are copied before they are
+/// searched; another one of the row itself takes no memory.
 fn satisfying<'a>(
     alloc: Global,
     emails: &[EmailEntry<'a>],
-    rows: &[EmailEntry<'a>],
+    rows: Vec<EmailEntry<'a>>,
     found: &FoundThreads,
     condition: &EmailCondition,
 ) -> Result<Vec<EmailEntry<'a>>, AllocError>
     ensures { KnowsThreads (emails_at emails.now) found.now condition.now
-        → IfOk result (λ v. Keeps (λ e. EmailMatches (emails_at emails.now) e.1 condition.now) (emails_at rows.now) (emails_at v.items)) }
+        → IfOk result (λ v. Keeps (λ e. EmailMatches (emails_at emails.now) e.1 condition.now) (emails_at rows.entry.items) (emails_at v.items)) }
 {
     if let EmailCondition::Record(record) = condition {
         if let RecordCondition::InField { field, word } = record {
-            return having_word(alloc, rows, *field, word.as_slice());
+            return having_word(alloc, &rows, *field, word.as_slice());
         }
+        let mut left = rows;
+        retain_matching(&mut left, record);
+        return Ok(left);
     }
-    matching(alloc, emails, rows, found, condition)
+    matching(alloc, emails, &rows, found, condition)
 }
 
 /// Whether the condition is one of a field's text.
@@ -105,7 +117,7 @@ fn narrowed_if<'a>(
         (emails_at rows.entry.items) (emails_at v.items)) }
 {
     if reads_text(condition) == of_texts {
-        satisfying(alloc, emails, &rows, found, condition)
+        satisfying(alloc, emails, rows, found, condition)
     } else {
         Ok(rows)
     }

@@ -1,11 +1,9 @@
-use Rattle.std.proofs.Common.{◌≡◌, ℕ, List, sym, subst, ◌∙◌}
+use Rattle.std.proofs.Common.{◌≡◌, ℕ, sym, ◌∙◌}
 use Rattle.std.proofs.lemmas.Result.{IfOk-weaker}
 use Rattle.mail_maps.specs.Serve.{Email}
 use Rattle.mail_conditions.specs.Entries.{emails_at}
-use Rattle.mail_conditions.specs.declared.entry.EmailEntry.{EmailEntry}
 use Rattle.query_core.specs.Lists.{EmailMatches}
 use Rattle.query_core.specs.reading.ConditionsRead.{reads_text}
-use Rattle.query_core.specs.reading.Kept.{Keeps}
 use Rattle.query_core.proofs.KeptLemmas.{keeps_same}
 use Rattle.query_core.proofs.NarrowLemmas.{keeps_all, other_if, same_if}
 use Rattle.query_core.proofs.email_filter.narrowed_if.Goals as goal
@@ -19,11 +17,11 @@ returns-then-reads_text-of_texts c = λ knows.
     (λ v keeps.
     keeps_same (λ (e : ℕ × Email). EmailMatches all e.1 condition) (λ (e : ℕ × Email). reads_text condition ≡ c.args.of_texts → EmailMatches all e.1 condition)
     (emails_at c.args.rows.items) (emails_at v.items) (λ e. ((λ holds so. holds), (λ holds. holds is)))
-    (subst (λ (es : List EmailEntry). Keeps (λ (e : ℕ × Email). EmailMatches all e.1 condition) (emails_at es) (emails_at v.items)) c.deref.ensures.value keeps))
+    keeps)
     (c.satisfying.ensures knows)
 
-pub returns : goal.returns
-returns c = λ knows.
+pub returns-else-reads_text-of_texts : goal.returns-else-reads_text-of_texts
+returns-else-reads_text-of_texts c = λ knows.
     let all = emails_at c.args.emails.now in
     let condition = c.args.condition.now in
     keeps_all (λ (e : ℕ × Email). reads_text condition ≡ c.args.of_texts → EmailMatches all e.1 condition) (emails_at c.args.rows.items)
