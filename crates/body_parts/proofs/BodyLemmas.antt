@@ -38,7 +38,7 @@ pub record AreNamed (leaves : List Part) (lists : BodyLists) (parts : PartLists)
 pub are_named : {b : List ℕ} (read : Reading b) → AreNamed read.leaves read.lists read.are_lists.parts
 are_named {b} read =
     let are = read.are_lists in
-    let next = read.is_message.0 in
+    let next = read.is_message.next in
     let numbered = message_from b read.root read.is_message read.leaves read.are_leaves in
     let inside = walk_inside start (read.root ∷ []) are.parts are.walks read.leaves read.are_leaves in
     record {

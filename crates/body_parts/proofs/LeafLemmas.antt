@@ -7,7 +7,6 @@ use Rattle.mime_tree.specs.declared.head.Head.{Head}
 use Rattle.mime_tree.specs.declared.part.Part.{Part}
 use Rattle.mime_tree.specs.declared.roles.Walk.{Walk}
 use Rattle.mime_tree.specs.declared.split.Piece.{Piece}
-use Rattle.mime_tree.specs.declared.tree.TheConstants.{MAX_DEPTH}
 use Rattle.mime_tree.specs.BodyLists as body
 use Rattle.mime_tree.specs.BodyLists.{PartLists, wanted_part, or_else, shared, spread, into, meeting, Walks, End, Multi, Leaf}
 use Rattle.mime_tree.specs.Heads.{default_in}
@@ -103,8 +102,8 @@ tree_from zero b s e d f p n t ls a = leaf_from t.0 f p n t.2 ls a
 tree_from (suc more) b s e d f p n t ls a = part_from more b (tree_from more b) t.0 t.2 f p n t.4 ls a
 
 -- the leaves of a message have the numbers from 1 on, in their order
-pub message_from : (b : List ℕ) (p : Part) (h : IsMessage b p) (ls : List Part) → AreLeaves (p ∷ []) ls → AreFrom 1 ls h.0
-message_from b p h ls a = tree_from MAX_DEPTH b 0 _ _ 1 p h.0 h.1 ls a
+pub message_from : (b : List ℕ) (p : Part) (h : IsMessage b p) (ls : List Part) → AreLeaves (p ∷ []) ls → AreFrom 1 ls h.next
+message_from b p h ls a = tree_from h.levels b 0 _ _ 1 p h.next h.tree ls a
 
 -- ---- places
 

@@ -318,11 +318,11 @@ are_alike {b} g h =
       root = like;
       leaves = all;
       lists = lists;
-      text = like_lists g.leaves h.leaves g.is_message.0 h.is_message.0 all from from' g.are_lists.parts.text h.are_lists.parts.text
+      text = like_lists g.leaves h.leaves g.is_message.next h.is_message.next all from from' g.are_lists.parts.text h.are_lists.parts.text
           (sym g.are_lists.text ∙ ap (λ (l : BodyLists). l.text) lists ∙ h.are_lists.text) inside.text inside'.text;
-      html = like_lists g.leaves h.leaves g.is_message.0 h.is_message.0 all from from' g.are_lists.parts.html h.are_lists.parts.html
+      html = like_lists g.leaves h.leaves g.is_message.next h.is_message.next all from from' g.are_lists.parts.html h.are_lists.parts.html
           (sym g.are_lists.html ∙ ap (λ (l : BodyLists). l.html) lists ∙ h.are_lists.html) inside.html inside'.html;
-      attachments = like_lists g.leaves h.leaves g.is_message.0 h.is_message.0 all from from' g.are_lists.parts.attachments h.are_lists.parts.attachments
+      attachments = like_lists g.leaves h.leaves g.is_message.next h.is_message.next all from from' g.are_lists.parts.attachments h.are_lists.parts.attachments
           (sym g.are_lists.attachments ∙ ap (λ (l : BodyLists). l.attachments) lists ∙ h.are_lists.attachments) inside.attachments inside'.attachments;
     }
 

@@ -1,2 +1,4 @@
-pub mod Released
-pub mod Taken
+pub mod Finished
+pub mod Handed
+pub mod Late
+pub mod Places

@@ -1,7 +1,7 @@
 -- When what a client owes is due, in milliseconds of the monotonic clock; a sum ends at 2^64 - 1.
 use Rattle.std.specs.Prelude.{◌+◌, ◌-◌, ◌/◌, ◌^◌, ℕ, min}
 use Rattle.client_front.specs.declared.pace.Pace.{Pace}
-use Rattle.client_front.specs.declared.pace.TheConstants.{MIN_OCTETS_PER_MILLISECOND, PATIENCE_MILLISECONDS}
+use Rattle.client_front.specs.declared.pace.TheConstants.{MIN_OCTETS_PER_MILLISECOND, PATIENCE_MILLISECONDS, STALL_MILLISECONDS}
 use Rattle.client_front.specs.declared.progress.Stage.{Stage}
 use Rattle.client_front.specs.declared.progress.Stage.TheVariants.{Blank, Body}
 use Rattle.client_front.specs.declared.progress.Progress.{Progress}
@@ -32,6 +32,10 @@ due progress = due_at progress.stage progress.pace
 -- a request whose client is handed on now
 abbrev pub begun : ℕ → Progress
 begun now = record { stage = Blank; pace = record { since = now; octets = 0 } }
+
+-- how long a client is waited for at most as it is given octets: as long as it may be in all, and no longer than `STALL_MILLISECONDS` at once
+abbrev pub send_limit : Taking → ℕ
+send_limit taking = min (patience taking.octets - taking.waited) STALL_MILLISECONDS
 
 -- a client that was sent nothing yet
 abbrev pub untaken : Taking

@@ -1,58 +1,88 @@
--- Which clients are handed on.
-use Rattle.std.specs.Prelude.{◌≡◌, ◌+◌, ◌<◌, ℕ, List, length, IsTrue, Option, None, Some}
-use Rattle.client_front.specs.Deadlines.{begun, due, patience, taken_more, untaken}
-use Rattle.client_front.specs.FirstOctet.{can_begin}
+-- The client that is served: octets that come from it, and that it takes, in time.
+use Rattle.std.specs.Prelude.{◌≡◌, ◌+◌, ◌<◌, ◌≤◌, ◌⊎◌, ℕ, List, length, Option, None, Some}
+use Rattle.client_front.specs.Deadlines.{due, patience, send_limit, taken_more}
 use Rattle.client_front.specs.HeadEnd.{noted}
 use Rattle.client_front.specs.declared.serving.Serving.{Serving}
-use Rattle.client_front.specs.declared.sockets.First.{First}
-use Rattle.client_front.specs.declared.sockets.First.TheVariants.{Octet}
 
--- the client has sent an octet that may begin a head
-abbrev pub Asks : {S : Type 0} → (S → First → Type 0) → S → Type 0
-Asks shows stream = (octet : ℕ) × shows stream (Octet octet) × IsTrue (can_begin octet)
-
--- The client has sent an octet that may begin a head, and its request begins now.
-pub record Handed {S : Type 0} (shows : S → First → Type 0) (reads : Option ℕ → Type 0) (serving : Serving S) : Type 0 where
-  pub asks : Asks shows serving.stream
+-- The request was not late at a look of the clock; its next octets were waited for from then on, no longer than until they were due;
+-- these came, and they are noted with the time of the next look.
+pub record ReceivesInTime {C S : Type 0} (receives : S → ℕ → Option (List ℕ) → S → Type 0) (reads : C → Option ℕ → C → Type 0) (octets : List ℕ)
+    (clock later_clock : C) (old new : Serving S) : Type 0 where
   pub now : ℕ
-  pub is_now : reads (Some now)
-  pub begins : serving.progress ≡ begun now
-  pub unsent : serving.taking ≡ untaken
+  pub between : C
+  pub is_now : reads clock (Some now) between
+  pub limit : ℕ
+  pub is_left : now + limit ≡ due old.progress
+  pub some_left : 0 < limit
+  pub received : receives old.stream limit (Some octets) new.stream
+  pub later : ℕ
+  pub is_later : reads between (Some later) later_clock
+  pub notes : new.progress ≡ noted octets later old.progress
+  pub still : new.taking ≡ old.taking
+
+-- the same wait, which gave this: no octets, where the client's stream failed or the time that was left ended
+abbrev pub WaitsInTime : {C S : Type 0} → (S → ℕ → Option (List ℕ) → S → Type 0) → (C → Option ℕ → C → Type 0) → Option (List ℕ) → C → C
+    → Serving S → Serving S → Type 0
+WaitsInTime receives reads octets clock later_clock old new =
+    (now : ℕ) × (limit : ℕ) × reads clock (Some now) later_clock × (now + limit ≡ due old.progress) × (0 < limit) × receives old.stream limit octets new.stream
+    × (new ≡ record old { stream = new.stream })
+
+-- Why no octets of the request are given: it was late at a look of the clock, or none came in the time that was left; or the clock
+-- failed, before the wait or after it. A client that was late, or before whose wait the clock failed, is not received from; how far its
+-- request has come is as it was.
+abbrev pub ReceivesNothing : {C S : Type 0} → (S → ℕ → Option (List ℕ) → S → Type 0) → (C → Option ℕ → C → Type 0) → C → C → Serving S → Serving S
+    → Type 0
+ReceivesNothing {C} receives reads clock later_clock old new =
+    (((now : ℕ) × reads clock (Some now) later_clock × (due old.progress ≤ now) × (new ≡ old))
+    ⊎ WaitsInTime receives reads None clock later_clock old new)
+    ⊎ ((reads clock None later_clock × (new ≡ old))
+    ⊎ ((between : C) × (octets : List ℕ) × WaitsInTime receives reads (Some octets) clock between old new × reads between None later_clock))
+
+-- The client was not late when it was given octets, and it was waited for no longer than it may be in all, and at once; these were taken, and they
+-- are noted with the time that it was waited for them, between two looks of the clock.
+pub record SendsInTime {C S : Type 0} (sends : S → ℕ → Option (List ℕ) → S → Type 0) (reads : C → Option ℕ → C → Type 0) (octets : List ℕ)
+    (clock later_clock : C) (old new : Serving S) : Type 0 where
+  pub limit : ℕ
+  pub is_left : limit ≡ send_limit old.taking
+  pub some_left : 0 < limit
+  pub since : ℕ
+  pub between : C
+  pub is_since : reads clock (Some since) between
+  pub taken : sends old.stream limit (Some octets) new.stream
+  pub now : ℕ
+  pub is_now : reads between (Some now) later_clock
+  pub notes : new.taking ≡ taken_more (length octets) since now old.taking
+  pub still : new.progress ≡ old.progress
+
+-- octets are given to the client, which is waited for no longer than it may be in all, and at once, and this is taken
+abbrev pub GivesInTime : {S : Type 0} → (S → ℕ → Option (List ℕ) → S → Type 0) → Option (List ℕ) → Serving S → Serving S → Type 0
+GivesInTime sends octets old new =
+    (limit : ℕ) × (limit ≡ send_limit old.taking) × (0 < limit) × sends old.stream limit octets new.stream
+    × (new ≡ record old { stream = new.stream })
+
+-- Why the client takes nothing: it is late, or it took none in the time that it was waited for; or the clock failed, before or after.
+-- One that is late, or before which the clock failed, is sent nothing; what it took so far is as it was.
+abbrev pub SendsNothing : {C S : Type 0} → (S → ℕ → Option (List ℕ) → S → Type 0) → (C → Option ℕ → C → Type 0) → C → C → Serving S → Serving S
+    → Type 0
+SendsNothing {C} sends reads clock later_clock old new =
+    (((patience old.taking.octets ≤ old.taking.waited) × (later_clock ≡ clock) × (new ≡ old))
+    ⊎ ((since : ℕ) × reads clock (Some since) later_clock × GivesInTime sends None old new))
+    ⊎ ((reads clock None later_clock × (new ≡ old))
+    ⊎ ((since : ℕ) × (between : C) × (octets : List ℕ) × reads clock (Some since) between × GivesInTime sends (Some octets) old new
+    × reads between None later_clock))
 
 -- a client is served, and has this
 abbrev pub IfServed : {S : Type 0} → (Serving S → Type 0) → Option (Serving S) → Type 0
 IfServed P None = ⊥
 IfServed P (Some serving) = P serving
 
--- The request was not late when its next octets were waited for, no longer than until they were due; these came, and they are
--- noted.
-pub record ReceivesInTime {S : Type 0} (receives : S → ℕ → Option (List ℕ) → Type 0) (reads : Option ℕ → Type 0) (octets : List ℕ)
-    (old new : Serving S) : Type 0 where
-  pub now : ℕ
-  pub is_now : reads (Some now)
-  pub limit : ℕ
-  pub is_left : now + limit ≡ due old.progress
-  pub some_left : 0 < limit
-  pub received : receives old.stream limit (Some octets)
-  pub later : ℕ
-  pub is_later : reads (Some later)
-  pub notes : new.progress ≡ noted octets later old.progress
-
--- The client was not late when it was given octets, and it was waited for no longer than it may be in all; these were taken, and they
--- are noted with the time that it was waited for them.
-pub record SendsInTime {S : Type 0} (sends : S → ℕ → Option (List ℕ) → Type 0) (reads : Option ℕ → Type 0) (octets : List ℕ)
-    (old new : Serving S) : Type 0 where
-  pub limit : ℕ
-  pub is_left : old.taking.waited + limit ≡ patience old.taking.octets
-  pub some_left : 0 < limit
-  pub since : ℕ
-  pub is_since : reads (Some since)
-  pub taken : sends old.stream limit (Some octets)
-  pub now : ℕ
-  pub is_now : reads (Some now)
-  pub notes : new.taking ≡ taken_more (length octets) since now old.taking
-
 -- there is one before and one after, and this relates the two
 abbrev pub BothSo : {A : Type 0} → (A → A → Type 0) → Option A → Option A → Type 0
 BothSo P (Some old) (Some new) = P old new
 BothSo P _ _ = ⊥
+
+-- there is none, or there is one before and one after, and this relates the two
+abbrev pub NoneOrBothSo : {A : Type 0} → (A → A → Type 0) → Option A → Option A → Type 0
+NoneOrBothSo P None new = new ≡ None
+NoneOrBothSo P (Some old) (Some new) = P old new
+NoneOrBothSo P (Some old) None = ⊥

@@ -1,3 +1,2 @@
--- Clients that wait, one by one, and those that linger: private clauses and proofs alone speak of it.
-pub mod Waiting
+-- Clients that linger, one by one: private clauses and proofs alone speak of it.
 pub mod Lingering

@@ -1,4 +1,4 @@
-//! Clients that come over TCP, one handed on at a time: those that have not sent anything yet are held and block nobody,
+//! Clients that come over TCP, one handed on at a time: those that have not sent a whole head yet are held and block nobody,
 //! and a request has a deadline.
 #![tactic(auto)]
 
@@ -12,7 +12,9 @@ mod toolchain;
 mod first_octet;
 mod octets;
 
-// Clients that wait.
+// Clients that wait until their head is whole.
+mod holding;
+mod scan;
 mod waiting;
 
 // The client that is served, and its deadlines; then it lingers.
@@ -23,15 +25,17 @@ mod serving;
 mod taking;
 
 // All of them.
+mod acceptor;
 mod front;
 
 pub use clock::Ticks;
 pub use front::ClientFront;
 pub use lingering::MAX_LINGERING_CLIENTS;
-pub use pace::{MIN_OCTETS_PER_MILLISECOND, PATIENCE_MILLISECONDS};
+pub use pace::{MIN_OCTETS_PER_MILLISECOND, PATIENCE_MILLISECONDS, STALL_MILLISECONDS};
 pub use progress::HEAD_MILLISECONDS;
+pub use scan::MAX_HEAD_OCTETS;
 pub use serving::{DRAIN_MILLISECONDS, MAX_DRAIN_OCTETS};
-pub use sockets::{ClientListener, ClientStream, First, Next};
+pub use sockets::{ClientListener, ClientStream, Next};
 pub use streams::{read_once, write_once};
 pub use toolchain::{TcpClient, TcpClients};
 pub use waiting::{IDLE_MILLISECONDS, MAX_HELD_CLIENTS};

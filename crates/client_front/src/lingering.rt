@@ -1,5 +1,5 @@
 // Clients whose response is whole and that still send: they are closed a short time after it.
-ghost use Rattle.std.specs.Prelude.{◌≡◌, ◌++◌, [], ◌∷◌, IfOk};
+ghost use Rattle.std.specs.Prelude.{◌≡◌, ◌++◌, [], ◌∷◌, OnOk, OnErr};
 ghost use Rattle.client_front.specs.reading.Lingering as spec;
 
 use std::alloc::{AllocError, Global};
@@ -60,21 +60,17 @@ impl<S: Drop> Lingering<S> {
         self.clients.len() >= MAX_LINGERING_CLIENTS
     }
 
-    /// Closes the client that was finished first, where as many are open as may be.
-    fn make_room(&mut self)
-        ensures { self.new.clients.items ≡ spec.with_room self.old.clients.items }
+    /// Leaves one more client open, and closes the one that was finished first where as many were open as may be. An Err changes
+    /// nothing.
+    pub(crate) fn add(&mut self, client: Finished<S>) -> Result<(), AllocError>
+        ensures ok { OnOk result (self.new.clients.items ≡ spec.with_room self.old.clients.items ++ client ∷ []) }
+        ensures err { OnErr result (self.new.clients.items ≡ self.old.clients.items) }
     {
-        if self.has_no_room() {
+        let is_full = self.has_no_room();
+        self.clients.push_back(client)?;
+        if is_full {
             let _ = self.clients.pop_front();
         }
-    }
-
-    /// Leaves one more client open.
-    pub(crate) fn add(&mut self, client: Finished<S>) -> Result<(), AllocError>
-        ensures { IfOk result (λ _. self.new.clients.items ≡ spec.with_room self.old.clients.items ++ client ∷ []) }
-    {
-        self.make_room();
-        self.clients.push_back(client)?;
         Ok(())
     }
 }

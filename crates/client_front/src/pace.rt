@@ -5,6 +5,9 @@ ghost use Rattle.client_front.specs.Deadlines as spec;
 /// How many milliseconds octets may take, beside those that their number gives.
 pub const PATIENCE_MILLISECONDS: u64 = 60_000;
 
+/// How many milliseconds a client is waited for at once as it is given octets; one that takes none of them in this time is late.
+pub const STALL_MILLISECONDS: u64 = 10_000;
+
 /// How many octets a millisecond adds at least: 10,000 a second.
 pub const MIN_OCTETS_PER_MILLISECOND: u64 = 10;
 

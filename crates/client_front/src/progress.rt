@@ -31,7 +31,7 @@ pub(crate) struct Progress {
     pub(crate) pace: Pace,
 }
 
-fn is_body(stage: Stage) -> bool
+pub(crate) fn is_body(stage: Stage) -> bool
     ensures { result ≡ head.is_body stage }
 {
     match stage {
@@ -40,7 +40,7 @@ fn is_body(stage: Stage) -> bool
     }
 }
 
-fn stage_after(stage: Stage, octet: u8) -> Stage
+pub(crate) fn stage_after(stage: Stage, octet: u8) -> Stage
     ensures { result ≡ head.stage_after stage octet }
 {
     match (stage, octet) {

@@ -1,8 +1,8 @@
 // The client that is served.
-ghost use Rattle.std.specs.Prelude.{◌≡◌, ◌<◌, ◌≤◌, length, take, IfSome};
+ghost use Rattle.std.specs.Prelude.{◌≡◌, ◌<◌, ◌≤◌, ◌+◌, length, take, IfSome, IfNone};
 ghost use Rattle.client_front.specs.Deadlines.{begun, untaken};
-ghost use Rattle.client_front.specs.Handing.{ReceivesInTime, SendsInTime};
-ghost use Rattle.client_front.specs.reading.Lingering.{IsDue};
+ghost use Rattle.client_front.specs.Finishing.{Drains, DropsNothing, DropsPiece, IsClosed, StaysOpen};
+ghost use Rattle.client_front.specs.Handing.{ReceivesInTime, ReceivesNothing, SendsInTime, SendsNothing};
 
 use crate::clock::Ticks;
 use crate::lingering::Finished;
@@ -41,9 +41,10 @@ impl<S: ClientStream> Serving<S> {
     }
 
     /// Octets of the request, while it is not late.
-    pub(crate) fn receive<C: Ticks>(&mut self, clock: &C, into: &mut [u8]) -> Option<usize>
+    pub(crate) fn receive<C: Ticks>(&mut self, clock: &mut C, into: &mut [u8]) -> Option<usize>
         ensures bound { IfSome result (λ n. n ≤ length into.new) }
-        ensures in_time { IfSome result (λ n. ReceivesInTime S.receives (C.reads clock.now) (take n into.new) self.old self.new) }
+        ensures in_time { IfSome result (λ n. ReceivesInTime S.receives C.reads (take n into.new) clock.old clock.new self.old self.new) }
+        ensures nothing { IfNone result (ReceivesNothing S.receives C.reads clock.old clock.new self.old self.new) }
     {
         let limit = left(self.progress.due(), clock.milliseconds()?)?;
         let count = self.stream.receive(into, limit)?;
@@ -53,9 +54,10 @@ impl<S: ClientStream> Serving<S> {
     }
 
     /// Gives the client octets, while it is not late in taking them.
-    pub(crate) fn send<C: Ticks>(&mut self, clock: &C, from: &[u8]) -> Option<usize>
+    pub(crate) fn send<C: Ticks>(&mut self, clock: &mut C, from: &[u8]) -> Option<usize>
         ensures bound { IfSome result (λ n. (0 < n) × (n ≤ length from.now)) }
-        ensures in_time { IfSome result (λ n. SendsInTime S.sends (C.reads clock.now) (take n from.now) self.old self.new) }
+        ensures in_time { IfSome result (λ n. SendsInTime S.sends C.reads (take n from.now) clock.old clock.new self.old self.new) }
+        ensures nothing { IfNone result (SendsNothing S.sends C.reads clock.old clock.new self.old self.new) }
     {
         let limit = self.taking.limit()?;
         let since = clock.milliseconds()?;
@@ -66,8 +68,9 @@ impl<S: ClientStream> Serving<S> {
 
     /// Ends the response, and drops what still comes. A client that sends more than is dropped is given back: closed at once,
     /// it might lose the response before it has read it.
-    pub(crate) fn finish<C: Ticks>(mut self, clock: &C) -> Option<Finished<S>>
-        ensures { IfSome result (IsDue (C.reads clock.now)) }
+    pub(crate) fn finish<C: Ticks>(mut self, clock: &mut C) -> Option<Finished<S>>
+        ensures open { IfSome result (StaysOpen S.receives C.reads clock.old clock.new) }
+        ensures closed { IfNone result (IsClosed S.receives C.reads clock.old clock.new) }
     {
         self.stream.end_writing();
         let now = clock.milliseconds()?;
@@ -83,13 +86,13 @@ impl<S: ClientStream> Serving<S> {
 }
 
 /// Reads and drops what comes until then: how many octets.
-fn drain<S: ClientStream, C: Ticks>(stream: &mut S, clock: &C, due: u64) -> usize
-    ensures { result ≤ MAX_DRAIN_OCTETS }
+fn drain<S: ClientStream, C: Ticks>(stream: &mut S, clock: &mut C, due: u64) -> usize
+    ensures { Drains S.receives C.reads due result (record { clock = clock.old; stream = stream.old }) (record { clock = clock.new; stream = stream.new }) }
 {
     let mut dropped = 0;
     while dropped < MAX_DRAIN_OCTETS {
         let Some(count) = drain_piece(stream, clock, due, MAX_DRAIN_OCTETS - dropped) else {
-            break;
+            return dropped;
         };
         dropped += count;
     }
@@ -99,11 +102,13 @@ fn drain<S: ClientStream, C: Ticks>(stream: &mut S, clock: &C, due: u64) -> usiz
 /// Reads and drops one piece of at most `most` octets: how many. None where nothing more comes, or not in time.
 fn drain_piece<S: ClientStream, C: Ticks>(
     stream: &mut S,
-    clock: &C,
+    clock: &mut C,
     due: u64,
     most: usize,
 ) -> Option<usize>
-    ensures { IfSome result (λ n. (0 < n) × (n ≤ most)) }
+    ensures bound { IfSome result (λ n. n ≤ most) }
+    ensures some { IfSome result (λ n. DropsPiece S.receives C.reads due n (record { clock = clock.old; stream = stream.old }) (record { clock = clock.new; stream = stream.new })) }
+    ensures none { IfNone result (DropsNothing S.receives C.reads due (record { clock = clock.old; stream = stream.old }) (record { clock = clock.new; stream = stream.new })) }
 {
     let limit = left(due, clock.milliseconds()?)?;
     let mut room = [0u8; DRAIN_PIECE_OCTETS];

@@ -2,7 +2,7 @@
 ghost use Rattle.std.specs.Prelude.{◌≡◌, ◌<◌, ◌≤◌, ◌+◌, ◌-◌, IfSome, IfNone};
 ghost use Rattle.client_front.specs.Deadlines as spec;
 
-use crate::pace::{left, patience};
+use crate::pace::{STALL_MILLISECONDS, left, patience};
 
 /// For how long a client was waited for as it was given octets, and how many it took. The time between two sends is the
 /// gateway's own, and doesn't count.
@@ -25,12 +25,13 @@ impl Taking {
         }
     }
 
-    /// For how many milliseconds more the client may be waited for; none where it is late.
+    /// For how many milliseconds the client may be waited for now; none where it is late.
     pub(crate) fn limit(&self) -> Option<u64>
-        ensures some { IfSome result (λ limit. (0 < limit) × (self.now.waited + limit ≡ spec.patience self.now.octets)) }
+        ensures some { IfSome result (λ limit. (0 < limit) × (limit ≡ spec.send_limit self.now)) }
         ensures none { IfNone result (spec.patience self.now.octets ≤ self.now.waited) }
     {
-        left(patience(self.octets), self.waited)
+        let left = left(patience(self.octets), self.waited)?;
+        Some(left.min(STALL_MILLISECONDS))
     }
 
     /// Octets more, for which the client was waited for between these moments.

@@ -2,7 +2,7 @@
 ghost use Rattle.std.specs.Prelude.{◌<◌, ◌≤◌, length, take, IfSome};
 ghost use Rattle.std.specs.Io.KnownBytes.{Appends, Consumes};
 
-use crate::sockets::{ClientListener, ClientStream, First, Next};
+use crate::sockets::{ClientListener, ClientStream, Next};
 use crate::streams::{read_once, write_once};
 use mio::unix::SourceFd;
 use mio::{Events, Interest, Poll, Token};
@@ -30,18 +30,19 @@ pub struct TcpClient {
 impl ClientStream for TcpClient {
     ghost use Rattle.std.specs.Prelude.{⊤};
 
-    ghost shows = { λ _ _. ⊤ };
+    ghost shows = { λ _ _ _. ⊤ };
 
-    ghost receives = { λ _ _ _. ⊤ };
+    ghost receives = { λ _ _ _ _. ⊤ };
 
-    ghost sends = { λ _ _ _. ⊤ };
+    ghost sends = { λ _ _ _ _. ⊤ };
 
-    fn first(&self) -> First {
-        let mut room = [0u8; 1];
-        match self.stream.peek(&mut room) {
-            Ok(1) => First::Octet(room[0]),
-            Err(error) if error.kind() == ErrorKind::WouldBlock => First::Nothing,
-            _ => First::Ended,
+    fn peek(&self, into: &mut [u8]) -> Option<usize> {
+        match self.stream.peek(into) {
+            Ok(0) => None,
+            Ok(count) => Some(count),
+            Err(error) if error.kind() == ErrorKind::WouldBlock => Some(0),
+            Err(error) if error.kind() == ErrorKind::Interrupted => Some(0),
+            Err(_) => None,
         }
     }
 
@@ -142,7 +143,13 @@ impl TcpClients {
 }
 
 impl ClientListener for TcpClients {
+    ghost use Rattle.std.specs.Prelude.{⊤};
+
     type Stream = TcpClient;
+
+    ghost comes = { λ _ _ _ _. ⊤ };
+
+    ghost waits = { λ _ _ _ _. ⊤ };
 
     fn next_client(&mut self, key: u64) -> Next<TcpClient> {
         for _ in 0..MAX_FAILED_CLIENTS {

@@ -24,6 +24,10 @@ pub enum FixedText {
     ListSubscribed,
     /// The same, the pattern as an atom.
     ListAtomSubscribed,
+    /// The same as `ListSubscribed`, with the special-use attributes (RFC 6154 section 2).
+    ListSpecialUse,
+    /// The same, the pattern as an atom.
+    ListAtomSpecialUse,
     /// RFC 9051 section 6.3.2.
     Select,
     /// RFC 9051 section 6.4.2.
@@ -137,6 +141,8 @@ pub fn fixed_text(keyword: FixedText) -> &'static [u8]
         FixedText::ListAtom => b"list \"\" *\r\n",
         FixedText::ListSubscribed => b"list \"\" \"*\" return (subscribed)\r\n",
         FixedText::ListAtomSubscribed => b"list \"\" * return (subscribed)\r\n",
+        FixedText::ListSpecialUse => b"list \"\" \"*\" return (subscribed special-use)\r\n",
+        FixedText::ListAtomSpecialUse => b"list \"\" * return (subscribed special-use)\r\n",
         FixedText::Select => b"select ",
         FixedText::Unselect => b"unselect\r\n",
         FixedText::Fetch => b"uid fetch ",
@@ -183,7 +189,7 @@ pub fn fixed_text(keyword: FixedText) -> &'static [u8]
     }
 }
 
-static COMMANDS: [FixedText; 19] = [
+static COMMANDS: [FixedText; 21] = [
     FixedText::Capability,
     FixedText::Login,
     FixedText::Enable,
@@ -191,6 +197,8 @@ static COMMANDS: [FixedText; 19] = [
     FixedText::ListAtom,
     FixedText::ListSubscribed,
     FixedText::ListAtomSubscribed,
+    FixedText::ListSpecialUse,
+    FixedText::ListAtomSpecialUse,
     FixedText::Select,
     FixedText::Unselect,
     FixedText::Fetch,

@@ -25,6 +25,11 @@ pub trait Clients: Drop {
 
     ghost sends: { Self → List ℕ → Self → Type 0 };
 
+    /// What a call of `recv` that fails comes to, and one of `send`.
+    ghost receives_nothing: { Self → Self → Type 0 };
+
+    ghost sends_nothing: { Self → Self → Type 0 };
+
     /// What a call of `finish` changes.
     ghost finishes: { Self → Self → Type 0 };
 
@@ -40,6 +45,7 @@ pub trait Clients: Drop {
         ensures bound { IfOk result (λ n. n ≤ length into.new) }
         ensures octets { ReadConsumes (gives self.old) (gives self.new) result into.new }
         ensures receives { IfOk result (λ n. receives self.old (take n into.new) self.new) }
+        ensures nothing { OnErr result (receives_nothing self.old self.new) }
         ensures takes { takes self.new ≡ takes self.old }
         ensures ok { OnOk result (client_faults self.new ≡ client_faults self.old) }
         ensures err { OnErr result (client_faults self.new ≡ one_more (client_faults self.old)) }
@@ -50,6 +56,7 @@ pub trait Clients: Drop {
         ensures bound { IfOk result (λ n. (0 < n) × (n ≤ length from.now)) }
         ensures octets { WriteAppends (takes self.old) (takes self.new) result from.now }
         ensures sends { IfOk result (λ n. sends self.old (take n from.now) self.new) }
+        ensures nothing { OnErr result (sends_nothing self.old self.new) }
         ensures gives { gives self.new ≡ gives self.old }
         ensures ok { OnOk result (client_faults self.new ≡ client_faults self.old) }
         ensures err { OnErr result (client_faults self.new ≡ one_more (client_faults self.old)) }

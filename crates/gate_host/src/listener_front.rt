@@ -46,17 +46,27 @@ impl<L: ClientListener + Drop, C: Ticks + Drop> Clients for ListenerFront<L, C> 
 
     ghost takes = { λ _. None };
 
-    ghost use Rattle.std.specs.Prelude.{⊤};
-    ghost use Rattle.client_front.specs.Handing.{BothSo, ReceivesInTime, SendsInTime};
+    ghost use Rattle.std.specs.Prelude.{◌≡◌, true, IsNone, MatchResult};
+    ghost use Rattle.client_front.specs.Accepting.{HandsOnFirst, HandsOnNobody, state, world};
+    ghost use Rattle.client_front.specs.Finishing.{Finishes};
+    ghost use Rattle.client_front.specs.Handing.{BothSo, IfServed, NoneOrBothSo, ReceivesInTime, ReceivesNothing, SendsInTime, SendsNothing};
 
-    ghost accepts = { λ _ _ _. ⊤ };
+    // The client is the first whose head was whole; where none is given there is no listener, or it or the clock failed.
+    ghost accepts = { λ old result new. MatchResult result
+        (λ came. (came ≡ true) × BothSo (λ before after. IfServed (HandsOnFirst (world L.Stream.shows C.reads L.waits L.comes) (state before.acceptor) (state after.acceptor)) after.current) old.clients new.clients)
+        (λ _. NoneOrBothSo (λ before after. HandsOnNobody (world L.Stream.shows C.reads L.waits L.comes) (state before.acceptor) (state after.acceptor) × IsNone after.current) old.clients new.clients) };
 
     // The octets are just those that came for the client that is served, or that it took, in time.
-    ghost receives = { λ old octets new. BothSo (λ before after. BothSo (ReceivesInTime L.Stream.receives (C.reads before.clock) octets) before.current after.current) old.clients new.clients };
+    ghost receives = { λ old octets new. BothSo (λ before after. BothSo (ReceivesInTime L.Stream.receives C.reads octets before.acceptor.clock after.acceptor.clock) before.current after.current) old.clients new.clients };
 
-    ghost sends = { λ old octets new. BothSo (λ before after. BothSo (SendsInTime L.Stream.sends (C.reads before.clock) octets) before.current after.current) old.clients new.clients };
+    ghost sends = { λ old octets new. BothSo (λ before after. BothSo (SendsInTime L.Stream.sends C.reads octets before.acceptor.clock after.acceptor.clock) before.current after.current) old.clients new.clients };
 
-    ghost finishes = { λ _ _. ⊤ };
+    ghost receives_nothing = { λ old new. NoneOrBothSo (λ before after. NoneOrBothSo (ReceivesNothing L.Stream.receives C.reads before.acceptor.clock after.acceptor.clock) before.current after.current) old.clients new.clients };
+
+    ghost sends_nothing = { λ old new. NoneOrBothSo (λ before after. NoneOrBothSo (SendsNothing L.Stream.sends C.reads before.acceptor.clock after.acceptor.clock) before.current after.current) old.clients new.clients };
+
+    // Who waits, the listener and the next key stay as they are, and nobody is served.
+    ghost finishes = { λ old new. NoneOrBothSo (λ before after. Finishes L.Stream.receives C.reads before.current (state before.acceptor) (state after.acceptor) × IsNone after.current) old.clients new.clients };
 
     fn accept(&mut self) -> Result<bool, Failed> {
         let accepted = match &mut self.clients {

@@ -152,6 +152,10 @@ impl<L: SessionListener + Drop> Clients for SessionFront<L> {
         Appends (known_of L.Stream.contents old.current) (known_of L.Stream.contents new.current) octets
         × IsSome new.current × (new ≡ record old { current = new.current }) };
 
+    ghost receives_nothing = { λ old new. new ≡ record old { current = new.current; faults = one_more old.faults } };
+
+    ghost sends_nothing = { λ old new. new ≡ record old { current = new.current; faults = one_more old.faults } };
+
     ghost finishes = { λ old new. ClosedBy L.closes old.listener old.current × (new ≡ record old { current = None }) };
 
     fn accept(&mut self) -> Result<bool, Failed> {

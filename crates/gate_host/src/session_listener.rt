@@ -39,12 +39,12 @@ pub trait SessionListener {
 
 /// A listener over TCP.
 #[derive(Drop)]
-pub struct TcpSessions<C: Ticks + Drop> {
+pub struct TcpSessions<C: Ticks + Copy + Drop> {
     listener: TcpListener,
     clock: C,
 }
 
-impl<C: Ticks + Drop> TcpSessions<C> {
+impl<C: Ticks + Copy + Drop> TcpSessions<C> {
     /// A listener at an address, `host:port`. None where none can be had.
     pub fn bind<N: Net<Listener = TcpListener, Stream = TcpStream>>(
         net: &N,
@@ -61,7 +61,7 @@ impl<C: Ticks + Drop> TcpSessions<C> {
     }
 }
 
-impl<C: Ticks + Drop> SessionListener for TcpSessions<C> {
+impl<C: Ticks + Copy + Drop> SessionListener for TcpSessions<C> {
     ghost use Rattle.std.specs.Prelude.{⊤};
 
     type Stream = TcpStream;
@@ -83,9 +83,10 @@ impl<C: Ticks + Drop> SessionListener for TcpSessions<C> {
 
     fn close(&self, mut stream: TcpStream) {
         let _ = stream.shutdown(Shutdown::Write);
-        if let Some(now) = self.clock.milliseconds() {
+        let mut clock = self.clock;
+        if let Some(now) = clock.milliseconds() {
             let due = now.saturating_add(DRAIN_MILLISECONDS);
-            let _ = drain(&mut stream, &self.clock, due);
+            let _ = drain(&mut stream, &mut clock, due);
         }
     }
 }
@@ -121,7 +122,7 @@ fn limited<S: OpenStream + Drop>(stream: S, read_seconds: u64, write_seconds: u6
 }
 
 /// Reads and drops what comes until then, in milliseconds of the clock: how many octets.
-fn drain<S: Read + OpenStream, C: Ticks>(stream: &mut S, clock: &C, due: u64) -> usize
+fn drain<S: Read + OpenStream, C: Ticks>(stream: &mut S, clock: &mut C, due: u64) -> usize
     ensures { result ≤ MAX_DRAIN_OCTETS }
 {
     let mut dropped = 0;
@@ -137,7 +138,7 @@ fn drain<S: Read + OpenStream, C: Ticks>(stream: &mut S, clock: &C, due: u64) ->
 /// Reads and drops one piece of at most `most` octets: how many. None where nothing more comes, or not in time.
 fn drain_piece<S: Read + OpenStream, C: Ticks>(
     stream: &mut S,
-    clock: &C,
+    clock: &mut C,
     due: u64,
     most: usize,
 ) -> Option<usize>

@@ -85,6 +85,7 @@ impl<I: Read + Drop, O: Write + Drop> StandardFront<I, O> {
 
 impl<I: Read + Drop, O: Write + Drop> Clients for StandardFront<I, O> {
     ghost use Rattle.std.specs.Prelude.{◌≡◌, Ok, true, not};
+    ghost use Rattle.gate_host.specs.Faults.{one_more};
     ghost use Rattle.std.specs.Io.KnownBytes.{Appends, Consumes};
 
     ghost client_faults = { λ f. f.faults };
@@ -99,6 +100,10 @@ impl<I: Read + Drop, O: Write + Drop> Clients for StandardFront<I, O> {
     ghost receives = { λ old octets new. Consumes (I.remaining old.input) (I.remaining new.input) octets };
 
     ghost sends = { λ old octets new. Appends (O.contents old.output) (O.contents new.output) octets };
+
+    ghost receives_nothing = { λ old new. new ≡ record old { input = new.input; faults = one_more old.faults } };
+
+    ghost sends_nothing = { λ old new. new ≡ record old { output = new.output; faults = one_more old.faults } };
 
     ghost finishes = { λ old new. new ≡ old };
 

@@ -5,6 +5,7 @@ mod Unequal
 mod Keeping
 pub mod Going
 pub mod Sources
+mod ServedFolders
 pub mod Asking
 mod KeptBodies
 mod Fetched

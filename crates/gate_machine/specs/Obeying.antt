@@ -10,7 +10,7 @@ use Rattle.imap_exchange.specs.Begins.{Begins as begins_with}
 use Rattle.imap_exchange.specs.declared.link_end.LinkEnd.{LinkEnd}
 use Rattle.imap_client.specs.Bodies.{body_from, body_start}
 use Rattle.imap_client.specs.Connecting.{greeting_says, connect_plan}
-use Rattle.imap_client.specs.LinkLife.{LinkLife, next_number, selected}
+use Rattle.imap_client.specs.LinkLife.{LinkLife, next_number, selected, special_use}
 use Rattle.imap_client.specs.Obeying.{Obeys}
 use Rattle.imap_client.specs.Plans.{Planned}
 use Rattle.imap_client.specs.Rounds.{round_plan}
@@ -40,7 +40,7 @@ ObeysIn plan life events = Obeys plan [] (next_number life) (selected life) (lif
 
 -- the store obeyed what the round asks
 abbrev pub IsRoundObeyed : {before : Progress} {events : List Event} {after : Progress} → RunsRound before events after → Type 0
-IsRoundObeyed {events = events} asks = ObeysIn (round_plan asks.known.told.mail) asks.life events
+IsRoundObeyed {events = events} asks = ObeysIn (round_plan (special_use asks.life) asks.known.told.mail) asks.life events
 
 -- The store obeyed, and a place was left for what it told.
 pub record IsObeyedBeginning {user password : List ℕ} {before : MachineState} {events : List Event} {after : Progress}

@@ -1,9 +1,14 @@
 // What a request is owed, what it leaves of the history, and what that comes of.
-ghost use Rattle.std.specs.Prelude.{◌≡◌, ◌⊎◌, ℕ, List, true};
+ghost use Rattle.std.specs.Prelude.{◌≡◌, ◌≢◌, ◌⊎◌, ℕ, List, [], Contains, Option, true};
 ghost use Rattle.gate_world.specs.Causes.{no_faults};
 ghost use Rattle.gate_world.specs.declared.event.Event.{Event};
 ghost use Rattle.gate_machine.specs.Beginning.{PreparesMail};
+ghost use Rattle.imap_client.specs.Bodies.{body_from, body_start};
+ghost use Rattle.imap_client.specs.declared.plan.Due.TheVariants as due;
+ghost use Rattle.imap_client.specs.declared.plan.Refusal.{Refusal};
+ghost use Rattle.mail_maps.specs.declared.row.EmailRow.{EmailRow};
 ghost use Rattle.mail_state.specs.History.{MailHistory};
+ghost use Rattle.gate_machine.specs.History.{KnownMail};
 ghost use Rattle.email_bodies.specs.Asking.{BodyAsk};
 ghost use Rattle.gate_machine.specs.Fetching.{AsksBodies, CallsAsk};
 ghost use Rattle.gate_machine.specs.KeptBodies.{CallsTell, KeepsBody};
@@ -11,11 +16,13 @@ ghost use Rattle.gate_machine.specs.Going.{HasGoneOn, MachineGoesOn};
 ghost use Rattle.gate_machine.specs.Machine.{MachineState, opened};
 ghost use Rattle.gate_machine.specs.Obeying.{AllCame, AreAsksObeyed, IsObeyedBeginning, IsServed};
 ghost use Rattle.gate_machine.specs.Progress.{Progress, is_up};
+ghost use Rattle.gate_machine.specs.ServedFolders.{HasFoldersTold, Serves, TellsServedFolders};
 ghost use Rattle.gate_machine.specs.Sources.{KnowsExchanges};
 ghost use Rattle.gate_machine.specs.Staying.{KeepsMaps, KeepsTouches};
 ghost use Rattle.gate_machine.specs.declared.standing.Standing.TheVariants.{OutOfMemory, Stands};
 
-use imap_client::{finished_lives_go_on, obeyed_plans_end_ok};
+use imap_client::{fetches_keep_folders, finished_lives_go_on, obeyed_plans_end_ok};
+use mail_state::laws::emails_have_their_messages;
 
 /// Where the store obeys, a place is left and no fault is blamed, the round stands and what it told is served; or memory
 /// ran out.
@@ -48,6 +55,26 @@ pub fn calls_keep_history()
     ensures { (before : Progress) (asks : List BodyAsk) (events : List Event) (after : Progress)
         → CallsAsk before asks events after → MachineGoesOn before.machine events after.machine }
 {}
+
+/// What the calls of a request ask leaves the machine serving the very history that it served before, unless memory ran out.
+pub fn calls_leave_the_history()
+    ensures { (before : Progress) (asks : List BodyAsk) (events : List Event) (after : Progress) (h : MailHistory)
+        → CallsAsk before asks events after → after.standing ≢ OutOfMemory → Serves before.machine h → Serves after.machine h }
+{}
+
+/// Once a round stands, the folder of each Email that is served is told, and stays so whatever the fetches of bodies tell. So the fetch of
+/// an Email's body never begins by failing.
+pub fn served_folders_are_told()
+    ensures round { (user password : List ℕ) (before : MachineState) (events : List Event) (after : Progress)
+        → PreparesMail user password before events after → KnowsExchanges before → after.standing ≡ Stands → TellsServedFolders after.machine }
+    ensures calls { (before : Progress) (asks : List BodyAsk) (events : List Event) (after : Progress)
+        → CallsAsk before asks events after → TellsServedFolders before.machine → TellsServedFolders after.machine }
+    ensures begin { (k : KnownMail) (e : ℕ × EmailRow) (selected : Option (List ℕ)) (why : Refusal) → HasFoldersTold k
+        → Contains k.history.numbered.rows e → body_from e.1.folder e.1.uid (body_start selected k.told.mail e.1.folder) [] ≢ due.Fails why }
+{
+    emails_have_their_messages();
+    fetches_keep_folders();
+}
 
 /// As a history goes on, its epoch and its touches stay, and so do its maps: a state that a client was sent names the same map ever after.
 pub fn touches_stay()

@@ -21,8 +21,9 @@ pub use beginning::begin;
 pub use fetching::Fetching;
 pub use known::{Known, Served};
 pub use laws::{
-    calls_keep_history, kept_bodies_were_told, machines_know_what_was_told, obeyed_bodies_come,
-    obeyed_rounds_stand, requests_keep_history, touches_stay,
+    calls_keep_history, calls_leave_the_history, kept_bodies_were_told,
+    machines_know_what_was_told, obeyed_bodies_come, obeyed_rounds_stand, requests_keep_history,
+    served_folders_are_told, touches_stay,
 };
 pub use machine::Machine;
 pub use standing::{CommitEnd, Fall, Standing};

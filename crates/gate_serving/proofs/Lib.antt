@@ -10,5 +10,6 @@ mod Going
 mod OneResponse
 mod Knowing
 mod Kept
+mod ServedAnswers
 pub mod Told
 mod Made

@@ -1,11 +1,13 @@
 // What the definitions rule out.
-ghost use Rattle.std.specs.Prelude.{◌≡◌, ◌⊎◌, ◌++◌, ℕ, List, [], false};
+ghost use Rattle.std.specs.Prelude.{◌≡◌, ◌⊎◌, ◌++◌, ℕ, List, [], Ok, false};
 ghost use Rattle.gate_world.specs.Causes.{Faults, no_faults};
 ghost use Rattle.gate_world.specs.declared.event.Event.{Event};
 ghost use Rattle.gate_machine.specs.Progress.{Bears, Progress};
 ghost use Rattle.gate_machine.specs.Machine.{MachineState};
 ghost use Rattle.gate_machine.specs.KeptBodies.{KeepsBody};
+ghost use Rattle.gate_machine.specs.ServedFolders.{Serves};
 ghost use Rattle.gate_machine.specs.Sources.{KnowsExchanges};
+ghost use Rattle.mail_state.specs.History.{MailHistory};
 ghost use Rattle.gate_machine.specs.declared.standing.Standing.TheVariants.{OutOfMemory};
 ghost use Rattle.email_bodies.specs.Asking.{BodyAsk};
 ghost use Rattle.gate_calls.specs.Mailings.{Mailing, MailAndUploads};
@@ -18,15 +20,15 @@ ghost use Rattle.gate_serving.specs.declared.door.Door.{Door};
 ghost use Rattle.gate_serving.specs.GateState.{GateState};
 ghost use Rattle.gate_serving.specs.Requests.{Account, Asking, asks_for_mail};
 ghost use Rattle.gate_serving.specs.Run.{Run, Stood, run_blamed};
-ghost use Rattle.gate_serving.specs.Segment.{Segment, blamed};
+ghost use Rattle.gate_serving.specs.Segment.{AnswersAsking, Segment, blamed};
 ghost use Rattle.gate_serving.specs.Work.{Work};
 ghost use Rattle.gate_serving.specs.declared.served.Served.{Served};
 
 use email_get::laws::one_blob_found;
 use gate_calls::one_list_of_responses;
 use gate_machine::{
-    calls_keep_history, kept_bodies_were_told, machines_know_what_was_told, obeyed_bodies_come,
-    obeyed_rounds_stand, requests_keep_history,
+    calls_keep_history, calls_leave_the_history, kept_bodies_were_told,
+    machines_know_what_was_told, obeyed_bodies_come, obeyed_rounds_stand, requests_keep_history,
 };
 
 /// Where no count rose, nothing is blamed.
@@ -83,6 +85,15 @@ pub fn histories_go_on()
 {
     requests_keep_history();
     calls_keep_history();
+}
+
+/// The mail over which a request is answered is the history that the machine serves after it. So what `histories_go_on` says of the
+/// histories of a run's machines it says of the mail over which clients are answered.
+pub fn answers_are_of_the_served_history()
+    ensures { (door : Door) (account : Account) (before : GateState) (events : List Event) (text : List ℕ) (after : GateState)
+        (a : AnswersAsking door account before events text after) (h : MailHistory) → a.mail ≡ Ok h → Serves after.machine h }
+{
+    calls_leave_the_history();
 }
 
 /// Over some mail and uploads what is asked has one response at a door, and asks for bodies in one way: as long as these come or don't as

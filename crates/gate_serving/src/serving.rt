@@ -20,7 +20,8 @@ pub fn serve<W: World>(alloc: Global, gate: &mut Gate, world: &mut W, most: u64)
     // A law over that run: of whom nothing is blamed and for whom the store obeyed takes the whole response that is due, whatever
     // comes of the others.
     ensures complete { Adds (W.tape world.old) (W.tape world.new) (CompletesRun gate.old.door (account_by gate.old (W.hidden world.old))) }
-    // Another: no client is answered over other mail at a place that an earlier one was told of, unless another epoch was drawn.
+    // Another: no client is answered over other mail at a place that an earlier one was told of, unless another epoch was drawn;
+    // `answers_are_of_the_served_history` says that a client is answered over the history of the machine after it.
     ensures histories { Adds (W.tape world.old) (W.tape world.new) (KeepsHistories gate.old.door (account_by gate.old (W.hidden world.old))) }
     ensures rest { RestStays gate.old gate.new }
     ensures statuses { (result ≡ 0) ⊎ (result ≡ 6) }

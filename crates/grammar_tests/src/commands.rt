@@ -77,6 +77,7 @@ fn short_of(word: &str, text: &str) -> Option<Command> {
     match word {
         "capability" => Some(Command::Capability),
         "enable" => Some(Command::Enable),
+        "list-special-use" => Some(Command::List { special_use: true }),
         "body" => Some(Command::FetchBody { uid }),
         "expunge" => Some(Command::Expunge { uid }),
         "plain-slice" | "plain-new" => Some(plain_fetch_of(word, text)),

@@ -10,7 +10,7 @@ use Rattle.header_tokens.specs.Tokens.{Spelled}
 use Rattle.header_tokens.specs.Lexemes.{is_lexeme_kind}
 use Rattle.header_tokens.specs.Kinds.{mark_in, mark_of, has_mark, is_gap, is_atom_kind, is_atom, is_word_kind, is_word}
 use Rattle.header_addresses.specs.Mailboxes.{is_literal_kind, has_no_opener, behind_first, is_literal}
-use Rattle.header_addresses.specs.Mailboxes.{is_phrase_part, begins_phrase, is_phrase, is_display_name, is_dotted, is_local_part, begins_literal, is_domain, is_no_at, spec_of}
+use Rattle.header_addresses.specs.Mailboxes.{is_phrase_part, begins_phrase, is_phrase, is_display_name, is_dotted, are_apart, is_wide_local_part, begins_literal, is_domain, is_no_at, spec_of}
 use Rattle.header_addresses.specs.Mailboxes.{is_addr_spec, begins_hop, is_hop, are_hops, is_route, is_no_colon, inner_of, is_inner_token}
 use Rattle.header_addresses.specs.AddressLists.{is_no_comma}
 use Rattle.header_addresses.specs.reading.ElementReading.{are_hops_behind}
@@ -132,6 +132,19 @@ dotted_each q word f z d due (s ∷ ts) e = elim (picked (is_gap s) _ _ _ e) [
   ]
 ]
 
+wide_each : (q : ℕ → Bool) → q 0 ≡ true → q 46 ≡ true → (behind : Bool) (ts : List Spelled) → are_apart behind ts ≡ true → Each (by_mark q) ts
+wide_each q z d behind [] e = tt
+wide_each q z d behind (s ∷ ts) e = elim (picked (is_gap s) _ _ _ e) [
+  | inl h ↦ (in_class q 0 s (gap_mark s h.0) z, wide_each q z d behind ts h.1)
+  | inr h ↦
+      let a = and_parts (has_mark 46 s || (is_word s && not behind)) (are_apart (not (has_mark 46 s)) ts) h.1 in
+      (by (or_parts (has_mark 46 s) (is_word s && not behind) a.0), wide_each q z d (not (has_mark 46 s)) ts a.1)
+]
+  where
+    by : (has_mark 46 s ≡ true) ⊎ ((is_word s && not behind) ≡ true) → by_mark q s ≡ true
+    by (inl i) = in_class q 46 s (mark_is 46 s i) d
+    by (inr i) = in_class q 0 s (word_mark s (and_parts (is_word s) (not behind) i).0) z
+
 literal_each : (q : ℕ → Bool) (ts : List Spelled) → q 0 ≡ true → begins_literal ts ≡ true → Each (by_mark q) ts
 literal_each q [] z e = tt
 literal_each q (l ∷ ts) z e =
@@ -183,11 +196,11 @@ spec_each q ts z d a e = joined q is_no_at ts (local (front is_no_at ts) (back i
   where
     local : (l r : List Spelled) → spec_of l r ≡ true → Each (by_mark q) l
     local l [] e = dotted_each q is_word word_mark z d true l e
-    local l (x ∷ r) e = dotted_each q is_word word_mark z d true l (and_parts (is_local_part l) (is_domain r) e).0
+    local l (x ∷ r) e = wide_each q z d false l (and_parts (list_any is_word l) (are_apart false l) (and_parts (is_wide_local_part l) (is_domain r) e).0).1
 
     domain : (l r : List Spelled) → Stops is_no_at r → spec_of l r ≡ true → Each (by_mark q) r
     domain l [] s e = tt
-    domain l (x ∷ r) s e = (in_class q 64 x (mark_is 64 x (flip (has_mark 64 x) s)) a, domain_each q r z d (and_parts (is_local_part l) (is_domain r) e).1)
+    domain l (x ∷ r) s e = (in_class q 64 x (mark_is 64 x (flip (has_mark 64 x) s)) a, domain_each q r z d (and_parts (is_wide_local_part l) (is_domain r) e).1)
 
 hop_each : (q : ℕ → Bool) (ts : List Spelled) → q 0 ≡ true → q 46 ≡ true → q 64 ≡ true → is_hop ts ≡ true → Each (by_mark q) ts
 hop_each q ts z d a e = joined q is_gap ts (gaps_each q (front is_gap ts) z (front_each is_gap ts)) (by (back is_gap ts) e)
@@ -225,13 +238,30 @@ dotted_gaps : (word : Spelled → Bool) (ts : List Spelled) → Each is_gap ts �
 dotted_gaps word [] e = refl
 dotted_gaps word (s ∷ ts) e = ap (λ (b : Bool). cond b (is_dotted word true ts) (word s && is_dotted word false ts)) e.0 ∙ dotted_gaps word ts e.1
 
+gap_no_word : (s : Spelled) → is_gap s ≡ true → is_word s ≡ false
+gap_no_word s e = by s.kind e
+  where
+    by : (k : Kind) → not (is_lexeme_kind k) ≡ true → is_word_kind k ≡ false
+    by kind.Mark e = refl
+    by kind.Atom e = absurd cc
+    by kind.Space e = refl
+    by kind.Quoted e = absurd cc
+    by kind.Literal e = refl
+    by kind.Comment e = refl
+
+gaps_no_word : (ts : List Spelled) → Each is_gap ts → list_any is_word ts ≡ false
+gaps_no_word [] e = refl
+gaps_no_word (s ∷ ts) e = ap (λ (b : Bool). b || list_any is_word ts) (gap_no_word s e.0) ∙ gaps_no_word ts e.1
+
 -- an addr-spec is more than white space and comments
 pub spec_some : (ts : List Spelled) → is_addr_spec ts ≡ true → list_all is_gap ts ≡ false
 spec_some ts e = by (list_all is_gap ts) refl
   where
     none : (l r : List Spelled) → Each is_gap l → spec_of l r ≡ true → ⊥
     none l [] g e = let d = dotted_gaps is_word l g in absurd cc
-    none l (x ∷ r) g e = let p = and_parts (is_local_part l) (is_domain r) e in let d = dotted_gaps is_word l g in let f = p.0 in absurd cc
+    none l (x ∷ r) g e =
+        let p = and_parts (list_any is_word l) (are_apart false l) (and_parts (is_wide_local_part l) (is_domain r) e).0 in
+        let d = gaps_no_word l g in let f = p.0 in absurd cc
 
     by : (b : Bool) → list_all is_gap ts ≡ b → b ≡ false
     by false h = refl

@@ -45,7 +45,7 @@ is_phrase ts = begins_phrase (back is_gap ts)
 abbrev pub is_display_name : List Spelled → Bool
 is_display_name ts = list_all is_gap ts || is_phrase ts
 
--- ---- addr-spec = local-part "@" domain. An address without "@" is taken too.
+-- ---- addr-spec = local-part "@" domain. An address without "@" is taken too, where its local part is that of RFC 5322.
 
 -- word *("." word) with gaps anywhere, where `due` says that a word is due
 abbrev pub is_dotted : (Spelled → Bool) → Bool → List Spelled → Bool
@@ -58,6 +58,19 @@ is_dotted word due (s ∷ ts) =
 -- local-part = word *("." word)
 abbrev pub is_local_part : List Spelled → Bool
 is_local_part ts = is_dotted is_word true ts
+
+-- words, dots and gaps, with a dot or more between two words, where `behind_word` says that a word stands before, with no
+-- dot after it
+abbrev pub are_apart : Bool → List Spelled → Bool
+are_apart behind_word [] = true
+are_apart behind_word (s ∷ ts) =
+    if is_gap s then are_apart behind_word ts
+    else (has_mark 46 s || (is_word s && not behind_word)) && are_apart (not (has_mark 46 s)) ts
+
+-- A local part before an "@": one or more words with one or more dots between two, and any dots before the first and after
+-- the last. What RFC 5322 allows has single dots between words alone; some providers gave others out.
+abbrev pub is_wide_local_part : List Spelled → Bool
+is_wide_local_part ts = list_any is_word ts && are_apart false ts
 
 abbrev pub begins_literal : List Spelled → Bool
 begins_literal [] = false
@@ -72,7 +85,7 @@ is_no_at s = not (has_mark 64 s)
 
 abbrev pub spec_of : List Spelled → List Spelled → Bool
 spec_of local [] = is_local_part local
-spec_of local (at ∷ domain) = is_local_part local && is_domain domain
+spec_of local (at ∷ domain) = is_wide_local_part local && is_domain domain
 
 -- of what stands before the first "@", and from it on
 abbrev pub is_addr_spec : List Spelled → Bool

@@ -4,6 +4,7 @@ use Rattle.std.specs.List.{flat_map, AllZip}
 use Rattle.text_words.specs.Cuts.{back}
 use Rattle.text_words.specs.Octets.{is_white}
 use Rattle.header_words.specs.EncodedWords.{IsText}
+use Rattle.header_words.specs.OneLine.{one_line}
 use Rattle.header_tokens.specs.declared.token.Kind.{Kind}
 use Rattle.header_tokens.specs.declared.token.Kind.TheVariants as kind
 use Rattle.header_addresses.specs.declared.address.Address.{Address}
@@ -13,9 +14,17 @@ use Rattle.mail_header.specs.RawForms.{raw_form}
 use Rattle.mail_header.specs.WhiteEnd.{without_white_end, some_text}
 use Rattle.header_tokens.specs.Tokens.{Spelled}
 use Rattle.header_tokens.specs.Kinds.{is_gap}
-use Rattle.header_tokens.specs.Words.{unquoted, word_text}
+use Rattle.header_tokens.specs.Words.{bracketed_text}
 use Rattle.header_addresses.specs.Mailboxes.{is_phrase, Mailbox}
 use Rattle.header_addresses.specs.AddressLists.{Addressee, Grouped, IsAddressList, groups_of}
+
+-- a quoted text or a comment in a name: what stands in it, without control characters
+abbrev pub shown_inside : List ℕ → List ℕ
+shown_inside t = one_line (bracketed_text t)
+
+abbrev pub shown_word : Kind → List ℕ → List ℕ
+shown_word kind.Quoted t = shown_inside t
+shown_word _ t = t
 
 -- ---- the text of a phrase: its words, unquoted, with a space for each gap between them, and without white space at its ends
 
@@ -25,7 +34,7 @@ space gap = if gap then 32 ∷ [] else []
 -- `gap` says that one stands directly before
 abbrev pub phrase_from : Bool → List Spelled → List ℕ
 phrase_from gap [] = []
-phrase_from gap (s ∷ ts) = if is_gap s then phrase_from true ts else space gap ++ (word_text s.kind s.text ++ phrase_from false ts)
+phrase_from gap (s ∷ ts) = if is_gap s then phrase_from true ts else space gap ++ (shown_word s.kind s.text ++ phrase_from false ts)
 
 abbrev pub phrase_text : List Spelled → List ℕ
 phrase_text ts = without_white_end (back is_white (phrase_from false (back is_gap ts)))
@@ -33,7 +42,7 @@ phrase_text ts = without_white_end (back is_white (phrase_from false (back is_ga
 -- ---- the text of a comment: without its parentheses, and without white space at its ends
 
 abbrev pub comment_text : List ℕ → List ℕ
-comment_text t = without_white_end (back is_white (unquoted t))
+comment_text t = without_white_end (back is_white (shown_inside t))
 
 abbrev pub first_of : Option (List ℕ) → List ℕ → Option (List ℕ)
 first_of None t = Some t

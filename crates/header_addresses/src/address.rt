@@ -5,7 +5,7 @@ use gate_world::{Bytes, Listed};
 #[derive(PartialEq, Debug, Drop)]
 pub struct Address {
     /// The text of the phrase; without a phrase, that of a comment after the address, where it isn't empty. Encoded
-    /// words are decoded (RFC 2047).
+    /// words are decoded (RFC 2047). It has no control characters.
     pub name: Option<Bytes>,
     /// Without white space, comments and line ends. It may lack the `@`.
     pub email: Bytes,

@@ -1,5 +1,5 @@
 // Mailboxes and their parts (RFC 5322 section 3.4).
-ghost use Rattle.std.specs.Prelude.{◌≡◌, true, []};
+ghost use Rattle.std.specs.Prelude.{◌≡◌, false, true, []};
 ghost use Rattle.std.specs.List.{list_any};
 ghost use Rattle.header_tokens.specs.Kinds as kinds;
 ghost use Rattle.header_addresses.specs.Mailboxes as mailboxes;
@@ -63,6 +63,47 @@ fn comes_in_turn<C: TokenClass>(class: &C, due: bool, token: &Token<'_>) -> bool
     }
 }
 
+fn has_word(tokens: &[Token<'_>]) -> bool
+    ensures { result ≡ list_any kinds.is_word (tokens_view tokens.now) }
+{
+    for token in tokens {
+        if is_word(token) {
+            return true;
+        }
+    }
+    false
+}
+
+/// Words, dots and gaps, with a dot or more between two words.
+fn are_apart(tokens: &[Token<'_>]) -> bool
+    ensures { result ≡ mailboxes.are_apart false (tokens_view tokens.now) }
+{
+    let mut behind_word = false;
+    for token in tokens {
+        if !is_gap(token) {
+            if !stands_apart(behind_word, token) {
+                return false;
+            }
+            behind_word = !has_mark(b'.', token);
+        }
+    }
+    true
+}
+
+/// A dot, or a word that no word stands directly before.
+fn stands_apart(behind_word: bool, token: &Token<'_>) -> bool
+    ensures { result ≡ reading.stands_apart behind_word (token_view token.now) }
+{
+    has_mark(b'.', token) || (is_word(token) && !behind_word)
+}
+
+/// A local part before an `@`, where dots may stand side by side and at the ends.
+fn is_wide_local_part(tokens: &[Token<'_>]) -> bool
+    ensures { result ≡ mailboxes.is_wide_local_part (tokens_view tokens.now) }
+{
+    has_word(tokens) && are_apart(tokens)
+}
+
 /// A domain literal, with gaps after it.
 fn begins_literal(tokens: &[Token<'_>]) -> bool
     ensures { result ≡ mailboxes.begins_literal (tokens_view tokens.now) }
@@ -81,14 +122,14 @@ fn is_domain(tokens: &[Token<'_>]) -> bool
     is_dotted(&Atom, tokens) || begins_literal(lexemes)
 }
 
-/// local-part ["@" domain]
+/// local-part ["@" domain], where a local part before an `@` may have more dots than RFC 5322 allows.
 pub(crate) fn is_addr_spec(tokens: &[Token<'_>]) -> bool
     ensures { result ≡ mailboxes.is_addr_spec (tokens_view tokens.now) }
 {
     let (local, rest) = cut_tokens(&NoAt, tokens);
     match rest {
         [] => is_dotted(&Word, local),
-        [_at, domain @ ..] => is_dotted(&Word, local) && is_domain(domain),
+        [_at, domain @ ..] => is_wide_local_part(local) && is_domain(domain),
     }
 }
 

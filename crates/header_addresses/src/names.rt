@@ -3,7 +3,6 @@ ghost use Rattle.std.specs.Prelude.{◌≡◌, ◌++◌, None, Some, false, IfOk
 ghost use Rattle.std.specs.Option.{option_map};
 ghost use Rattle.text_words.specs.Cuts.{back};
 ghost use Rattle.header_tokens.specs.Kinds.{is_gap as is_gap_token};
-ghost use Rattle.header_tokens.specs.Words as words;
 ghost use Rattle.mail_header.specs.WhiteEnd as white_end;
 ghost use Rattle.header_addresses.specs.Names as names;
 ghost use Rattle.header_addresses.specs.reading.ElementView.{mailbox_view};
@@ -15,20 +14,28 @@ use crate::elements::Mailbox;
 use crate::mailboxes::is_phrase;
 use crate::token_class::{Gap, cut_tokens};
 use gate_world::Bytes;
-use header_tokens::{Kind, Token, is_gap, unquoted};
-use header_words::decode_words;
+use header_tokens::{Kind, Token, bracketed_text, is_gap};
+use header_words::{as_one_line, decode_words};
 use mail_header::raw_forms::unfold;
 use mail_header::white_end::without_white_end;
 use std::alloc::{AllocError, Global};
 use text_words::{White, cut};
 
+/// What stands in a quoted text or a comment, without control characters.
+fn shown_inside(alloc: Global, text: &[u8]) -> Result<Vec<u8>, AllocError>
+    ensures { IfOk result (λ v. v.items ≡ names.shown_inside text.now) }
+{
+    let inside = bracketed_text(alloc, text)?;
+    as_one_line(alloc, inside.as_slice())
+}
+
 /// Adds a word, unquoted.
 fn push_word(alloc: Global, text: &mut Vec<u8>, word: &Token<'_>) -> Result<(), AllocError>
-    ensures { OnOk result (text.new.items ≡ text.old.items ++ words.word_text word.now.kind word.now.text.now) }
+    ensures { OnOk result (text.new.items ≡ text.old.items ++ names.shown_word word.now.kind word.now.text.now) }
 {
     match word.kind {
         Kind::Quoted => {
-            let plain = unquoted(alloc, word.text)?;
+            let plain = shown_inside(alloc, word.text)?;
             text.extend_from_slice(plain.as_slice())
         }
         Kind::Atom | Kind::Space | Kind::Literal | Kind::Comment | Kind::Mark => {
@@ -103,7 +110,7 @@ fn comment_after<'a>(found: Option<&'a [u8]>, token: &Token<'a>) -> Option<&'a [
 fn comment_text(alloc: Global, comment: &[u8]) -> Result<Vec<u8>, AllocError>
     ensures { IfOk result (λ v. IsText false (names.comment_text comment.now) v.items) }
 {
-    let text = unquoted(alloc, comment)?;
+    let text = shown_inside(alloc, comment)?;
     let (_, text) = cut(&White, text.as_slice());
     decode_words(alloc, without_white_end(text))
 }

@@ -43,7 +43,8 @@ pub all_read : (a : Alphabet) (vs : List Spelled) (rest t : List ℕ) → AreLea
 all_read a [] rest t h e = h.0 ∙ e
 all_read a (v ∷ vs) rest t h e = record { unit = h.unit; rest = h.rest; whole = h.whole; is = h.is; more = all_read a vs rest h.rest h.more e }
 
-one_token : (a : Alphabet) → IsDetermined (IsToken a)
+-- a text begins with one token at most
+pub one_token : (a : Alphabet) → IsDetermined (IsToken a)
 one_token a = determined (spelled_in a) (token_reader a)
 
 no_unit : (x s : List ℕ) → x ++ s ≡ [] → x ≡ []

@@ -1,5 +1,5 @@
 -- The lexemes at the front of a text, read one after another.
-use Rattle.std.proofs.Common.{◌≡◌, ◌≢◌, ℕ, zero, suc, ◌<◌, ◌≤◌, Bool, true, false, MatchBool, eqb, eqb-true, eq-eqb, List, [], ◌∷◌, length, drop, refl, sym, ap, ◌∙◌, subst, Option}
+use Rattle.std.proofs.Common.{◌≡◌, ◌≢◌, ℕ, zero, suc, ◌<◌, ◌≤◌, Bool, true, false, MatchBool, eqb, eqb-true, eq-eqb, List, [], ◌∷◌, ◌++◌, length, drop, refl, sym, ap, ◌∙◌, subst, Option}
 use Rattle.std.proofs.Common.{Some, None}
 use Rattle.std.proofs.Common.{arith}
 use Rattle.std.specs.List.{filter}
@@ -8,12 +8,12 @@ use Rattle.std.proofs.lemmas.Bool.{cond-true, cond-false}
 use Rattle.std.proofs.lemmas.List.{length-drop, drop_at, nil_from_length}
 use Rattle.text_words.proofs.SequenceLemmas.{Within, unit_within}
 use Rattle.header_tokens.specs.declared.token.Alphabet.{Alphabet}
-use Rattle.header_tokens.specs.Tokens.{Spelled, AreTokens, AreLeading}
+use Rattle.header_tokens.specs.Tokens.{Spelled, IsToken, AreTokens, AreLeading}
 use Rattle.header_tokens.specs.reading.TokenReading.{spelled_in, IsFirstToken}
-use Rattle.header_tokens.specs.Lexemes.{is_lexeme, AreLexemes, AreLeadingLexemes, IsNextLexeme}
+use Rattle.header_tokens.specs.Lexemes.{is_lexeme, AreLexemes, AreLeadingLexemes, IsNextLexeme, BeginsAfter, BeginsWithLexeme}
 use Rattle.header_tokens.specs.reading.LexemeReading.{tokens_then, tokens_within, rest_then, rest_within, tokens_in, rest_in, lexemes_in, ReadsLexeme}
 use Rattle.header_tokens.proofs.OneToken.{token_reader}
-use Rattle.header_tokens.proofs.LeadingLemmas.{none_begins, all_read, not_all, one_leading_lexemes}
+use Rattle.header_tokens.proofs.LeadingLemmas.{none_begins, all_read, not_all, one_leading_lexemes, one_token}
 
 -- a token that was read is some of the text
 pub read_within : (a : Alphabet) (v : Spelled) (n : ℕ) (t : List ℕ) → spelled_in a t ≡ Some (v, n) → Within n (length t)
@@ -212,3 +212,63 @@ none_in a t h = one_leading_lexemes a (lexemes_in a t) [] t (lexemes_are a t) h
 pub match_map : {X P P' : Type 0} {Q Q' : X → Type 0} (o : Option X) → (P → P') → ((x : X) → Q x → Q' x) → MatchOption o P Q → MatchOption o P' Q'
 match_map None f g h = f h
 match_map (Some x) f g h = g x h
+
+-- ---- the first lexeme, and what follows it
+
+-- a first lexeme of what is left is the first of the whole
+abbrev pub FirstOf : Alphabet → List ℕ → List ℕ → Type 0
+FirstOf a rest t = (v : Spelled) (more : List ℕ) → BeginsWithLexeme a v more rest → BeginsWithLexeme a v more t
+
+-- past a token that is no lexeme, the first lexeme is still the whole's
+pub first_past : (a : Alphabet) (g : Spelled) (n : ℕ) (rest t : List ℕ) → FirstOf a rest t → spelled_in a rest ≡ Some (g, n) → is_lexeme g ≡ false → FirstOf a (drop n rest) t
+first_past a g n rest t h e l = λ v more b.
+    let u = (token_reader a).sound g n rest e in
+    let behind : drop n rest ≡ u.rest = ap (drop n) u.whole ∙ drop_at u.unit u.rest n (sym u.counted) in
+    let P : List ℕ → Type 0 = λ x. BeginsAfter a b.gaps v more x in
+    h v more (record {
+      gaps = g ∷ b.gaps;
+      begins = (l, record { unit = u.unit; rest = u.rest; whole = u.whole; is = u.is; more = subst P behind b.begins });
+      is = b.is;
+    })
+
+-- a token that is a lexeme is the first
+pub first_here : (a : Alphabet) (v : Spelled) (more rest : List ℕ) → IsFirstToken a v more rest → is_lexeme v ≡ true → BeginsWithLexeme a v more rest
+first_here a v more rest f l =
+    let u = (token_reader a).sound v f.len rest f.read in
+    let behind : drop f.len rest ≡ u.rest = ap (drop f.len) u.whole ∙ drop_at u.unit u.rest f.len (sym u.counted) in
+    record { gaps = []; begins = record { unit = u.unit; rest = u.rest; whole = u.whole; is = u.is; more = sym behind ∙ sym f.rest_is }; is = l }
+
+reads_start : (a : Alphabet) (v : Spelled) (unit rest t : List ℕ) → t ≡ unit ++ rest → IsToken a v unit rest → (spelled_in a t ≡ Some (v, length unit)) × (drop (length unit) t ≡ rest)
+reads_start a v unit rest t w i = (ap (spelled_in a) w ∙ (token_reader a).complete v unit rest i, ap (drop (length unit)) w ∙ drop_at unit rest (length unit) refl)
+
+-- the lexemes of a text whose first one is v are v and those of what follows it
+pub begins_reads : (a : Alphabet) (gs : List Spelled) (v : Spelled) (rest t : List ℕ) → BeginsAfter a gs v rest t → is_lexeme v ≡ true → lexemes_in a t ≡ v ∷ lexemes_in a rest
+begins_reads a [] v rest t b l =
+    let r = reads_start a v b.unit b.rest t b.whole b.is in
+    lexeme_read a v (length b.unit) t r.0 l ∙ ap (λ (u : List ℕ). v ∷ lexemes_in a u) (r.1 ∙ b.more)
+begins_reads a (g ∷ gs) v rest t b l =
+    let r = reads_start a g b.1.unit b.1.rest t b.1.whole b.1.is in
+    gap_passed a g (length b.1.unit) t r.0 b.0 ∙ ap (lexemes_in a) r.1 ∙ begins_reads a gs v rest b.1.rest b.1.more l
+
+-- where no lexeme is read, none is the first
+pub none_first : (a : Alphabet) (t : List ℕ) → lexemes_in a t ≡ [] → (v : Spelled) (rest : List ℕ) → BeginsWithLexeme a v rest t → ⊥
+none_first a t e v rest b = let q = begins_reads a b.gaps v rest t b.begins b.is in absurd cc
+
+-- two first lexemes of a text are one, and the same follows them
+pub one_first : (a : Alphabet) (gs hs : List Spelled) (v w : Spelled) (x y t : List ℕ) → BeginsAfter a gs v x t → BeginsAfter a hs w y t → is_lexeme v ≡ true
+    → is_lexeme w ≡ true → (v ≡ w) × (x ≡ y)
+one_first a [] [] v w x y t b c l m =
+    let s = (one_token a).one v w b.unit c.unit b.rest c.rest (sym b.whole ∙ c.whole) b.is c.is in
+    (s.value, sym b.more ∙ s.rest ∙ c.more)
+one_first a [] (h ∷ hs) v w x y t b c l m =
+    let s = (one_token a).one v h b.unit c.1.unit b.rest c.1.rest (sym b.whole ∙ c.1.whole) b.is c.1.is in
+    let e = sym l ∙ ap is_lexeme s.value ∙ c.0 in
+    absurd cc
+one_first a (g ∷ gs) [] v w x y t b c l m =
+    let s = (one_token a).one g w b.1.unit c.unit b.1.rest c.rest (sym b.1.whole ∙ c.whole) b.1.is c.is in
+    let e = sym m ∙ ap is_lexeme (sym s.value) ∙ b.0 in
+    absurd cc
+one_first a (g ∷ gs) (h ∷ hs) v w x y t b c l m =
+    let s = (one_token a).one g h b.1.unit c.1.unit b.1.rest c.1.rest (sym b.1.whole ∙ c.1.whole) b.1.is c.1.is in
+    let P : List ℕ → Type 0 = λ u. BeginsAfter a hs w y u in
+    one_first a gs hs v w x y b.1.rest b.1.more (subst P (sym s.rest) c.1.more) l m

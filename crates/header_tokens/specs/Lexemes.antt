@@ -1,10 +1,11 @@
 -- Lexemes: the tokens of a value without white space and comments.
 use Rattle.std.specs.Prelude.{◌≡◌, ◌≢◌, Bool, true, false, List, [], ◌∷◌, ℕ}
 use Rattle.std.specs.List.{filter}
+use Rattle.text_words.specs.Sequence.{Starts}
 use Rattle.header_tokens.specs.declared.token.Alphabet.{Alphabet}
 use Rattle.header_tokens.specs.declared.token.Kind.{Kind}
 use Rattle.header_tokens.specs.declared.token.Kind.TheVariants as kind
-use Rattle.header_tokens.specs.Tokens.{Spelled, AreTokens, AreLeading}
+use Rattle.header_tokens.specs.Tokens.{Spelled, IsToken, AreTokens, AreLeading}
 
 abbrev pub is_lexeme_kind : Kind → Bool
 is_lexeme_kind kind.Space = false
@@ -31,3 +32,14 @@ pub record AreLeadingLexemes (a : Alphabet) (lexemes : List Spelled) (t : List �
 pub record IsNextLexeme (a : Alphabet) (v : Spelled) (more t : List ℕ) : Type 0 where
   pub lexemes : (ls : List Spelled) → AreLeadingLexemes a ls more → AreLeadingLexemes a (v ∷ ls) t
   pub some : v.text ≢ []
+
+-- the text begins with these tokens, each white space or a comment, then the token v, and rest follows it
+abbrev pub BeginsAfter : Alphabet → List Spelled → Spelled → List ℕ → List ℕ → Type 0
+BeginsAfter a [] v rest t = Starts (IsToken a) v (λ (r : List ℕ). r ≡ rest) t
+BeginsAfter a (g ∷ gs) v rest t = (is_lexeme g ≡ false) × Starts (IsToken a) g (BeginsAfter a gs v rest) t
+
+-- the first lexeme of the text is v, and rest follows it
+pub record BeginsWithLexeme (a : Alphabet) (v : Spelled) (rest t : List ℕ) : Type 0 where
+  pub gaps : List Spelled
+  pub begins : BeginsAfter a gaps v rest t
+  pub is : is_lexeme v ≡ true

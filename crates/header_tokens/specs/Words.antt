@@ -15,9 +15,13 @@ unescaped escaped [] = []
 unescaped true (c ∷ t) = c ∷ unescaped false t
 unescaped false (c ∷ t) = if c == 92 then unescaped true t else c ∷ unescaped false t
 
+-- what a quoted text or a comment has, with its line ends
+abbrev pub bracketed_text : List ℕ → List ℕ
+bracketed_text t = unescaped false (inside t)
+
 -- what a quoted text or a comment has, without line ends
 abbrev pub unquoted : List ℕ → List ℕ
-unquoted t = unfolded (unescaped false (inside t))
+unquoted t = unfolded (bracketed_text t)
 
 abbrev pub word_text : Kind → List ℕ → List ℕ
 word_text kind.Quoted t = unquoted t

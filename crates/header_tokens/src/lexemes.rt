@@ -1,5 +1,5 @@
 // Lexemes, read one after another: tokens without white space and comments.
-ghost use Rattle.std.specs.Prelude.{◌≡◌, ◌<◌, [], List, length, IfSome, MatchBool, MatchOption};
+ghost use Rattle.std.specs.Prelude.{◌≡◌, ◌<◌, ℕ, [], List, length, IfSome, MatchBool, MatchOption};
 ghost use Rattle.header_tokens.specs.Tokens.{Spelled, AreTokens};
 ghost use Rattle.header_tokens.specs.Lexemes as lexemes;
 ghost use Rattle.header_tokens.specs.TokenView.{token_view};
@@ -11,6 +11,9 @@ use crate::tokens::first_token;
 /// The first lexeme of a value, and what follows it. There is none where no token begins after white space and comments.
 pub fn next_lexeme(alphabet: Alphabet, text: &[u8]) -> Option<(Token<'_>, &[u8])>
     ensures value { MatchOption result (lexemes.AreLeadingLexemes alphabet [] text.now) (λ r. lexemes.IsNextLexeme alphabet (token_view r.0) r.1.now text.now) }
+    ensures first { MatchOption result
+        ((v : Spelled) (rest : List ℕ) → lexemes.BeginsWithLexeme alphabet v rest text.now → ⊥)
+        (λ r. lexemes.BeginsWithLexeme alphabet (token_view r.0) r.1.now text.now) }
     ensures shorter { IfSome result (λ r. length r.1.now < length text.now) }
 {
     lexeme_at(alphabet, text)
@@ -19,6 +22,7 @@ pub fn next_lexeme(alphabet: Alphabet, text: &[u8]) -> Option<(Token<'_>, &[u8])
 /// The first lexeme, and what follows it.
 fn lexeme_at(alphabet: Alphabet, text: &[u8]) -> Option<(Token<'_>, &[u8])>
     ensures value { MatchOption result (reading.lexemes_in alphabet text.now ≡ []) (λ r. reading.ReadsLexeme alphabet (token_view r.0) r.1.now text.now) }
+    ensures first { MatchOption result (reading.lexemes_in alphabet text.now ≡ []) (λ r. lexemes.BeginsWithLexeme alphabet (token_view r.0) r.1.now text.now) }
     ensures shorter { IfSome result (λ r. length r.1.now < length text.now) }
 {
     let mut rest = text;

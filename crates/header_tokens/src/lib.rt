@@ -16,4 +16,4 @@ pub mod laws;
 pub use kinds::{first_octet, has_mark, is_atom, is_gap, is_word};
 pub use lexemes::{is_row, next_lexeme};
 pub use token::{Alphabet, Kind, Token};
-pub use words::{unquoted, word_text};
+pub use words::{bracketed_text, unquoted, word_text};

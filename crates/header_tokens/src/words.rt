@@ -33,11 +33,18 @@ fn unescaped(alloc: Global, text: &[u8]) -> Result<Vec<u8>, AllocError>
     Ok(kept)
 }
 
+/// What a quoted text or a comment has, with its line ends.
+pub fn bracketed_text(alloc: Global, text: &[u8]) -> Result<Vec<u8>, AllocError>
+    ensures { IfOk result (λ v. v.items ≡ words.bracketed_text text.now) }
+{
+    unescaped(alloc, inside(text))
+}
+
 /// What a quoted text or a comment has, without line ends.
 pub fn unquoted(alloc: Global, text: &[u8]) -> Result<Vec<u8>, AllocError>
     ensures { IfOk result (λ v. v.items ≡ words.unquoted text.now) }
 {
-    let plain = unescaped(alloc, inside(text))?;
+    let plain = bracketed_text(alloc, text)?;
     unfold(alloc, plain.as_slice())
 }
 

@@ -2,6 +2,8 @@ pub mod TextTests
 pub mod QuotedLemmas
 pub mod Base64Lemmas
 pub mod ShapeLemmas
+pub mod SpanLemmas
+pub mod LineLemmas
 pub mod WordLemmas
 pub mod PrintableLemmas
 pub mod WrittenBase64

@@ -4,5 +4,6 @@ pub mod QuotedText
 pub mod QuotedPrintable
 pub mod Transfer
 pub mod EncodedWords
+pub mod OneLine
 pub mod WordList
 pub mod reading

@@ -35,7 +35,19 @@ pub fn decode_charset(
     ensures text { IfOk result (λ r. r.0.items ≡ text_in (charset_of name.now) bytes.now) }
     ensures problem { IfOk result (λ r. r.1 ≡ has_problem_in (charset_of name.now) bytes.now) }
 {
-    match charset_named(name) {
+    read_in(alloc, charset_named(name), bytes)
+}
+
+/// The UTF-8 text that the octets spell in the charset, and whether there was a problem.
+pub(crate) fn read_in(
+    alloc: Global,
+    charset: Charset,
+    bytes: &[u8],
+) -> Result<(Vec<u8>, bool), AllocError>
+    ensures text { IfOk result (λ r. r.0.items ≡ text_in charset bytes.now) }
+    ensures problem { IfOk result (λ r. r.1 ≡ has_problem_in charset bytes.now) }
+{
+    match charset {
         Charset::Ascii => ascii_text(alloc, bytes),
         Charset::Utf8 => utf8_text(alloc, bytes),
         Charset::Latin1 => latin1_text(alloc, bytes),
@@ -73,7 +85,7 @@ fn is_latin1_name(name: &[u8]) -> bool
         || same_text(name, b"cp819")
 }
 
-fn charset_named(name: &[u8]) -> Charset
+pub(crate) fn charset_named(name: &[u8]) -> Charset
     ensures { result ≡ charset_of name.now }
 {
     if is_utf8_name(name) {

@@ -3,9 +3,10 @@ ghost use Rattle.std.specs.Prelude.{◌≡◌, ◌≢◌, ◌↔◌, ◌==◌, n
 ghost use Rattle.text_words.specs.Cuts.{Each};
 ghost use Rattle.text_words.specs.Sequence.{UnitAt};
 ghost use Rattle.header_words.specs.EncodedWords as words;
+ghost use Rattle.header_words.specs.reading.Units.{coded_of};
 
 use crate::base64_text::decode_base64;
-use crate::charset::decode_charset;
+use crate::charset::{Charset, charset_named};
 use crate::quoted_text::decode_quoted;
 use std::alloc::{AllocError, Global};
 use text_words::{Class, behind, cut, first, is_white, run_before};
@@ -47,11 +48,30 @@ impl Class<u8> for BeforeStar {
     }
 }
 
+/// Beside which octets an encoded word may stand.
+#[derive(Clone, Copy, PartialEq, Eq, Debug)]
+pub enum Edges {
+    /// White space and parentheses (RFC 2047 section 5).
+    White,
+    /// Quotation marks too: no sender may write an encoded word in a quoted text, and many do.
+    Quotes,
+}
+
 /// White space or a parenthesis.
-pub fn is_edge(octet: u8) -> bool
-    ensures { result ≡ words.is_edge octet }
+fn is_white_edge(octet: u8) -> bool
+    ensures { result ≡ words.is_white_edge octet }
 {
     is_white(octet) || octet == b'(' || octet == b')'
+}
+
+/// Whether the octet is an edge of this kind.
+pub fn is_edge(edges: Edges, octet: u8) -> bool
+    ensures { result ≡ words.is_edge edges octet }
+{
+    match edges {
+        Edges::White => is_white_edge(octet),
+        Edges::Quotes => is_white_edge(octet) || octet == b'"',
+    }
 }
 
 /// The parts of an encoded word, and what follows it.
@@ -63,11 +83,13 @@ struct Shape<'a> {
     behind: &'a [u8],
 }
 
-/// An encoded word's text, and how many octets the word has.
+/// What an encoded word spells, and how many octets the word has.
 #[derive(Drop)]
 pub struct Word {
-    /// In UTF-8, decoded from the charset that the word names.
-    pub text: Vec<u8>,
+    /// The charset that the word names.
+    pub charset: Charset,
+    /// In this charset.
+    pub octets: Vec<u8>,
     /// From `=?` up to and with `?=`.
     pub len: usize,
 }
@@ -117,24 +139,24 @@ fn decode_letter(alloc: Global, letter: u8, text: &[u8]) -> Result<Option<Vec<u8
     }
 }
 
-fn begins_at_edge(text: &[u8]) -> bool
-    ensures { IsTrue result ↔ words.BeginsAtEdge text.now }
+fn begins_at_edge(edges: Edges, text: &[u8]) -> bool
+    ensures { IsTrue result ↔ words.BeginsAtEdge edges text.now }
 {
     match text {
         [] => true,
-        [first, ..] => is_edge(*first),
+        [first, ..] => is_edge(edges, *first),
     }
 }
 
 /// The encoded word at the front of the text, where one stands there before an edge.
-pub fn word_at(alloc: Global, text: &[u8]) -> Result<Option<Word>, AllocError>
-    ensures some { IfOk result (λ r. IfSome r (λ w. UnitAt words.IsWordBefore w.text.items w.len text.now)) }
-    ensures none { IfOk result (λ r. IfNone r ((reading word rest : List ℕ) → text.now ≡ word ++ rest → words.IsWordBefore reading word rest → ⊥)) }
+pub fn word_at(alloc: Global, edges: Edges, text: &[u8]) -> Result<Option<Word>, AllocError>
+    ensures some { IfOk result (λ r. IfSome r (λ w. UnitAt (words.IsWordBefore edges) (coded_of w) w.len text.now)) }
+    ensures none { IfOk result (λ r. IfNone r ((coded : words.Coded) (word rest : List ℕ) → text.now ≡ word ++ rest → words.IsWordBefore edges coded word rest → ⊥)) }
 {
     let Some(shape) = shape_at(text) else {
         return Ok(None);
     };
-    if !begins_at_edge(shape.behind) {
+    if !begins_at_edge(edges, shape.behind) {
         return Ok(None);
     }
     let (name, _) = cut(&BeforeStar, shape.charset);
@@ -144,9 +166,9 @@ pub fn word_at(alloc: Global, text: &[u8]) -> Result<Option<Word>, AllocError>
     let Some(octets) = decode_letter(alloc, shape.letter, shape.text)? else {
         return Ok(None);
     };
-    let (reading, _) = decode_charset(alloc, name, octets.as_slice())?;
     Ok(Some(Word {
-        text: reading,
+        charset: charset_named(name),
+        octets,
         len: text.len() - shape.behind.len(),
     }))
 }

@@ -11,6 +11,7 @@ pub mod transfer;
 
 // Encoded words.
 pub mod encoded_word;
+pub mod one_line;
 pub mod word_list;
 pub mod words;
 
@@ -18,6 +19,8 @@ pub mod words;
 pub mod laws;
 
 pub use charset::decode_charset;
+pub use encoded_word::Edges;
+pub use one_line::as_one_line;
 pub use transfer::{decode_transfer, transfer_len};
 pub use word_list::encode_words;
-pub use words::decode_words;
+pub use words::{decode_words, decode_words_between};

@@ -39,7 +39,7 @@ reading_leaves : (c : Command) (s : StoreSession) (a : CutAnswer) (after : Store
 reading_leaves command.Capability s a after is h = ap (λ (t : StoreSession). t.mail) h.0
 reading_leaves (command.Login user password) s a after is h = h.0
 reading_leaves command.Enable s a after is h = ap (λ (t : StoreSession). t.mail) h.0
-reading_leaves command.List s a after is h = ap (λ (t : StoreSession). t.mail) h.0
+reading_leaves (command.List special_use) s a after is h = ap (λ (t : StoreSession). t.mail) h.0
 reading_leaves (command.Select name known) s a after is h = ap (λ (t : StoreSession). t.mail) h.3
 reading_leaves command.Unselect s a after is h = h.1
 reading_leaves command.FetchFlags s a after is h = ap (λ (t : StoreSession). t.mail) h.0

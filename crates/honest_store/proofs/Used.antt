@@ -101,7 +101,7 @@ keeps_done : (c : Command) (s : StoreSession) (a : CutAnswer) (after : StoreSess
 keeps_done command.Capability s a after h = keeps_session s after h.0
 keeps_done (command.Login user password) s a after h = keeps_same s.mail after.mail h.0
 keeps_done command.Enable s a after h = keeps_session s after h.0
-keeps_done command.List s a after h = keeps_session s after h.0
+keeps_done (command.List special_use) s a after h = keeps_session s after h.0
 keeps_done (command.Select name known) s a after h = keeps_same s.mail after.mail (ap (λ (t : StoreSession). t.mail) h.3)
 keeps_done command.Unselect s a after h = keeps_same s.mail after.mail h.1
 keeps_done command.FetchFlags s a after h = keeps_session s after h.0

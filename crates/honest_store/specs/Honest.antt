@@ -51,7 +51,7 @@ abbrev pub Does : Command → StoreSession → CutAnswer → StoreSession → Ty
 Does command.Capability s a after = ReadsOnly s (Any IsCapability (all_responses a)) after
 Does (command.Login user password) s a after = (after.mail ≡ s.mail) × (after.selected ≡ None)
 Does command.Enable s a after = ReadsOnly s (Any IsEnabled (all_responses a)) after
-Does command.List s a after = ReadsOnly s (ListsMail s.mail (all_responses a)) after
+Does (command.List special_use) s a after = ReadsOnly s (ListsMail s.mail (all_responses a)) after
 Does (command.Select name known) s a after =
     (f : StoreFolder) × (rs : List Response) × IsFolderNamed s.mail name f × (after ≡ record { mail = s.mail; selected = Some f.number })
     × BeginsFolder f.number s.selected a rs × TellsFolder f known rs

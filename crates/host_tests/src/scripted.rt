@@ -1,6 +1,6 @@
 // A clock, a client, a listener and an input that do as a row says.
 use crate::peers::Peers;
-use client_front::{ClientListener, ClientStream, First, Next, Ticks};
+use client_front::{ClientListener, ClientStream, Next, Ticks};
 use std::cell::Cell;
 use std::io;
 use std::io::{ErrorKind, Read};
@@ -12,29 +12,31 @@ use told_dialogues::{first_number, octets_of};
 pub(crate) struct SteppingClock {
     step: u64,
     steps: u64,
-    looks: Cell<u64>,
+    looks: u64,
 }
 
 impl Ticks for SteppingClock {
     ghost use Rattle.std.specs.Prelude.{⊤};
 
-    ghost reads = { λ _ _. ⊤ };
+    ghost reads = { λ _ _ _. ⊤ };
 
-    fn milliseconds(&self) -> Option<u64> {
-        let looks = self.looks.get().saturating_add(1);
-        self.looks.set(looks);
-        match looks <= self.steps {
-            true => looks.checked_mul(self.step),
+    fn milliseconds(&mut self) -> Option<u64> {
+        self.looks = self.looks.saturating_add(1);
+        match self.looks <= self.steps {
+            true => self.looks.checked_mul(self.step),
             false => Some(1_000_000),
         }
     }
 }
 
-/// A client that is seen so often to have sent nothing. It sends this many octets in pieces of at most so many; the first of each
-/// piece is an octet of the head, or `.` past it. It takes one octet a turn.
+/// A client that is seen so often to have sent nothing, then so often to have sent a part of a head, and a whole one from then on. It
+/// sends this many octets in pieces of at most so many; the first of each piece is an octet of the head, or `.` past it. It takes one
+/// octet a turn.
 #[derive(Drop)]
 pub(crate) struct ScriptedClient {
-    silent: Cell<u64>,
+    silent: u64,
+    partly: u64,
+    looks: Cell<u64>,
     octets: u64,
     piece: u64,
     head: Vec<u8>,
@@ -45,19 +47,23 @@ pub(crate) struct ScriptedClient {
 impl ClientStream for ScriptedClient {
     ghost use Rattle.std.specs.Prelude.{⊤};
 
-    ghost shows = { λ _ _. ⊤ };
+    ghost shows = { λ _ _ _. ⊤ };
 
-    ghost receives = { λ _ _ _. ⊤ };
+    ghost receives = { λ _ _ _ _. ⊤ };
 
-    ghost sends = { λ _ _ _. ⊤ };
+    ghost sends = { λ _ _ _ _. ⊤ };
 
-    fn first(&self) -> First {
-        let silent = self.silent.get();
-        self.silent.set(silent.saturating_sub(1));
-        match silent {
-            0 => First::Octet(b'G'),
-            _ => First::Nothing,
-        }
+    fn peek(&self, into: &mut [u8]) -> Option<usize> {
+        let looks = self.looks.get();
+        self.looks.set(looks.saturating_add(1));
+        let count = match looks.checked_sub(self.silent) {
+            None => 0,
+            Some(later) if later < self.partly => 2,
+            Some(_) => 3,
+        };
+        let (octets, _) = into.split_at_mut_checked(count)?;
+        octets.copy_from_slice(b"G\n\n".get(..count)?);
+        Some(count)
     }
 
     fn receive(&mut self, into: &mut [u8], _limit: u64) -> Option<usize> {
@@ -91,10 +97,13 @@ pub(crate) fn scripted_of(peers: &Peers, row: &str) -> io::Result<(OneClient, St
     let (waits, row) = first_number(row);
     let (refuses, row) = first_number(row);
     let (silent, row) = first_number(row);
+    let (partly, row) = first_number(row);
     let (octets, row) = first_number(row);
     let (piece, head) = first_number(row);
     let client = ScriptedClient {
-        silent: Cell::new(silent),
+        silent,
+        partly,
+        looks: Cell::new(0),
         octets,
         piece,
         head: octets_of(peers.desk.rt.alloc(), head)?,
@@ -106,12 +115,22 @@ pub(crate) fn scripted_of(peers: &Peers, row: &str) -> io::Result<(OneClient, St
         refuses: refuses == 1,
         waits,
     };
-    let looks = Cell::new(0);
-    Ok((listener, SteppingClock { step, steps, looks }))
+    let clock = SteppingClock {
+        step,
+        steps,
+        looks: 0,
+    };
+    Ok((listener, clock))
 }
 
 impl ClientListener for OneClient {
+    ghost use Rattle.std.specs.Prelude.{⊤};
+
     type Stream = ScriptedClient;
+
+    ghost comes = { λ _ _ _ _. ⊤ };
+
+    ghost waits = { λ _ _ _ _. ⊤ };
 
     fn next_client(&mut self, _key: u64) -> Next<ScriptedClient> {
         match self.client.take() {

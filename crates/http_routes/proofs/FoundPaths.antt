@@ -5,14 +5,14 @@ use Rattle.matchit.specs.Router.{RouteOf}
 use Rattle.matchit.specs.Seek.{first}
 use Rattle.http_routes.specs.declared.router.Kind.{Kind}
 use Rattle.http_routes.specs.declared.router.Kind.TheVariants.{Session, Api, Upload, Download}
-use Rattle.http_routes.specs.Paths.{Resource, SessionResource, ApiResource, UploadResource, DownloadResource, IsPathPart, IsPath}
+use Rattle.http_routes.specs.Paths.{Resource, SessionResource, ApiResource, UploadResource, DownloadResource, HasNoSlash, IsPathPart, IsPath}
 use Rattle.http_routes.specs.Routing.{FindsResource}
 use Rattle.http_routes.specs.reading.Finding.{resource_of, resource_at}
 use Rattle.http_routes.specs.reading.Parts.{before_slash, after_slash, account_part, blob_part, name_part}
-use Rattle.http_routes.specs.reading.Table.{session_row, api_row, upload_row, download_row, paths, kind_at}
+use Rattle.http_routes.specs.reading.Table.{session_row, api_row, upload_row, download_row, nameless_row, paths, kind_at}
 use Rattle.http_routes.proofs.PathParts.{before_part, before_none, after_part}
 use Rattle.http_routes.proofs.Patterns.{MatchesPattern, HasMatch, literal_start, last_part, part_and_slash, seek_match}
-use Rattle.http_routes.proofs.Walks.{along, seek_along, seek_ends, seek_last, seek_part}
+use Rattle.http_routes.proofs.Walks.{along, seek_along, seek_ends, seek_last, seek_name, seek_part}
 
 -- ---- what is found is a path
 
@@ -33,7 +33,16 @@ download_path path (rest, is, matches) =
     let a = part_and_slash (param_token ∷ 47 ∷ param_token ∷ []) rest matches in
     let b = part_and_slash (param_token ∷ []) a.1 a.4 in
     let parts : rest ≡ a.0 ++ 47 ∷ (b.0 ++ 47 ∷ b.1) = a.3 ∙ ap (λ (l : List ℕ). a.0 ++ 47 ∷ l) b.3 in
-    (DownloadResource a.0 b.0 b.1, (a.2, b.2, last_part b.1 b.4, is ∙ ap (λ (l : List ℕ). codes "/jmap/download/" ++ l) parts))
+    (DownloadResource a.0 b.0 b.1, (a.2, b.2, (last_part b.1 b.4).1, is ∙ ap (λ (l : List ℕ). codes "/jmap/download/" ++ l) parts))
+
+nameless_path : (path : List ℕ)
+    → (rest : List ℕ) × (path ≡ codes "/jmap/download/" ++ rest) × MatchesPattern (param_token ∷ 47 ∷ param_token ∷ 47 ∷ []) rest
+    → (resource : Resource) × IsPath resource path
+nameless_path path (rest, is, matches) =
+    let a = part_and_slash (param_token ∷ 47 ∷ []) rest matches in
+    let b = part_and_slash [] a.1 a.4 in
+    let parts : rest ≡ a.0 ++ 47 ∷ (b.0 ++ 47 ∷ b.1) = a.3 ∙ ap (λ (l : List ℕ). a.0 ++ 47 ∷ l) b.3 in
+    (DownloadResource a.0 b.0 b.1, (a.2, b.2, subst HasNoSlash (sym b.4) tt, is ∙ ap (λ (l : List ℕ). codes "/jmap/download/" ++ l) parts))
 
 -- a path that matches a row is a path that there is
 row_path : (path : List ℕ) (found : RouteOf Kind) → HasMatch path found paths → (resource : Resource) × IsPath resource path
@@ -41,8 +50,10 @@ row_path path found (inl (is, matches)) = session_path path (literal_start (code
 row_path path found (inr (inl (is, matches))) = api_path path (literal_start (codes "/jmap/api") [] path refl matches)
 row_path path found (inr (inr (inl (is, matches)))) =
     download_path path (literal_start (codes "/jmap/download/") (param_token ∷ 47 ∷ param_token ∷ 47 ∷ param_token ∷ []) path refl matches)
-row_path path found (inr (inr (inr (inl (is, matches))))) = upload_path path (literal_start (codes "/jmap/upload/") (param_token ∷ []) path refl matches)
-row_path path found (inr (inr (inr (inr none)))) = absurd none
+row_path path found (inr (inr (inr (inl (is, matches))))) =
+    nameless_path path (literal_start (codes "/jmap/download/") (param_token ∷ 47 ∷ param_token ∷ 47 ∷ []) path refl matches)
+row_path path found (inr (inr (inr (inr (inl (is, matches)))))) = upload_path path (literal_start (codes "/jmap/upload/") (param_token ∷ []) path refl matches)
+row_path path found (inr (inr (inr (inr (inr none))))) = absurd none
 
 found_path : (path : List ℕ) (found : RouteOf Kind) → first paths path ≡ Some found → (resource : Resource) × IsPath resource path
 found_path path found is = row_path path found (seek_match 0 paths path found is)
@@ -67,22 +78,27 @@ upload_kind account is =
     kind_of_row (codes "/jmap/upload/" ++ account) upload_row.1
     (seek_along (codes "/jmap/upload/") account paths upload_row.1 (seek_last account upload_row.1 is))
 
-download_kind : (account blob name : List ℕ) → IsPathPart account → IsPathPart blob → IsPathPart name
+abbrev IsOfDownload : RouteOf Kind → Type 0
+IsOfDownload row = row.value ≡ Download
+
+download_kind : (account blob name : List ℕ) → IsPathPart account → IsPathPart blob → HasNoSlash name
     → kind_at (codes "/jmap/download/" ++ (account ++ 47 ∷ (blob ++ 47 ∷ name))) ≡ Some Download
 download_kind account blob name is_account is_blob is_name =
-    let row : RouteOf Kind = download_row.1 in
-    let last = seek_last name row is_name in
-    let second = seek_part blob name (param_token ∷ []) row is_blob last in
-    let parts = seek_part account (blob ++ 47 ∷ name) (param_token ∷ 47 ∷ param_token ∷ []) row is_account second in
-    kind_of_row (codes "/jmap/download/" ++ (account ++ 47 ∷ (blob ++ 47 ∷ name))) row
-    (seek_along (codes "/jmap/download/") (account ++ 47 ∷ (blob ++ 47 ∷ name)) paths row parts)
+    let one : RouteOf Kind = download_row.1 in
+    let two : RouteOf Kind = nameless_row.1 in
+    let last = seek_name IsOfDownload name one two is_name refl refl in
+    let second = seek_part IsOfDownload blob name (param_token ∷ []) [] one two is_blob refl refl last in
+    let parts = seek_part IsOfDownload account (blob ++ 47 ∷ name) (param_token ∷ 47 ∷ param_token ∷ []) (param_token ∷ 47 ∷ []) one two is_account refl refl second in
+    kind_of_row (codes "/jmap/download/" ++ (account ++ 47 ∷ (blob ++ 47 ∷ name))) parts.0
+    (seek_along (codes "/jmap/download/") (account ++ 47 ∷ (blob ++ 47 ∷ name)) paths parts.0 parts.1)
+    ∙ ap Some parts.2
 
 upload_at : (account : List ℕ) → IsPathPart account → resource_at (codes "/jmap/upload/" ++ account) ≡ Some (UploadResource account)
 upload_at account is =
     ap (λ (k : Option Kind). resource_of k (codes "/jmap/upload/" ++ account)) (upload_kind account is)
     ∙ ap (λ (a : List ℕ). Some (UploadResource a)) (before_none account is.1)
 
-download_at : (account blob name : List ℕ) → IsPathPart account → IsPathPart blob → IsPathPart name
+download_at : (account blob name : List ℕ) → IsPathPart account → IsPathPart blob → HasNoSlash name
     → resource_at (codes "/jmap/download/" ++ (account ++ 47 ∷ (blob ++ 47 ∷ name))) ≡ Some (DownloadResource account blob name)
 download_at account blob name is_account is_blob is_name =
     let path : List ℕ = codes "/jmap/download/" ++ (account ++ 47 ∷ (blob ++ 47 ∷ name)) in

@@ -1,15 +1,12 @@
 -- Parts of a path, and where slashes cut them.
 use Rattle.std.proofs.Common.{◌≡◌, ◌≢◌, ◌<◌, ◌+◌, ℕ, zero, suc, Bool, true, false, cond, List, [], ◌∷◌, ◌++◌, ◌==◌, length, take, drop}
 use Rattle.std.proofs.Common.{add-one, refl, ap, ◌∙◌, arith}
-use Rattle.std.specs.List.{AllByRecursion, position_or_len}
+use Rattle.std.specs.List.{position_or_len}
 use Rattle.std.proofs.Math.Seq.{take-length}
 use Rattle.std.proofs.lemmas.Bool.{ne_eqb, eqb-false}
 use Rattle.matchit.specs.Seek.{has_slash, segment}
+use Rattle.http_routes.specs.Paths.{HasNoSlash}
 use Rattle.http_routes.specs.reading.Parts.{before_slash, after_slash}
-
--- no octet is a slash
-abbrev pub HasNoSlash : List ℕ → Type 0
-HasNoSlash octets = AllByRecursion (λ octet. octet ≢ 47) octets
 
 -- the same as a test
 pub no_slash : (part : List ℕ) → HasNoSlash part → has_slash part ≡ false

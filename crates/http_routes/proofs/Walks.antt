@@ -1,12 +1,12 @@
 -- What matchit's walk over rows finds at paths of a known form.
 use Rattle.std.proofs.Common.{◌≡◌, ◌≢◌, ◌+◌, ◌-◌, inl, inr, ℕ, suc, Bool, true, false, cond, List, [], ◌∷◌, ◌++◌, ltb, nat_eq, length, drop, length-append}
-use Rattle.std.proofs.Common.{Option, Some, None, refl, sym, ap, ◌∙◌, arith}
+use Rattle.std.proofs.Common.{◌&&◌, Option, Some, None, refl, sym, ap, ◌∙◌, subst, arith}
 use Rattle.std.specs.List.{ends_with}
 use Rattle.std.specs.Cmp.Lexicographic.{pointwise}
 use Rattle.std.proofs.lemmas.Bool.{lt-ltb, and_from}
 use Rattle.matchit.specs.Rows.{RowsOf, param_token, catch_all_token}
 use Rattle.matchit.specs.Seek.{seek, step, own, or_else, param_step, cuts, segment, has_slash}
-use Rattle.http_routes.specs.Paths.{IsPathPart}
+use Rattle.http_routes.specs.Paths.{HasNoSlash, IsPathPart}
 use Rattle.http_routes.proofs.PathParts.{no_slash, segment_part, drop_front}
 use Rattle.http_routes.proofs.Patterns.{HasMatch, taken, seek_match}
 
@@ -60,10 +60,28 @@ module _ {K : Type 0} where
       one (inl (same, matches)) = sym same
       one (inr none) = absurd none
 
+  -- and in two rows it is one of their values
+  one_of_two : (P : K → Type 0) (a b path : List ℕ) (one two other : K) → P one → P two → seek 0 ((a, one) ∷ (b, two) ∷ []) path ≡ Some other → P other
+  one_of_two P a b path one two other first second is = by (seek_match 0 ((a, one) ∷ (b, two) ∷ []) path other is)
+    where
+      by : HasMatch path other ((a, one) ∷ (b, two) ∷ []) → P other
+      by (inl (same, matches)) = subst P same first
+      by (inr (inl (same, matches))) = subst P same second
+      by (inr (inr none)) = absurd none
+
   -- the second of three answers, where the first could be no other
   second_of_three : (x y z : Option K) (key : K) → ((other : K) → x ≡ Some other → other ≡ key) → y ≡ Some key → or_else x (or_else y z) ≡ Some key
   second_of_three None y z key one is = ap (λ (o : Option K). or_else o z) is
   second_of_three (Some other) y z key one is = ap Some (one other refl)
+
+  -- such a value is found
+  abbrev pub Finds : (K → Type 0) → Option K → Type 0
+  Finds P found = (key : K) × (found ≡ Some key) × P key
+
+  -- of three answers such a one, where the first could be no other and the second is one
+  such_of_three : (P : K → Type 0) (x y z : Option K) → ((other : K) → x ≡ Some other → P other) → Finds P y → Finds P (or_else x (or_else y z))
+  such_of_three P None y z such (key, is, there) = (key, ap (λ (o : Option K). or_else o z) is, there)
+  such_of_three P (Some other) y z such found = (other, refl, such other refl)
 
   -- a parameter that ends the pattern takes a part that ends the path
   pub seek_last : (part : List ℕ) (key : K) → IsPathPart part → seek 0 ((param_token ∷ [], key) ∷ []) part ≡ Some key
@@ -79,16 +97,26 @@ module _ {K : Type 0} where
       (λ other e. one_key (param_token ∷ []) (c ∷ part) key other (seek_along (c ∷ []) part row other e))
       (ap goes (no_slash (c ∷ part) is.1) ∙ ends)
 
-  -- a parameter before a slash takes the part before that slash
-  pub seek_part : (part rest pattern : List ℕ) (key : K) → IsPathPart part → seek 0 ((pattern, key) ∷ []) rest ≡ Some key
-      → seek 0 ((param_token ∷ 47 ∷ pattern, key) ∷ []) (part ++ 47 ∷ rest) ≡ Some key
+  -- one that ends the pattern, beside a row that ends before it, takes what ends the path, which may be nothing
+  pub seek_name : (P : K → Type 0) (name : List ℕ) (one two : K) → HasNoSlash name → P one → P two
+      → Finds P (seek 0 ((param_token ∷ [], one) ∷ ([], two) ∷ []) name)
+  unfolding seek
+  seek_name P [] one two none first second = (two, refl, second)
+  seek_name P (c ∷ name) one two none first second =
+      let some : c ∷ name ≢ [] = λ e. cc in
+      (one, seek_last (c ∷ name) one (some, none), first)
+
+  -- a parameter before a slash takes the part before that slash, in two rows as well
+  pub seek_part : (P : K → Type 0) (part rest a b : List ℕ) (one two : K) → IsPathPart part → P one → P two → Finds P (seek 0 ((a, one) ∷ (b, two) ∷ []) rest)
+      → Finds P (seek 0 ((param_token ∷ 47 ∷ a, one) ∷ (param_token ∷ 47 ∷ b, two) ∷ []) (part ++ 47 ∷ rest))
   unfolding seek param_step
-  seek_part [] rest pattern key is found = absurd (is.0 refl)
-  seek_part (c ∷ part) rest pattern key is found =
+  seek_part P [] rest a b one two is first second found = absurd (is.0 refl)
+  seek_part P (c ∷ part) rest a b one two is first second found =
       let path : List ℕ = part ++ 47 ∷ rest in
-      let row : RowsOf K = (param_token ∷ 47 ∷ pattern, key) ∷ [] in
-      let after : RowsOf K = (47 ∷ pattern, key) ∷ [] in
-      let suffix : Bool → List ℕ = λ chosen. cond chosen (47 ∷ []) [] in
+      let rows : RowsOf K = (param_token ∷ 47 ∷ a, one) ∷ (param_token ∷ 47 ∷ b, two) ∷ [] in
+      let after : RowsOf K = (47 ∷ a, one) ∷ (47 ∷ b, two) ∷ [] in
+      let best : Bool → List ℕ = λ chosen. cond chosen (47 ∷ []) [] in
+      let suffix : Bool → List ℕ = λ chosen. cond (ltb (length (best chosen)) 1 && chosen) (47 ∷ []) (best chosen) in
       let takes : Bool → ℕ × RowsOf K = λ chosen. taken (ltb 0 (length (suffix chosen))) (has_slash (c ∷ path)) (suffix chosen) after (c ∷ path) in
       let goes : Bool → Option K = λ chosen. seek ((takes chosen).0 - 1) (takes chosen).1 path in
       let whole : segment (c ∷ path) ≡ (c ∷ part) ++ 47 ∷ [] = segment_part (c ∷ part) rest is.1 in
@@ -96,8 +124,8 @@ module _ {K : Type 0} where
       let long : length ((c ∷ part) ++ 47 ∷ []) ≡ length (c ∷ part) + 1 = length-append (c ∷ part) (47 ∷ []) in
       let segment_long : length (segment (c ∷ path)) ≡ length ((c ∷ part) ++ 47 ∷ []) = ap (λ (l : List ℕ). length l) whole in
       let less : length (segment (c ∷ path)) - 1 - 1 ≡ length part = omega (arith, long, segment_long) in
-      let goes_on : goes true ≡ Some key =
-      ap (λ (n : ℕ). seek n after path) less ∙ seek_behind part (47 ∷ rest) after ∙ seek_along (47 ∷ []) rest after key found in
-      second_of_three (seek 0 (step c row) path) (goes (cuts (segment (c ∷ path)) (47 ∷ []))) (own (step catch_all_token row)) key
-      (λ other e. one_key (param_token ∷ 47 ∷ pattern) (c ∷ path) key other (seek_along (c ∷ []) path row other e))
-      (ap goes chosen ∙ goes_on)
+      let goes_on : goes true ≡ Some found.0 =
+      ap (λ (n : ℕ). seek n after path) less ∙ seek_behind part (47 ∷ rest) after ∙ seek_along (47 ∷ []) rest after found.0 found.1 in
+      such_of_three P (seek 0 (step c rows) path) (goes (cuts (segment (c ∷ path)) (47 ∷ []))) (own (step catch_all_token rows))
+      (λ other e. one_of_two P (param_token ∷ 47 ∷ a) (param_token ∷ 47 ∷ b) (c ∷ path) one two other first second (seek_along (c ∷ []) path rows other e))
+      (found.0, ap goes chosen ∙ goes_on, found.2)

@@ -25,7 +25,7 @@ pub enum Route {
     Download {
         /// The blob's id, its escapes undone.
         blob: Bytes,
-        /// The last part of the path, its escapes undone.
+        /// The last part of the path, its escapes undone; it may be empty.
         name: Bytes,
         /// The value of `accept`, its escapes undone; None where the query doesn't begin with it, or it is empty.
         media: Option<Bytes>,

@@ -15,7 +15,7 @@ pub enum Kind {
     Api,
     /// `/jmap/upload/{account}`
     Upload,
-    /// `/jmap/download/{account}/{blob}/{name}`
+    /// `/jmap/download/{account}/{blob}/{name}`, where the name may be empty.
     Download,
 }
 
@@ -36,6 +36,7 @@ fn router_of(alloc: Global) -> Result<Router<Kind>, InsertError>
     router.insert("/jmap/api", Kind::Api)?;
     router.insert("/jmap/upload/{account}", Kind::Upload)?;
     router.insert("/jmap/download/{account}/{blob}/{name}", Kind::Download)?;
+    router.insert("/jmap/download/{account}/{blob}/", Kind::Download)?;
     Ok(router)
 }
 

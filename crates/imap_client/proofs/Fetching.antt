@@ -16,13 +16,13 @@ use Rattle.imap_client.specs.declared.plan.Refusal.{Refusal}
 use Rattle.imap_client.specs.declared.plan.Refusal.TheVariants as refusal
 use Rattle.imap_client.specs.declared.body.BodyStage.{BodyStage}
 use Rattle.imap_client.specs.declared.body.BodyStage.TheVariants as stage
-use Rattle.imap_client.specs.Bodies.{BodyState, FetchesBody, body_begun, body_due, body_from, body_start, body_step, fetched, folder_validity, is_selected, last_body}
+use Rattle.imap_client.specs.Bodies.{BodyState, FetchesBody, body_begun, body_due, body_from, body_start, body_step, fetched, is_selected, last_body}
 use Rattle.imap_client.specs.Bodies.{selected_body_stage}
 use Rattle.imap_client.specs.LinkLife.{LinkLife, ClientState, selected}
 use Rattle.imap_client.specs.Plans.{Ran, Begun, Then}
-use Rattle.imap_client.specs.Rounds.{known_folder}
+use Rattle.imap_client.specs.Selecting.{known_folder, validity_told, is_kept}
 use Rattle.imap_client.specs.WholeFetches.{FolderOf, SelectsFolder, FetchesOctets, IsWholeFetch, FetchAlone, SelectFirst, IsFinishedFetch}
-use Rattle.imap_client.proofs.Finishing.{AllOk, done_not_send, end_done, fails_not_send, ok_or_not, ran_exchanges, ran_sends, send_same}
+use Rattle.imap_client.proofs.Finishing.{AllOk, done_not_send, end_done, fails_not_send, ok_or_not, ran_along, ran_exchanges, ran_sends, send_same}
 
 module _ (folder uid : ℕ) where
   abbrev state_at : BodyStage → Mail → BodyState
@@ -105,9 +105,13 @@ module _ (folder uid : ℕ) where
   abbrev BothAre : Folder → Mail → List Exchange → List ℕ → Type 0
   BothAre f m xs octets = (s : SelectsFolder folder m) × (g : FetchesOctets uid octets s.after) × (s.of.told ≡ f) × (xs ≡ s.exchange ∷ g.exchange ∷ []) × (fold tell m xs ≡ g.after)
 
-  selected_by : (f : Folder) (m : Mail) (x : Exchange) (xs : List Exchange) (octets : List ℕ) (told : ℕ) (same : Bool) → folder_in m.folders folder ≡ Some f
-      → folder_validity (folder_in (tell m x).folders folder) ≡ told → x.command ≡ command.Select f.name (known_folder f) → x.status ≡ status.Ok
-      → (told == f.validity) ≡ same → Asked (state_at (if same then stage.Fetching else stage.Failing refusal.Lacks) (tell m x)) xs
+  kept_is : (validity : ℕ) (told : Option ℕ) → is_kept validity told ≡ true → told ≡ Some validity
+  kept_is validity None is = absurd (cc is)
+  kept_is validity (Some told) is = ap Some (eqb-true told validity is)
+
+  selected_by : (f : Folder) (m : Mail) (x : Exchange) (xs : List Exchange) (octets : List ℕ) (told : Option ℕ) (same : Bool) → folder_in m.folders folder ≡ Some f
+      → validity_told x.responses ≡ told → x.command ≡ command.Select f.name (known_folder f) → x.status ≡ status.Ok
+      → is_kept f.validity told ≡ same → Asked (state_at (if same then stage.Fetching else stage.Failing refusal.Lacks) (tell m x)) xs
       → ends_at (state_at (if same then stage.Fetching else stage.Failing refusal.Lacks) (tell m x)) xs ≡ stage.Fetched octets → BothAre f m (x ∷ xs) octets
   selected_by f m x xs octets told false there told_is is ok same asked done = absurd (failed_never refusal.Lacks (tell m x) xs octets asked done)
   selected_by f m x xs octets told true there told_is is ok same asked done =
@@ -117,7 +121,7 @@ module _ (folder uid : ℕ) where
           exchange = x;
           after = tell m x;
           obeyed = record { command_is = is; ok = ok; told = refl };
-          same = told_is ∙ eqb-true told f.validity same;
+          same = told_is ∙ kept_is f.validity told same;
         },
         g.0,
         refl,
@@ -126,7 +130,7 @@ module _ (folder uid : ℕ) where
       )
 
   select_ok : (f : Folder) (m : Mail) (x : Exchange) → folder_in m.folders folder ≡ Some f → x.status ≡ status.Ok
-      → body_step folder uid (state_at stage.Selecting m) x ≡ state_at (selected_body_stage f.validity (folder_validity (folder_in (tell m x).folders folder))) (tell m x)
+      → body_step folder uid (state_at stage.Selecting m) x ≡ state_at (selected_body_stage f.validity x.responses) (tell m x)
   select_ok f m x there ok = rw (ok, there) refl
 
   select_from : (f : Folder) (m : Mail) (xs : List Exchange) (octets : List ℕ) → folder_in m.folders folder ≡ Some f → Asked (state_at stage.Selecting m) xs
@@ -134,7 +138,7 @@ module _ (folder uid : ℕ) where
   select_from f m [] octets there asked done = absurd (let never : stage.Selecting ≡ stage.Fetched octets = done in cc)
   select_from f m (x ∷ xs) octets there (here, asked) done = elim (ok_or_not x.status) as (λ c. BothAre f m (x ∷ xs) octets) [
     | inl ok ↦
-        selected_by f m x xs octets (folder_validity (folder_in (tell m x).folders folder)) _ there refl
+        selected_by f m x xs octets (validity_told x.responses) _ there refl
         (send_same (command.Select f.name (known_folder f)) x.command ((rw there at here))) ok refl
         (subst (λ (s : BodyState). Asked s xs) (select_ok f m x there ok) asked)
         (subst (λ (s : BodyState). ends_at s xs ≡ stage.Fetched octets) (select_ok f m x there ok) done)
@@ -182,6 +186,7 @@ finished_fetches_are_whole folder uid before after life left client octets event
     record {
       exchanges = r.exchanges;
       whole = subst (λ (m : Mail). IsWholeFetch folder uid (selected life) octets before r.exchanges m) (sym told) whole;
+      along = ran_along r.follows.ran;
       completed = ap (λ (l : LinkLife). l.exchanges) ends.2 ∙ ran_exchanges r.follows.ran;
       sent = ap (λ (l : List Event). flat_map store_took_in l) events_are
           ∙ ran_sends r.follows.ran (all_ok folder uid (selected life) octets before r.exchanges (fold tell before r.exchanges) whole);

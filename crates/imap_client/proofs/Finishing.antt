@@ -4,6 +4,7 @@ use Rattle.std.proofs.Common.{refl, sym, ◌∙◌, ap, subst, append_assoc, len
 use Rattle.std.specs.List.{flat_map}
 use Rattle.std.proofs.lemmas.List.{append-nil}
 use Rattle.std.proofs.lemmas.List.Concat.{flat_map-append}
+use Rattle.std.proofs.lemmas.List.Sums.{fold-append}
 use Rattle.gate_world.specs.declared.event.Event.{Event}
 use Rattle.gate_world.specs.Octets.{store_took_in}
 use Rattle.imap_syntax.specs.declared.command.Command.{Command}
@@ -26,14 +27,16 @@ use Rattle.imap_client.specs.declared.plan.Refusal.TheVariants as refusal
 use Rattle.imap_client.specs.declared.round.RoundStage.{RoundStage}
 use Rattle.imap_client.specs.declared.round.RoundStage.TheVariants as stage
 use Rattle.imap_client.specs.Connecting.{is_ok}
-use Rattle.imap_client.specs.LinkLife.{LinkLife, ClientState, next_number}
+use Rattle.imap_client.specs.LinkLife.{LinkLife, ClientState, next_number, selected, selected_after, special_use}
 use Rattle.imap_client.specs.Plans.{Planned, Ran, Begun, Then, IsEnd, Finished, Failed, Broken, Gone, Wanting}
-use Rattle.imap_client.specs.Rounds.{Rounds, RoundState, round_due, round_step, round_from, of_folder, select_of, headers_of, is_sliced, slice_of}
-use Rattle.imap_client.specs.Rounds.{new_of, uid_next_told, tells_validity, selectable_from, selecting, next_stage, fetching, fetched_stage, selected_stage, is_sliced_in}
+use Rattle.imap_client.specs.Rounds.{Rounds, RoundState, round_due, round_step, round_from, of_folder, headers_of, is_sliced, slice_of}
+use Rattle.imap_client.specs.Rounds.{new_of, uid_next_told, selectable_from, selecting, next_stage, fetching, fetched_stage, selected_stage, is_sliced_in}
 use Rattle.imap_client.specs.Rounds.{is_slicing, obeyed, round_after}
+use Rattle.imap_client.specs.Selecting.{select_of, tells_validity}
 use Rattle.imap_client.specs.WholeRounds.{IsObeyed, AnsweredAt, FetchesHeaders, Slice, Rest, FetchesFolder, WithModseqs, WithoutModseqs, AsksFolder, Asked, VisitsFrom, NoMore}
 use Rattle.imap_client.specs.WholeRounds.{Visits}
-use Rattle.imap_client.specs.WholeRounds.{IsWholeRound, texts_from, IsFinishedRound}
+use Rattle.imap_client.specs.WholeRounds.{IsWholeRound, SelectedAlong, texts_from, IsFinishedRound}
+use Rattle.imap_client.proofs.Lives.{selected_of}
 
 -- ---- what was asked
 
@@ -61,14 +64,14 @@ send_same c d is = cc
 pub fails_not_send : (why : Refusal) (c : Command) → due.Fails why ≡ due.Send c → ⊥
 fails_not_send why c is = cc
 
-fails_not_done : (why : Refusal) → due.Fails why ≡ due.Done → ⊥
+pub fails_not_done : (why : Refusal) → due.Fails why ≡ due.Done → ⊥
 fails_not_done why is = cc
 
 -- nor is what is done
 pub done_not_send : (c : Command) → due.Done ≡ due.Send c → ⊥
 done_not_send c is = cc
 
-send_not_done : (c : Command) → due.Send c ≡ due.Done → ⊥
+pub send_not_done : (c : Command) → due.Send c ≡ due.Done → ⊥
 send_not_done c is = cc
 
 -- a round that failed is never done
@@ -118,7 +121,7 @@ FlagsFirst at uid_next m xs after =
 
 -- what a round does from a stage on, until it is done
 abbrev pub DoesFrom : RoundStage → Mail → List Exchange → Type 0
-DoesFrom stage.Listing m xs = IsWholeRound m xs (fold tell m xs)
+DoesFrom (stage.Listing special) m xs = IsWholeRound special m xs (fold tell m xs)
 DoesFrom (stage.Selecting at) m xs = Parts (AsksFolder at) (at + 1) m xs
 DoesFrom (stage.FetchingFlags at uid_next) m xs = Parts (FlagsFirst at uid_next) (at + 1) m xs
 DoesFrom (stage.FetchingHeaders at uid_next) m xs = Parts (FetchesHeaders at uid_next) (at + 1) m xs
@@ -196,7 +199,7 @@ selected_at at m x xs (Some h) there here ok so = selected_by_validity at m x xs
 -- ---- stage by stage
 
 none_done : (at : RoundStage) (m : Mail) → round_due at m ≡ due.Done → DoesFrom at m []
-none_done stage.Listing m done = absurd (send_not_done command.List done)
+none_done (stage.Listing special) m done = absurd (send_not_done (command.List special) done)
 none_done (stage.Selecting at) m done = absurd (never (slice_get m.folders at) done)
   where
     never : (found : Option Held) → of_folder select_of found ≡ due.Done → ⊥
@@ -225,7 +228,7 @@ obeyed_next at m x xs ok so = subst (λ (s : RoundStage). DoesFrom s (tell m x) 
 
 one_more : (at : RoundStage) (m : Mail) (x : Exchange) (xs : List Exchange) → round_due at m ≡ due.Send x.command → x.status ≡ status.Ok
     → DoesFrom (obeyed at (is_slicing at m) x.responses (tell m x)) (tell m x) xs → DoesFrom at m (x ∷ xs)
-one_more stage.Listing m x xs here ok so =
+one_more (stage.Listing special) m x xs here ok so =
     record { listing = x; others = xs; listed = tell m x; parts = refl; list_is = obeyed_by m x here ok; visits = visits_of 0 (tell m x) xs so }
 one_more (stage.Selecting at) m x xs here ok so = selected_at at m x xs (slice_get m.folders at) refl here ok so
 one_more (stage.FetchingFlags at uid_next) m x xs here ok (front, rest, mid, parts, fetches, visits) =
@@ -269,6 +272,32 @@ ran_exchanges {life = life} (Then {heard = xs} next ran) =
     ap (λ (l : LinkLife). l.exchanges) next.completes.after_is ∙ ap (λ (l : List Exchange). l ++ next.exchange ∷ []) (ran_exchanges ran)
     ∙ append_assoc life.exchanges xs (next.exchange ∷ [])
 
+-- ---- which folder is selected
+
+along_more : (now : Option (List ℕ)) (xs : List Exchange) (x : Exchange) → SelectedAlong now xs → x.selected ≡ fold selected_after now xs
+    → SelectedAlong now (xs ++ x ∷ [])
+along_more now [] x so is = (is, tt)
+along_more now (y ∷ ys) x (here, so) is = (here, along_more (selected_after now y) ys x so is)
+
+-- a life that goes on after a run went on before it
+ran_on : {plan : Planned} {life : LinkLife} {xs : List Exchange} {after : LinkLife} {es : List Event} → Ran plan life xs after es → after.goes_on ≡ true
+    → life.goes_on ≡ true
+ran_on Begun on = on
+ran_on (Then next ran) on = ran_on ran next.completes.on
+
+-- the folder that a run leaves selected
+ran_selects : {plan : Planned} {life : LinkLife} {xs : List Exchange} {after : LinkLife} {es : List Event} → Ran plan life xs after es → after.goes_on ≡ true
+    → selected after ≡ fold selected_after (selected life) xs
+ran_selects {life = life} {xs = xs} {after = after} ran on =
+    selected_of after on ∙ ap (λ (l : List Exchange). fold selected_after None l) (ran_exchanges ran) ∙ fold-append selected_after None life.exchanges xs
+    ∙ ap (λ (s : Option (List ℕ)). fold selected_after s xs) (sym (selected_of life (ran_on ran on)))
+
+-- at each exchange of a run the folder is selected that those before it leave selected
+pub ran_along : {plan : Planned} {life : LinkLife} {xs : List Exchange} {after : LinkLife} {es : List Event} → Ran plan life xs after es → SelectedAlong (selected life) xs
+ran_along Begun = tt
+ran_along {life = life} (Then {heard = xs} next ran) =
+    along_more (selected life) xs next.exchange (ran_along ran) (next.completes.selected_is ∙ ran_selects ran next.completes.on)
+
 -- exchanges that were answered OK took the texts of their commands
 pub ran_sends : {plan : Planned} {life : LinkLife} {xs : List Exchange} {after : LinkLife} {es : List Event} → Ran plan life xs after es → AllOk xs
     → flat_map store_took_in es ≡ texts_from (next_number life) xs
@@ -307,12 +336,14 @@ pub finished_rounds_are_whole : (before after : Mail) (life left : LinkLife) (cl
     → IsFinishedRound before after life left events
 finished_rounds_are_whole before after life left client events r =
     let ends = end_done r.follows.ends in
-    let asks = ran_asks (state stage.Listing before) r.follows.ran in
+    let first : RoundStage = stage.Listing (special_use life) in
+    let asks = ran_asks (state first before) r.follows.ran in
     let told : after ≡ fold tell before r.exchanges = r.told (λ is. cc) in
     let events_are : events ≡ r.follows.so_far = r.follows.whole ∙ ap (λ (l : List Event). r.follows.so_far ++ l) ends.1 ∙ append-nil r.follows.so_far in
     record {
       exchanges = r.exchanges;
-      whole = subst (λ (m : Mail). IsWholeRound before r.exchanges m) (sym told) (does_from r.exchanges stage.Listing before asks ends.0);
+      whole = subst (λ (m : Mail). IsWholeRound (special_use life) before r.exchanges m) (sym told) (does_from r.exchanges first before asks ends.0);
+      along = ran_along r.follows.ran;
       completed = ap (λ (l : LinkLife). l.exchanges) ends.2 ∙ ran_exchanges r.follows.ran;
-      sent = ap (λ (l : List Event). flat_map store_took_in l) events_are ∙ ran_sends r.follows.ran (all_ok r.exchanges (state stage.Listing before) asks ends.0);
+      sent = ap (λ (l : List Event). flat_map store_took_in l) events_are ∙ ran_sends r.follows.ran (all_ok r.exchanges (state first before) asks ends.0);
     }

@@ -160,6 +160,7 @@ lived {xs} ys user password after up preauth at before client result before_is u
       selected_is = refl;
       unread_is = λ _. (λ i. record { octets = after.octets; given = g.greets.3 i });
       number_is = λ _. refl;
+      special_use_is = λ _. refl;
       spelled = record { remaining = after.octets; greeted = g.greets.2; completed = (refl, refl); whole = λ _. refl };
     }
 

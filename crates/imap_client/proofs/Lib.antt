@@ -6,6 +6,8 @@ mod Greetings
 mod RoundSteps
 mod Refutations
 mod Finishing
+mod ConnectedLives
+mod FoldersStay
 mod Fetching
 mod GoingOn
 mod Obedience

@@ -17,6 +17,7 @@ use Rattle.imap_exchange.specs.Received.{Octets}
 use Rattle.imap_exchange.specs.Exchanges.{Done, IsVerdict, VerdictOf, IsTaken}
 use Rattle.imap_client.specs.LinkLife.{with_part, hung_up, LinkLife, IsLife, IsExchange, Completed, ClientState, Stands, fresh, next_number, selected, selected_after, unread}
 use Rattle.imap_client.specs.LinkLife.{with_exchange}
+use Rattle.imap_client.specs.Capabilities.{special_use_after}
 use Rattle.imap_exchange.specs.Answering.{selected_by, end_unless}
 use Rattle.imap_exchange.specs.Answering.{Converses, answer_of, IsOf, HangsUp}
 use Rattle.imap_client.specs.Calls.{IsExchanged}
@@ -86,8 +87,8 @@ pub life_hung : (life : LinkLife) → IsLife life → IsLife (hung_up life)
 life_hung life so = record { remaining = so.remaining; greeted = so.greeted; completed = so.completed; whole = λ never. absurd (cc never) }
 
 -- what a client knows
-abbrev pub place_of : Bool → Octets → ℕ → Option (List ℕ) → ClientState
-place_of alive held number folder = record { alive = alive; unread = held; number = number; selected = folder }
+abbrev pub place_of : Bool → Octets → ℕ → Option (List ℕ) → Bool → ClientState
+place_of alive held number folder special = record { alive = alive; unread = held; number = number; selected = folder; special_use = special }
 
 -- a client that isn't alive
 pub stands_ended : (life : LinkLife) → life.goes_on ≡ false → IsLife life → Stands fresh life
@@ -97,6 +98,7 @@ stands_ended life is spelled =
       selected_is = rw is refl;
       unread_is = λ on. absurd (cc (on, is));
       number_is = λ on. absurd (cc (on, is));
+      special_use_is = λ on. absurd (cc (on, is));
       spelled = spelled;
     }
 
@@ -140,12 +142,12 @@ goes_ok {es} life on command x n before after up client folder n_is before_is fo
     )
 
 -- the life goes on
-pub goes_on : {es : List Event} (life : LinkLife) (command : Command) (x : Exchange) (now folder : Option (List ℕ)) (n : ℕ) (alive up : Bool) (before after : Octets) → alive ≡ true
-    → up ≡ true → Stands (place_of alive before n folder) life → IsOf command folder x now → Converses (tag_of n) (command_pieces command n) before after up
-    (answer_of (Ok (x, now))) es → (left : LinkLife) × IsExchanged life command left (place_of alive after (n + 1) now) (Ok x) es
-goes_on life command x now folder n alive up before after is_alive is_up stands of so =
+pub goes_on : {es : List Event} (life : LinkLife) (command : Command) (x : Exchange) (now folder : Option (List ℕ)) (special : Bool) (n : ℕ) (alive up : Bool)
+    (before after : Octets) → alive ≡ true → up ≡ true → Stands (place_of alive before n folder special) life → IsOf command folder x now → Converses (tag_of n) (command_pieces command n) before after up
+    (answer_of (Ok (x, now))) es → (left : LinkLife) × IsExchanged life command left (place_of alive after (n + 1) now (special_use_after special x)) (Ok x) es
+goes_on life command x now folder special n alive up before after is_alive is_up stands of so =
     let on : life.goes_on ≡ true = sym stands.alive ∙ is_alive in
-    goes_ok life on command x n before after up (place_of alive after (n + 1) now) folder (stands.number_is on)
+    goes_ok life on command x n before after up (place_of alive after (n + 1) now (special_use_after special x)) folder (stands.number_is on)
     (stands.unread_is on) stands.selected_is of.command_is of.selected_is so (λ gave took here given.
     let next = with_exchange life gave took x after.octets up in
     record {
@@ -154,6 +156,8 @@ goes_on life command x now folder n alive up before after is_alive is_up stands 
           (fold-append selected_after None life.exchanges (x ∷ [])) ∙ sym (selected_of next is_up);
       unread_is = λ _. (λ i. record { octets = after.octets; given = (given ∙ sym (length-append life.gave gave)) i });
       number_is = λ _. ap (λ (k : ℕ). k + 1) (stands.number_is on ∙ sym (length-append life.exchanges (x ∷ [])));
+      special_use_is = λ _. ap (λ (b : Bool). special_use_after b x) (stands.special_use_is on)
+          ∙ sym (fold-append special_use_after false life.exchanges (x ∷ []));
       spelled = life_more life gave took after.octets x up on stands.spelled here;
     })
   where
@@ -161,19 +165,19 @@ goes_on life command x now folder n alive up before after is_alive is_up stands 
     selected_after_by same same' = (λ i. selected_by (sym same i) x.status (same' i))
 
 -- the store refused while the link failed
-pub goes_down : {es : List Event} (life : LinkLife) (command : Command) (x : Exchange) (now folder : Option (List ℕ)) (n : ℕ) (alive up : Bool) (before after : Octets)
-    → alive ≡ true → up ≡ false → Stands (place_of alive before n folder) life → IsOf command folder x now → Converses (tag_of n) (command_pieces command n) before after up
+pub goes_down : {es : List Event} (life : LinkLife) (command : Command) (x : Exchange) (now folder : Option (List ℕ)) (special : Bool) (n : ℕ) (alive up : Bool)
+    (before after : Octets) → alive ≡ true → up ≡ false → Stands (place_of alive before n folder special) life → IsOf command folder x now → Converses (tag_of n) (command_pieces command n) before after up
     (answer_of (Ok (x, now))) es → (left : LinkLife) × IsExchanged life command left fresh (Ok x) es
-goes_down life command x now folder n alive up before after is_alive is_down stands of so =
+goes_down life command x now folder special n alive up before after is_alive is_down stands of so =
     let on : life.goes_on ≡ true = sym stands.alive ∙ is_alive in
     goes_ok life on command x n before after up fresh folder (stands.number_is on) (stands.unread_is on) stands.selected_is of.command_is of.selected_is so
     (λ gave took here given. stands_ended (with_exchange life gave took x after.octets up) is_down (life_more life gave took after.octets x up on stands.spelled here))
 
 -- the exchange isn't completed
-pub goes_not : {xs : List Event} (ys : List Event) (life : LinkLife) (command : Command) (e : LinkEnd) (folder : Option (List ℕ)) (n : ℕ) (alive up : Bool) (before after : Octets)
-    → alive ≡ true → Stands (place_of alive before n folder) life → Converses (tag_of n) (command_pieces command n) before after up (Err e) xs → HangsUp up ys → (left : LinkLife)
+pub goes_not : {xs : List Event} (ys : List Event) (life : LinkLife) (command : Command) (e : LinkEnd) (folder : Option (List ℕ)) (special : Bool) (n : ℕ) (alive up : Bool)
+    (before after : Octets) → alive ≡ true → Stands (place_of alive before n folder special) life → Converses (tag_of n) (command_pieces command n) before after up (Err e) xs → HangsUp up ys → (left : LinkLife)
     × IsExchanged life command left fresh (Err e) (xs ++ ys)
-goes_not {xs} ys life command e folder n alive up before after is_alive stands so hangs =
+goes_not {xs} ys life command e folder special n alive up before after is_alive stands so hangs =
     let on : life.goes_on ≡ true = sym stands.alive ∙ is_alive in
     let there : Converses (tag_of (next_number life)) (command_pieces command (next_number life)) (unread life) after up (Err e) xs =
     subst (λ (u : Octets). Converses (tag_of (next_number life)) (command_pieces command (next_number life)) u after up (Err e) xs) (stands.unread_is on)

@@ -27,7 +27,7 @@ use Rattle.imap_client.specs.declared.plan.Due.{Due}
 use Rattle.imap_client.specs.declared.plan.Due.TheVariants as due
 use Rattle.imap_client.specs.declared.plan.Refusal.{Refusal}
 use Rattle.imap_client.specs.Refusals.{refusal_end}
-use Rattle.imap_client.specs.LinkLife.{LinkLife, ClientState, next_number, selected, selected_after, unread}
+use Rattle.imap_client.specs.LinkLife.{LinkLife, ClientState, next_number, selected, selected_after, special_use, unread}
 use Rattle.imap_client.specs.Plans.{Planned, Ran, Begun, Then, IsEnd, Finished, Failed, Broken, Gone, Wanting, Follows}
 use Rattle.imap_client.specs.Decided.{IsDecided}
 use Rattle.imap_client.specs.Bodies.{BodyState, FetchesBody, body_from, body_start, body_step, without_body}
@@ -358,7 +358,7 @@ pub one_round : (before after mail : Mail) (life left other : LinkLife) (client 
     → Rounds before after life left client r es → Rounds before mail life other also s fs
     → flat_map store_gave_in es ++ more ≡ flat_map store_gave_in fs ++ later → IsDecided r → IsDecided s → (after ≡ mail) × (r ≡ s)
 one_round before after mail life left other client also r s es fs more later f g stream first second =
-    let same = one_run (round_plan before) life left other f.exchanges g.exchanges client also r s es fs more later f.follows g.follows stream first second in
+    let same = one_run (round_plan (special_use life) before) life left other f.exchanges g.exchanges client also r s es fs more later f.follows g.follows stream first second in
     (f.told (λ is. subst IsDecided is first) ∙ ap (λ (xs : List Exchange). fold tell before xs) same.0 ∙ sym (g.told (λ is. subst IsDecided is second)), same.1)
 
 -- what is fetched where the exchanges and the ends are the same

@@ -20,7 +20,7 @@ use Rattle.imap_client.specs.declared.plan.Refusal.{Refusal}
 use Rattle.imap_client.specs.declared.plan.Refusal.TheVariants as refusal
 use Rattle.imap_client.specs.Connecting.{is_ok}
 use Rattle.imap_client.specs.Plans.{StopsAtRefusal, HearsAll, HeardNone, HeardMore, Follows, FollowsTo}
-use Rattle.imap_client.specs.LinkLife.{LinkLife, ClientState, selected}
+use Rattle.imap_client.specs.LinkLife.{LinkLife, ClientState, selected, special_use}
 use Rattle.imap_client.specs.reading.Keeping.{KeepsMirror}
 use Rattle.imap_client.specs.Rounds.{AllTellKnown, CountsOn, KeepsCount, Rounds, RoundState, round_due, round_step, round_from}
 use Rattle.imap_client.specs.Bodies.{BodyState, body_step, body_from, body_due, body_begun, body_start, select_due, HasBody, FetchesBody}
@@ -138,11 +138,11 @@ round_tells = record { tells = λ s d x heard. ap (λ (v : RoundState). v.mail) 
 
 -- a round that was followed
 pub rounded : {life left : LinkLife} {client : ClientState} {result : Result (Unit {0}) LinkEnd} {es : List Event} (before after : Told) (first last : Round)
-    → first.stage ≡ stage.Listing → first.mirror ≡ before → last.mirror ≡ after
+    → first.stage ≡ stage.Listing (special_use life) → first.mirror ≡ before → last.mirror ≡ after
     → FollowsTo (λ (r : Round). round_from (round_view r)) RoundHears first last life left client result es
     → (rounds : Rounds before.mail after.mail life left client result es) × KeepsCount before after result rounds.exchanges
 rounded {life} {left} {client} {result} {es} before after first last stage_is before_is after_is f =
-    let begins : round_view first ≡ record { stage = stage.Listing; mail = before.mail } = (λ i. record { stage = stage_is i; mail = (before_is i).mail }) in
+    let begins : round_view first ≡ record { stage = stage.Listing (special_use life); mail = before.mail } = (λ i. record { stage = stage_is i; mail = (before_is i).mail }) in
     let told_is : (heard : HearsAll RoundHears first f.exchanges last) → last.mirror.mail ≡ fold tell first.mirror.mail f.exchanges = λ heard.
     folded (λ (r : Round). r.mirror.mail) tell round_tells.tells heard in (
       record {

@@ -19,7 +19,7 @@ use Rattle.imap_client.specs.declared.plan.Refusal.TheVariants as refusal
 use Rattle.imap_client.specs.declared.body.BodyStage.{BodyStage}
 use Rattle.imap_client.specs.declared.body.BodyStage.TheVariants as stage
 use Rattle.imap_client.specs.Connecting.{is_ok}
-use Rattle.imap_client.specs.Rounds.{select_of}
+use Rattle.imap_client.specs.Selecting.{select_of, tells_kept}
 use Rattle.imap_client.specs.LinkLife.{LinkLife, ClientState, selected}
 use Rattle.imap_client.specs.Plans.{Planned, Follows}
 
@@ -61,9 +61,9 @@ abbrev pub folder_validity : Option Folder → ℕ
 folder_validity (Some f) = f.validity
 folder_validity None = 0
 
--- another validity: it is another folder
-abbrev pub selected_body_stage : ℕ → ℕ → BodyStage
-selected_body_stage validity told = if told == validity then stage.Fetching else stage.Failing refusal.Lacks
+-- another validity, or none: it may be another folder
+abbrev pub selected_body_stage : ℕ → List Response → BodyStage
+selected_body_stage validity rs = if tells_kept validity rs then stage.Fetching else stage.Failing refusal.Lacks
 
 abbrev pub HasBody : BodyStage → Type 0
 HasBody (stage.Fetched body) = Unit {0}
@@ -73,15 +73,15 @@ abbrev pub fetched : Option (List ℕ) → BodyStage
 fetched (Some body) = stage.Fetched body
 fetched None = stage.Failing refusal.Lacks
 
--- The stage once an exchange is answered OK: the validity before it, its responses, and the mail that is told then.
-abbrev pub body_obeyed : ℕ → ℕ → BodyStage → ℕ → List Response → Mail → BodyStage
-body_obeyed folder uid stage.Selecting validity rs told = selected_body_stage validity (folder_validity (folder_in told.folders folder))
-body_obeyed folder uid stage.Fetching validity rs told = fetched (last_body uid rs)
-body_obeyed folder uid (stage.Fetched body) validity rs told = stage.Fetched body
-body_obeyed folder uid (stage.Failing why) validity rs told = stage.Failing why
+-- The stage once an exchange is answered OK: the validity under which the folder is kept, and its responses.
+abbrev pub body_obeyed : ℕ → BodyStage → ℕ → List Response → BodyStage
+body_obeyed uid stage.Selecting validity rs = selected_body_stage validity rs
+body_obeyed uid stage.Fetching validity rs = fetched (last_body uid rs)
+body_obeyed uid (stage.Fetched body) validity rs = stage.Fetched body
+body_obeyed uid (stage.Failing why) validity rs = stage.Failing why
 
-abbrev pub body_after : ℕ → ℕ → BodyStage → ℕ → Exchange → Mail → BodyStage
-body_after folder uid s validity x told = if is_ok x.status then body_obeyed folder uid s validity x.responses told else stage.Failing refusal.Refused
+abbrev pub body_after : ℕ → BodyStage → ℕ → Exchange → BodyStage
+body_after uid s validity x = if is_ok x.status then body_obeyed uid s validity x.responses else stage.Failing refusal.Refused
 
 -- the fetch so far: how far it is, and the mail that is told
 pub record BodyState : Type 0 where
@@ -90,9 +90,8 @@ pub record BodyState : Type 0 where
 
 abbrev pub body_step : ℕ → ℕ → BodyState → Exchange → BodyState
 body_step folder uid s x = record {
-  stage = body_after folder uid s.stage (folder_validity (folder_in s.mail.folders folder)) x (tell s.mail x);
-  mail =
-      tell s.mail x;
+  stage = body_after uid s.stage (folder_validity (folder_in s.mail.folders folder)) x;
+  mail = tell s.mail x;
 }
 
 -- what is asked next from here, once these exchanges are completed

@@ -8,7 +8,7 @@ use Rattle.gate_world.specs.declared.event.Event.TheVariants.{Dialed, LinkEnded}
 use Rattle.gate_world.specs.Octets.{Talk}
 use Rattle.imap_syntax.specs.declared.command.Command.TheVariants as command
 use Rattle.imap_syntax.specs.declared.response.Response.{Response}
-use Rattle.imap_syntax.specs.declared.response.Response.TheVariants.{Untagged, Capability, Enabled}
+use Rattle.imap_syntax.specs.declared.response.Response.TheVariants.{Untagged, Enabled}
 use Rattle.imap_syntax.specs.declared.response.Status.{Status}
 use Rattle.imap_syntax.specs.declared.response.Status.TheVariants as status
 use Rattle.imap_grammar.specs.Scan.{ScanOf}
@@ -26,6 +26,7 @@ use Rattle.imap_client.specs.declared.plan.Due.TheVariants as due
 use Rattle.imap_client.specs.declared.plan.Refusal.TheVariants as refusal
 use Rattle.imap_client.specs.declared.connection.Stage.{Stage}
 use Rattle.imap_client.specs.declared.connection.Stage.TheVariants as stage
+use Rattle.imap_client.specs.Capabilities.{tells}
 use Rattle.imap_client.specs.LinkLife.{LinkLife, ClientState}
 use Rattle.imap_client.specs.Plans.{Planned, Follows}
 
@@ -74,18 +75,10 @@ abbrev pub is_ok : Status → Bool
 is_ok status.Ok = true
 is_ok _ = false
 
--- The word is among the capabilities that the response tells, or among those that it says are enabled, in letters of either
--- case (section 9).
-abbrev pub has_capability : List ℕ → Response → Bool
-has_capability word (Capability words) = list_any (str_eq_ignore_ascii_case word) words
-has_capability word _ = false
-
+-- the word is among those that the response says are enabled, in letters of either case (section 9)
 abbrev pub has_enabled : List ℕ → Response → Bool
 has_enabled word (Enabled words) = list_any (str_eq_ignore_ascii_case word) words
 has_enabled word _ = false
-
-abbrev pub tells : List ℕ → Exchange → Bool
-tells word x = list_any (has_capability word) x.responses
 
 abbrev pub enables : List ℕ → Exchange → Bool
 enables word x = list_any (has_enabled word) x.responses

@@ -1,5 +1,6 @@
 -- Plans says how what is asked in order is followed; Connecting, Rounds and Bodies are such plans. Sent, Decided, WholeRounds and WholeFetches
 -- are for laws.
+pub mod Capabilities
 pub mod LinkLife
 pub mod Calls
 pub mod Refusals
@@ -8,6 +9,8 @@ pub mod Obeying
 pub mod Sent
 pub mod Decided
 pub mod Connecting
+pub mod Connected
+pub mod Selecting
 pub mod Rounds
 pub mod WholeRounds
 pub mod Bodies

@@ -7,6 +7,7 @@ use Rattle.imap_exchange.specs.Received.{Octets, nothing_given, room_left}
 use Rattle.imap_exchange.specs.Begins.{Begins}
 use Rattle.imap_exchange.specs.Exchanges.{Done, VerdictOf, IsTaken}
 use Rattle.imap_exchange.specs.Answering.{selected_by}
+use Rattle.imap_client.specs.Capabilities.{special_use_after}
 
 -- A link life so far: what the store gave, its greeting, the exchanges that are completed, what the store took of their
 -- commands, what it gave after the last of them, what it took of a command that isn't completed, and whether the life goes on.
@@ -29,6 +30,10 @@ selected_after before x = selected_by x.command x.status before
 -- the selected folder
 abbrev pub selected : LinkLife → Option (List ℕ)
 selected life = if life.goes_on then fold selected_after None life.exchanges else None
+
+-- whether the store told at its last CAPABILITY that it tells special-use attributes where they are asked
+abbrev pub special_use : LinkLife → Bool
+special_use life = fold special_use_after false life.exchanges
 
 -- the octets that no completed exchange has, and how many the life gave in all
 abbrev pub unread : LinkLife → Octets
@@ -93,20 +98,21 @@ hung_up life = record {
 
 -- ---- what a client knows
 
--- whether its life goes on, what isn't read, the next command's number and the selected folder
+-- whether its life goes on, what isn't read, the next command's number, the selected folder, and whether the store has SPECIAL-USE
 pub record ClientState : Type 0 where
   pub alive : Bool
   pub unread : Octets
   pub number : ℕ
   pub selected : Option (List ℕ)
+  pub special_use : Bool
 
 -- a client that isn't alive
 abbrev pub fresh : ClientState
-fresh = record { alive = false; unread = nothing_given; number = 1; selected = None }
+fresh = record { alive = false; unread = nothing_given; number = 1; selected = None; special_use = false }
 
 -- a client of which the greeting was read
 abbrev pub begun_with : Octets → ClientState
-begun_with received = record { alive = true; unread = received; number = 1; selected = None }
+begun_with received = record { alive = true; unread = received; number = 1; selected = None; special_use = false }
 
 -- how much can still come in the life of a client
 abbrev pub life_left : ClientState → ℕ
@@ -118,4 +124,5 @@ pub record Stands (client : ClientState) (life : LinkLife) : Type 0 where
   pub selected_is : client.selected ≡ selected life
   pub unread_is : IsTrue life.goes_on → client.unread ≡ unread life
   pub number_is : IsTrue life.goes_on → client.number ≡ next_number life
+  pub special_use_is : IsTrue life.goes_on → client.special_use ≡ special_use life
   pub spelled : IsLife life

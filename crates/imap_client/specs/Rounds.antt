@@ -15,7 +15,7 @@ use Rattle.told_folder.specs.declared.message.Folder.{Folder}
 use Rattle.told_folder.specs.declared.message.Held.{Held}
 use Rattle.told_mail.specs.Mail.{Mail}
 use Rattle.told_mail.specs.Told.{Told}
-use Rattle.told_mail.specs.Exchanges.{after_closed, last_told, tell, TellsKnown, validity_in}
+use Rattle.told_mail.specs.Exchanges.{after_closed, last_told, tell, TellsKnown}
 use Rattle.imap_exchange.specs.declared.link_end.LinkEnd.{LinkEnd}
 use Rattle.imap_exchange.specs.declared.link_end.LinkEnd.TheVariants as end
 use Rattle.imap_client.specs.declared.plan.Due.{Due}
@@ -25,8 +25,9 @@ use Rattle.imap_client.specs.declared.round.RoundStage.{RoundStage}
 use Rattle.imap_client.specs.declared.round.RoundStage.TheVariants as stage
 use Rattle.imap_client.specs.declared.round.TheConstants.{SLICE_UIDS}
 use Rattle.imap_client.specs.Connecting.{is_ok}
-use Rattle.imap_client.specs.LinkLife.{LinkLife, ClientState}
+use Rattle.imap_client.specs.LinkLife.{LinkLife, ClientState, special_use}
 use Rattle.imap_client.specs.Plans.{Planned, Follows}
+use Rattle.imap_client.specs.Selecting.{select_of, tells_validity}
 
 -- ---- the count of changes
 
@@ -60,19 +61,12 @@ selectable_from at (h ∷ hs) = if is_selectable h then Some at else selectable_
 
 -- ---- commands
 
--- the validity and the mod-sequence up to which a folder is known
-abbrev pub known_folder : Folder → Option (ℕ × ℕ)
-known_folder f = if f.validity == 0 || f.modseq == 0 then None else Some (f.validity, f.modseq)
-
 abbrev pub has_modseqs : Folder → Bool
 has_modseqs f = not (f.modseq == 0)
 
 -- more UIDs may be new than one slice has
 abbrev pub is_sliced : ℕ → Folder → Bool
 is_sliced uid_next f = nat_lt (f.next + SLICE_UIDS) uid_next
-
-abbrev pub select_of : Folder → Due
-select_of f = due.Send (command.Select f.name (known_folder f))
 
 -- a slice of the headers that are new
 abbrev pub slice_of : Folder → Command
@@ -92,7 +86,7 @@ of_folder asked (Some h) = asked h.folder
 of_folder asked None = due.Fails refusal.Lacks
 
 abbrev pub round_due : RoundStage → Mail → Due
-round_due stage.Listing m = due.Send command.List
+round_due (stage.Listing special_use) m = due.Send (command.List special_use)
 round_due (stage.Selecting at) m = of_folder select_of (slice_get m.folders at)
 round_due (stage.FetchingFlags at uid_next) m = due.Send command.FetchFlags
 round_due (stage.FetchingHeaders at uid_next) m = of_folder (headers_of uid_next) (slice_get m.folders at)
@@ -108,9 +102,6 @@ uid_next_in _ = None
 -- the last UIDNEXT that a SELECT tells of its folder; 0 where it tells none
 abbrev pub uid_next_told : List Response → ℕ
 uid_next_told rs = last_told uid_next_in 0 (after_closed rs)
-
-abbrev pub tells_validity : List Response → Bool
-tells_validity rs = list_any (λ r. is_some (validity_in r)) (after_closed rs)
 
 -- ---- stages
 
@@ -144,7 +135,7 @@ fetched_stage sliced at uid_next told = if sliced then stage.FetchingHeaders at 
 
 -- The stage once an exchange is answered OK: whether a slice was due, its responses, and the mail that is told then.
 abbrev pub obeyed : RoundStage → Bool → List Response → Mail → RoundStage
-obeyed stage.Listing sliced rs told = next_stage 0 told
+obeyed (stage.Listing special_use) sliced rs told = next_stage 0 told
 obeyed (stage.Selecting at) sliced rs told = selected_stage at rs told
 obeyed (stage.FetchingFlags at uid_next) sliced rs told = stage.FetchingHeaders at uid_next
 obeyed (stage.FetchingHeaders at uid_next) sliced rs told = fetched_stage sliced at uid_next told
@@ -166,12 +157,12 @@ round_step s x = record { stage = round_after s.stage (is_slicing s.stage s.mail
 abbrev pub round_from : RoundState → Planned
 round_from s xs = let now = fold round_step s xs in round_due now.stage now.mail
 
--- what a round asks, where this mail was told before
-abbrev pub round_plan : Mail → Planned
-round_plan m = round_from (record { stage = stage.Listing; mail = m })
+-- what a round asks, of a store that has SPECIAL-USE or not, where this mail was told before
+abbrev pub round_plan : Bool → Mail → Planned
+round_plan special_use m = round_from (record { stage = stage.Listing special_use; mail = m })
 
 -- A round in a life, and the life that is left: the mail is what completed exchanges told, in order, unless memory ran out.
 pub record Rounds (before after : Mail) (life left : LinkLife) (client : ClientState) (result : Result (Unit {0}) LinkEnd) (events : List Event) : Type 0 where
   pub exchanges : List Exchange
-  pub follows : Follows (round_plan before) life left exchanges client result events
+  pub follows : Follows (round_plan (special_use life) before) life left exchanges client result events
   pub told : result ≢ Err end.Memory → after ≡ fold tell before exchanges

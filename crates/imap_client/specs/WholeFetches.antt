@@ -7,23 +7,23 @@ use Rattle.imap_syntax.specs.declared.command.Command.TheVariants as command
 use Rattle.told_folder.specs.declared.exchange.Exchange.{Exchange}
 use Rattle.told_folder.specs.declared.message.Folder.{Folder}
 use Rattle.told_mail.specs.Mail.{Mail, folder_in}
-use Rattle.imap_client.specs.Bodies.{folder_validity, is_selected, last_body}
+use Rattle.imap_client.specs.Bodies.{is_selected, last_body}
 use Rattle.imap_client.specs.LinkLife.{LinkLife, next_number, selected}
-use Rattle.imap_client.specs.Rounds.{known_folder}
-use Rattle.imap_client.specs.WholeRounds.{IsObeyed, texts_from}
+use Rattle.imap_client.specs.Selecting.{known_folder, validity_told}
+use Rattle.imap_client.specs.WholeRounds.{IsObeyed, SelectedAlong, texts_from}
 
 -- the folder of this number, as it is told
 pub record FolderOf (folder : ℕ) (mail : Mail) : Type 0 where
   pub told : Folder
   pub there : folder_in mail.folders folder ≡ Some told
 
--- The folder is selected: its SELECT was answered OK, and told no other UIDVALIDITY.
+-- The folder is selected: its SELECT was answered OK, and told the UIDVALIDITY under which the folder is kept.
 pub record SelectsFolder (folder : ℕ) (before : Mail) : Type 0 where
   pub of : FolderOf folder before
   pub exchange : Exchange
   pub after : Mail
   pub obeyed : IsObeyed (command.Select of.told.name (known_folder of.told)) before exchange after
-  pub same : folder_validity (folder_in after.folders folder) ≡ of.told.validity
+  pub same : validity_told exchange.responses ≡ Some of.told.validity
 
 -- The body is fetched: its FETCH was answered OK, and the last body that it told for the UID are these octets.
 pub record FetchesOctets (uid : ℕ) (octets : List ℕ) (before : Mail) : Type 0 where
@@ -43,5 +43,6 @@ pub data IsWholeFetch (folder uid : ℕ) (selected : Option (List ℕ)) (octets 
 pub record IsFinishedFetch (folder uid : ℕ) (before after : Mail) (life left : LinkLife) (octets : List ℕ) (events : List Event) : Type 0 where
   pub exchanges : List Exchange
   pub whole : IsWholeFetch folder uid (selected life) octets before exchanges after
+  pub along : SelectedAlong (selected life) exchanges
   pub completed : left.exchanges ≡ life.exchanges ++ exchanges
   pub sent : flat_map store_took_in events ≡ texts_from (next_number life) exchanges

@@ -1,6 +1,6 @@
 -- A round that is done: which commands were sent in it, and what they told (RFC 9051 sections 6.3.2, 6.3.9 and 6.4.5, RFC 7162
 -- section 3.2.5).
-use Rattle.std.specs.Prelude.{◌≡◌, ◌++◌, ◌+◌, ℕ, true, false, List, [], ◌∷◌, drop, slice_get, Some, None}
+use Rattle.std.specs.Prelude.{◌≡◌, ◌++◌, ◌+◌, ℕ, Bool, true, false, List, [], ◌∷◌, drop, slice_get, Option, Some, None}
 use Rattle.std.specs.List.{flat_map}
 use Rattle.gate_world.specs.declared.event.Event.{Event}
 use Rattle.gate_world.specs.Octets.{store_took_in}
@@ -13,8 +13,9 @@ use Rattle.told_folder.specs.declared.message.Folder.{Folder}
 use Rattle.told_folder.specs.declared.message.Held.{Held}
 use Rattle.told_mail.specs.Mail.{Mail}
 use Rattle.told_mail.specs.Exchanges.{tell}
-use Rattle.imap_client.specs.LinkLife.{LinkLife, next_number}
-use Rattle.imap_client.specs.Rounds.{selectable_from, known_folder, has_modseqs, is_sliced, slice_of, new_of, uid_next_told, tells_validity}
+use Rattle.imap_client.specs.LinkLife.{LinkLife, next_number, selected, selected_after, special_use}
+use Rattle.imap_client.specs.Rounds.{selectable_from, has_modseqs, is_sliced, slice_of, new_of, uid_next_told}
+use Rattle.imap_client.specs.Selecting.{known_folder, tells_validity}
 
 -- the exchange is of the command and was answered OK, and the mail after it is what it told
 pub record IsObeyed (asked : Command) (before : Mail) (x : Exchange) (after : Mail) : Type 0 where
@@ -70,13 +71,13 @@ pub data VisitsFrom : ℕ → Mail → List Exchange → Mail → Type 0 where
   Visits : {from : ℕ} {before after : Mail} {xs : List Exchange} (next : NextFolder from before) → VisitsFrom (next.at + 1) next.after xs after
       → VisitsFrom from before (next.exchanges ++ xs) after
 
--- A whole round: LIST, and then each folder that can be selected of those that are told then.
-pub record IsWholeRound (before : Mail) (exchanges : List Exchange) (after : Mail) : Type 0 where
+-- A whole round: LIST, with the special uses or not, and then each folder that can be selected of those that are told then.
+pub record IsWholeRound (special_use : Bool) (before : Mail) (exchanges : List Exchange) (after : Mail) : Type 0 where
   pub listing : Exchange
   pub others : List Exchange
   pub listed : Mail
   pub parts : exchanges ≡ listing ∷ others
-  pub list_is : IsObeyed command.List before listing listed
+  pub list_is : IsObeyed (command.List special_use) before listing listed
   pub visits : VisitsFrom 0 listed others after
 
 -- the texts of these exchanges' commands, numbered from n on
@@ -84,9 +85,16 @@ abbrev pub texts_from : ℕ → List Exchange → List ℕ
 texts_from n [] = []
 texts_from n (x ∷ xs) = command_text x.command n ++ texts_from (n + 1) xs
 
--- The round is done: the store took exactly the commands of a whole round, and the mail is what these told.
+-- At each of these exchanges the folder is selected that those before it leave selected, where this one is at first.
+abbrev pub SelectedAlong : Option (List ℕ) → List Exchange → Type 0
+SelectedAlong now [] = Unit {0}
+SelectedAlong now (x ∷ xs) = (x.selected ≡ now) × SelectedAlong (selected_after now x) xs
+
+-- The round is done: the store took exactly the commands of a whole round, and the mail is what these told. The special uses are asked
+-- where the store has SPECIAL-USE.
 pub record IsFinishedRound (before after : Mail) (life left : LinkLife) (events : List Event) : Type 0 where
   pub exchanges : List Exchange
-  pub whole : IsWholeRound before exchanges after
+  pub whole : IsWholeRound (special_use life) before exchanges after
+  pub along : SelectedAlong (selected life) exchanges
   pub completed : left.exchanges ≡ life.exchanges ++ exchanges
   pub sent : flat_map store_took_in events ≡ texts_from (next_number life) exchanges

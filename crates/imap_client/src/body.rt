@@ -15,7 +15,7 @@ use crate::client::Client;
 use crate::connection::is_ok;
 use crate::following::follow;
 use crate::plan::{Due, Plan, Refusal};
-use crate::round::select_of;
+use crate::selecting::{select_of, tells_kept};
 use gate_world::{Bytes, Link};
 use imap_exchange::LinkEnd;
 use imap_syntax::{Command, FetchItems, Response};
@@ -106,11 +106,11 @@ fn validity_of(folder: Option<&Folder>) -> u32
     }
 }
 
-/// The stage once the folder is selected, which had this validity before.
-fn selected(validity: u32, told: u32) -> BodyStage
-    ensures { result ≡ bodies.selected_body_stage validity told }
+/// The stage once the folder is selected, which is kept under this validity.
+fn selected(validity: u32, responses: &[Response]) -> BodyStage
+    ensures { result ≡ bodies.selected_body_stage validity responses.now }
 {
-    if told == validity {
+    if tells_kept(validity, responses) {
         BodyStage::Fetching
     } else {
         BodyStage::Failing(Refusal::Lacks)
@@ -158,15 +158,15 @@ impl BodyFetch {
         validity_of(self.mirror.folder(self.folder))
     }
 
-    /// The stage once an exchange is completed, before which the folder had this validity.
+    /// The stage once an exchange is completed, where the folder is kept under this validity.
     fn stage_after(&self, validity: u32, x: &Exchange) -> Result<BodyStage, AllocError>
-        ensures { IfOk result (λ stage. stage ≡ bodies.body_after self.now.folder self.now.uid self.now.stage validity x.now self.now.mirror.mail) }
+        ensures { IfOk result (λ stage. stage ≡ bodies.body_after self.now.uid self.now.stage validity x.now) }
     {
         if !is_ok(x.status) {
             return Ok(BodyStage::Failing(Refusal::Refused));
         }
         match &self.stage {
-            BodyStage::Selecting => Ok(selected(validity, self.validity())),
+            BodyStage::Selecting => Ok(selected(validity, x.responses.as_slice())),
             BodyStage::Fetching => fetched(last_body(self.uid, x.responses.as_slice())),
             BodyStage::Fetched(body) => Ok(BodyStage::Fetched(body.share()?)),
             BodyStage::Failing(why) => Ok(BodyStage::Failing(*why)),

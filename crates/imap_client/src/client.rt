@@ -9,6 +9,7 @@ ghost use Rattle.imap_exchange.specs.Answering.{HangsUp};
 ghost use Rattle.imap_client.specs.LinkLife.{LinkLife, Stands, fresh, begun_with, life_left};
 ghost use Rattle.imap_client.specs.Calls.{IsExchanged};
 
+use crate::connection::special_use_after;
 use gate_world::{Bytes, Link};
 use imap_exchange::{LinkEnd, Received, complete, hang_up_where};
 use imap_syntax::Command;
@@ -23,6 +24,7 @@ pub struct Client {
     unread: Received,
     number: u64,
     selected: Option<Bytes>,
+    special_use: bool,
     alloc: Global,
 }
 
@@ -33,7 +35,7 @@ impl Model for Client {
 
     ghost Value = { ClientState };
 
-    ghost view = { λ c. record { alive = c.alive; unread = c.unread; number = c.number; selected = c.selected } };
+    ghost view = { λ c. record { alive = c.alive; unread = c.unread; number = c.number; selected = c.selected; special_use = c.special_use } };
 
     ghost invariant = { λ c. c.number + room_left c.unread ≤ most_given + 1 };
 }
@@ -48,6 +50,7 @@ impl Client {
             unread: Received::new(alloc),
             number: 1,
             selected: None,
+            special_use: false,
             alloc,
         }
     }
@@ -69,6 +72,14 @@ impl Client {
         }
     }
 
+    /// Whether the store told at its last CAPABILITY that it tells special-use attributes where they are asked (RFC 6154 section 2);
+    /// false where the client isn't alive.
+    pub(crate) fn special_use(&self) -> bool
+        ensures { result ≡ self.now.special_use }
+    {
+        self.special_use
+    }
+
     /// Where its memory comes from.
     pub(crate) fn allocator(&self) -> Global {
         self.alloc
@@ -83,6 +94,7 @@ impl Client {
         self.unread = unread;
         self.number = 1;
         self.selected = None;
+        self.special_use = false;
     }
 
     /// The link life is over.
@@ -93,6 +105,7 @@ impl Client {
         self.unread = Received::new(self.alloc);
         self.number = 1;
         self.selected = None;
+        self.special_use = false;
     }
 
     /// Ends the link life, where it goes on.
@@ -137,6 +150,7 @@ impl Client {
                 }
                 self.number += 1;
                 self.selected = now;
+                self.special_use = special_use_after(self.special_use, &x);
                 Ok(x)
             }
             Err(end) => {
@@ -145,6 +159,7 @@ impl Client {
                 self.unread = Received::new(self.alloc);
                 self.number = 1;
                 self.selected = None;
+                self.special_use = false;
                 Err(end)
             }
         }

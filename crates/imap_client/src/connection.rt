@@ -2,7 +2,8 @@
 ghost use Rattle.std.specs.Prelude.{◌≡◌, ◌&&◌, IfOk, codes};
 ghost use Rattle.std.specs.Str.{str_eq_ignore_ascii_case};
 ghost use Rattle.std.specs.List.{list_any};
-ghost use Rattle.imap_client.specs.Connecting.{is_ok as ok_test, has_capability as capability_test, has_enabled as enabled_test, tells as tells_test, enables as enables_test, stage_after, due_at, planned_from};
+ghost use Rattle.imap_client.specs.Capabilities.{has_capability as capability_test, tells as tells_test, special_use_after as special_use_told};
+ghost use Rattle.imap_client.specs.Connecting.{is_ok as ok_test, has_enabled as enabled_test, enables as enables_test, stage_after, due_at, planned_from};
 
 use crate::plan::{Due, Plan, Refusal};
 use gate_world::Bytes;
@@ -83,6 +84,16 @@ fn tells(x: &Exchange, word: &[u8]) -> bool
         .as_slice()
         .iter()
         .any(|response| has_capability(response, word))
+}
+
+/// Whether the store tells special-use attributes where they are asked, by what it told before and in this exchange.
+pub fn special_use_after(before: bool, x: &Exchange) -> bool
+    ensures { result ≡ special_use_told before x.now }
+{
+    match x.command {
+        Command::Capability => tells(x, b"SPECIAL-USE"),
+        _ => before,
+    }
 }
 
 fn enables(x: &Exchange, word: &[u8]) -> bool

@@ -1,5 +1,5 @@
 // What the definitions rule out, and what they promise.
-ghost use Rattle.std.specs.Prelude.{◌≡◌, ◌⊎◌, ◌++◌, ◌+◌, ◌∷◌, [], List, ℕ, Bool, true, Ok, Err, Result, length};
+ghost use Rattle.std.specs.Prelude.{◌≡◌, ◌≢◌, ◌⊎◌, ◌++◌, ◌+◌, ◌∷◌, [], List, ℕ, Bool, true, Ok, Err, Some, IsSome, Option, Result, length};
 ghost use Rattle.std.specs.List.{flat_map};
 ghost use Rattle.gate_world.specs.declared.event.Event.{Event};
 ghost use Rattle.gate_world.specs.Octets.{store_gave_in, store_took_in};
@@ -9,8 +9,11 @@ ghost use Rattle.imap_exchange.specs.declared.link_end.LinkEnd.{LinkEnd};
 ghost use Rattle.imap_exchange.specs.declared.link_end.LinkEnd.TheVariants as ends;
 ghost use Rattle.imap_exchange.specs.Received.{Octets};
 ghost use Rattle.imap_exchange.specs.Begins.{Begins};
-ghost use Rattle.imap_client.specs.Bodies.{FetchesBody, without_body};
-ghost use Rattle.imap_client.specs.Connecting.{GreetsBy, greeting_says};
+ghost use Rattle.imap_client.specs.declared.plan.Due.TheVariants as dues;
+ghost use Rattle.imap_client.specs.declared.plan.Refusal.{Refusal};
+ghost use Rattle.imap_client.specs.Bodies.{FetchesBody, body_from, body_start, without_body};
+ghost use Rattle.imap_client.specs.Connected.{IsConnected};
+ghost use Rattle.imap_client.specs.Connecting.{Connects, GreetsBy, greeting_says};
 ghost use Rattle.imap_client.specs.LinkLife.{LinkLife, ClientState, next_number, selected};
 ghost use Rattle.imap_client.specs.Plans.{Planned, Follows};
 ghost use Rattle.imap_client.specs.Obeying.{Obeys};
@@ -19,12 +22,19 @@ ghost use Rattle.imap_client.specs.Rounds.{Rounds};
 ghost use Rattle.imap_client.specs.Sent.{due_texts, next_text};
 ghost use Rattle.imap_client.specs.WholeFetches.{IsFinishedFetch};
 ghost use Rattle.imap_client.specs.WholeRounds.{IsFinishedRound};
-ghost use Rattle.told_mail.specs.Mail.{Mail};
+ghost use Rattle.told_mail.specs.Mail.{Mail, folder_in};
 
 /// A BYE is no welcome.
 pub fn no_bye_is_welcome()
     ensures { (gave rest : List ℕ) (greeting : Response) (after : Octets) (preauth : Bool)
         → Begins (greeting ∷ []) rest gave → greeting_says greeting ≡ Err ends.Bye → GreetsBy gave after (Ok preauth) → ⊥ }
+{}
+
+/// A client that connected asked CAPABILITY, LOGIN unless the greeting was PREAUTH, CAPABILITY and ENABLE; and a round asks special uses
+/// exactly where the second CAPABILITY told SPECIAL-USE.
+pub fn capabilities_after_login_count()
+    ensures { (user password : List ℕ) (left : LinkLife) (client : ClientState) (events : List Event)
+        → Connects user password (Some left) client (Ok tt) events → IsConnected user password left }
 {}
 
 /// A round that ended in Ok sent exactly the commands of a whole round, in order, and the mail is what these told.
@@ -38,6 +48,16 @@ pub fn finished_rounds_are_whole()
 pub fn finished_fetches_are_whole()
     ensures { (folder uid : ℕ) (before after : Mail) (life left : LinkLife) (client : ClientState) (octets : List ℕ) (events : List Event)
         → FetchesBody folder uid before after life left client (Ok octets) events → IsFinishedFetch folder uid before after life left octets events }
+{}
+
+/// A folder that the mail has it still has after the fetch of a body, unless memory ran out; and where it has the folder of the body the
+/// fetch doesn't begin by failing.
+pub fn fetches_keep_folders()
+    ensures stay { (folder uid : ℕ) (before after : Mail) (life left : LinkLife) (client : ClientState) (result : Result (List ℕ) LinkEnd) (events : List Event)
+        → FetchesBody folder uid before after life left client result events → result ≢ Err ends.Memory → (n : ℕ)
+        → IsSome (folder_in before.folders n) → IsSome (folder_in after.folders n) }
+    ensures begin { (selected : Option (List ℕ)) (folder uid : ℕ) (m : Mail) (why : Refusal) → IsSome (folder_in m.folders folder)
+        → body_from folder uid (body_start selected m folder) [] ≢ dues.Fails why }
 {}
 
 /// After a round, or the fetch of a body, that ended in Ok the life goes on.

@@ -12,6 +12,7 @@ mod body;
 mod connection;
 mod dialing;
 mod round;
+mod selecting;
 
 // Laws.
 mod laws;
@@ -20,8 +21,8 @@ pub use client::Client;
 pub use following::follow;
 pub use imap_exchange::{LinkEnd, MAX_EXCHANGE_OCTETS, MAX_LIFE_OCTETS};
 pub use laws::{
-    commands_are_sent_in_order, finished_fetches_are_whole, finished_lives_go_on,
-    finished_rounds_are_whole, no_bye_is_welcome, obeyed_plans_end_ok, one_fetch, one_round,
-    one_run,
+    capabilities_after_login_count, commands_are_sent_in_order, fetches_keep_folders,
+    finished_fetches_are_whole, finished_lives_go_on, finished_rounds_are_whole, no_bye_is_welcome,
+    obeyed_plans_end_ok, one_fetch, one_round, one_run,
 };
 pub use plan::{Due, Plan, Refusal};

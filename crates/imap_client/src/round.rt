@@ -1,6 +1,6 @@
 // A round: LIST, and then for each folder that can be selected SELECT and what is fetched (RFC 9051 sections 6.3.2, 6.3.9
 // and 6.4.5, RFC 7162 section 3.2.5).
-ghost use Rattle.std.specs.Prelude.{◌≡◌, ◌+◌, Option, IfOk, OnOk, OnErr, IsErrOf, drop, is_some, slice_get, true};
+ghost use Rattle.std.specs.Prelude.{◌≡◌, ◌+◌, Option, IfOk, OnOk, OnErr, IsErrOf, drop, slice_get, true};
 ghost use Rattle.std.specs.List.{list_any};
 ghost use Rattle.std.specs.Option.{option_copied};
 ghost use Rattle.gate_world.specs.Causes.{Rose, LinkAlone};
@@ -9,6 +9,7 @@ ghost use Rattle.told_mail.specs.Exchanges as telling;
 ghost use Rattle.told_mail.specs.Mail.{IsNextMail};
 ghost use Rattle.imap_client.specs.LinkLife.{LinkLife, Stands, fresh};
 ghost use Rattle.imap_client.specs.Rounds as rounds;
+ghost use Rattle.imap_client.specs.Selecting as selecting;
 ghost use Rattle.imap_client.specs.reading.Keeping.{KeepsMirror};
 ghost use Rattle.imap_client.specs.Rounds.{CountsOn, KeepsCount, Rounds};
 
@@ -16,6 +17,7 @@ use crate::client::Client;
 use crate::connection::is_ok;
 use crate::following::follow;
 use crate::plan::{Due, Plan, Refusal};
+use crate::selecting::{select_of, tells_validity};
 use gate_world::{Bytes, Link};
 use imap_exchange::LinkEnd;
 use imap_syntax::{Code, Command, Response, Status};
@@ -29,8 +31,8 @@ pub const SLICE_UIDS: u64 = 10_000;
 /// How far a round is. A folder is named by its place among all, by number.
 #[derive(Clone, Copy, Debug, PartialEq, Drop)]
 pub enum RoundStage {
-    /// LIST is due.
-    Listing,
+    /// LIST is due, with the special uses where the store has SPECIAL-USE.
+    Listing { special_use: bool },
     /// SELECT of the folder is due.
     Selecting(usize),
     /// The UIDNEXT is the one that the folder's SELECT told; 0 where it told none.
@@ -84,27 +86,6 @@ fn next_stage(mirror: &Mirror, from: usize) -> RoundStage
         at += 1;
     }
     RoundStage::Finished
-}
-
-/// The validity and the mod-sequence up to which the folder is known.
-fn known_of(folder: &Folder) -> Option<(u32, u64)>
-    ensures { result ≡ rounds.known_folder folder.now }
-{
-    if folder.validity == 0 || folder.modseq == 0 {
-        None
-    } else {
-        Some((folder.validity, folder.modseq))
-    }
-}
-
-/// The SELECT of a folder.
-pub fn select_of(folder: &Folder) -> Result<Due, AllocError>
-    ensures { IfOk result (λ due. due ≡ rounds.select_of folder.now) }
-{
-    Ok(Due::Send(Command::Select {
-        name: folder.name.share()?,
-        known: known_of(folder),
-    }))
 }
 
 fn has_modseqs(folder: &Folder) -> bool
@@ -177,24 +158,6 @@ fn last_uid_next(responses: &[Response]) -> u32
     last
 }
 
-fn has_validity(response: &Response) -> bool
-    ensures { result ≡ is_some (telling.validity_in response.now) }
-{
-    match response {
-        Response::Untagged {
-            status: Status::Ok,
-            code: Code::UidValidity(_),
-        } => true,
-        _ => false,
-    }
-}
-
-fn tells_validity(responses: &[Response]) -> bool
-    ensures { result ≡ list_any (λ r. is_some (telling.validity_in r)) responses.now }
-{
-    responses.iter().any(|response| has_validity(response))
-}
-
 /// What is fetched first of a folder that is selected.
 fn fetching(mirror: &Mirror, at: usize, uid_next: u32) -> RoundStage
     ensures { result ≡ rounds.fetching at uid_next (slice_get mirror.now.mail.folders at) }
@@ -215,9 +178,8 @@ fn fetching(mirror: &Mirror, at: usize, uid_next: u32) -> RoundStage
 fn selected(mirror: &Mirror, at: usize, responses: &[Response]) -> RoundStage
     ensures { result ≡ rounds.selected_stage at responses.now mirror.now.mail }
 {
-    let responses = after_closed(responses);
     if tells_validity(responses) {
-        fetching(mirror, at, last_uid_next(responses))
+        fetching(mirror, at, last_uid_next(after_closed(responses)))
     } else {
         RoundStage::Failing(Refusal::Lacks)
     }
@@ -259,7 +221,7 @@ fn obeyed(stage: RoundStage, sliced: bool, responses: &[Response], mirror: &Mirr
     ensures { result ≡ rounds.obeyed stage sliced responses.now mirror.now.mail }
 {
     match stage {
-        RoundStage::Listing => next_stage(mirror, 0),
+        RoundStage::Listing { .. } => next_stage(mirror, 0),
         RoundStage::Selecting(at) => selected(mirror, at, responses),
         RoundStage::FetchingFlags { at, uid_next } => RoundStage::FetchingHeaders { at, uid_next },
         RoundStage::FetchingHeaders { at, uid_next } => fetched(mirror, sliced, at, uid_next),
@@ -280,7 +242,7 @@ fn stage_after(stage: RoundStage, sliced: bool, x: &Exchange, mirror: &Mirror) -
 }
 
 fn select_due(mirror: &Mirror, at: usize) -> Result<Due, AllocError>
-    ensures { IfOk result (λ due. due ≡ rounds.of_folder rounds.select_of (slice_get mirror.now.mail.folders at)) }
+    ensures { IfOk result (λ due. due ≡ rounds.of_folder selecting.select_of (slice_get mirror.now.mail.folders at)) }
 {
     match mirror.folders().get(at) {
         Some(held) => select_of(&held.folder),
@@ -317,7 +279,7 @@ impl Plan for Round {
 
     fn due(&self, _alloc: Global) -> Result<Due, AllocError> {
         match self.stage {
-            RoundStage::Listing => Ok(Due::Send(Command::List)),
+            RoundStage::Listing { special_use } => Ok(Due::Send(Command::List { special_use })),
             RoundStage::Selecting(at) => select_due(&self.mirror, at),
             RoundStage::FetchingFlags { .. } => Ok(Due::Send(Command::FetchFlags)),
             RoundStage::FetchingHeaders { at, uid_next } => {
@@ -359,7 +321,9 @@ impl Client {
         mirror.each_is_mail();
         let empty = Mirror::new(self.allocator());
         let mut plan = Round {
-            stage: RoundStage::Listing,
+            stage: RoundStage::Listing {
+                special_use: self.special_use(),
+            },
             mirror: mem::replace(mirror, empty),
         };
         let result = follow(self, link, &mut plan);

@@ -19,7 +19,7 @@ has_words : (c : Command) → ((user password : List ℕ) → c ≡ Login user p
 has_words Capability other another = refl
 has_words (Login user password) other another = absurd (other user password refl)
 has_words Enable other another = refl
-has_words ListFolders other another = refl
+has_words (ListFolders special_use) other another = refl
 has_words (Select name known) other another = refl
 has_words Unselect other another = refl
 has_words FetchFlags other another = refl

@@ -1,4 +1,4 @@
-// The texts of commands (RFC 9051 section 6, RFC 7162 section 3.2).
+// The texts of commands (RFC 9051 section 6, RFC 6154 section 2, RFC 7162 section 3.2).
 ghost use Rattle.std.specs.Prelude.{◌≡◌, ◌++◌, ◌∷◌, [], ℕ, List, Some, IfOk, OnOk, codes};
 ghost use Rattle.std.specs.List.{list_all};
 ghost use Rattle.imap_syntax.specs.Commands as texts;
@@ -96,6 +96,18 @@ fn select(alloc: Global, name: &[u8], known: Option<(u32, u64)>) -> Result<Vec<u
     }
 }
 
+/// Every folder: "LIST" SP %x22.22 SP %x22 "*" %x22 SP "RETURN" SP "(SUBSCRIBED)", with the special uses too where they are asked
+/// (RFC 9051 section 6.3.9, RFC 6154 section 2).
+fn list(special_use: bool) -> &'static [u8]
+    ensures { result.now ≡ texts.list_words special_use }
+{
+    if special_use {
+        b"LIST \"\" \"*\" RETURN (SUBSCRIBED SPECIAL-USE)"
+    } else {
+        b"LIST \"\" \"*\" RETURN (SUBSCRIBED)"
+    }
+}
+
 /// What a header fetch asks for.
 fn header_items(modseq: bool) -> &'static [u8]
     ensures { result.now ≡ texts.header_items modseq }
@@ -189,7 +201,7 @@ fn words(alloc: Global, command: &Command) -> Result<Vec<u8>, AllocError>
         Command::Capability => b"CAPABILITY".to_vec(alloc),
         Command::Login { .. } => Ok(Vec::new(alloc)),
         Command::Enable => b"ENABLE QRESYNC IMAP4rev2".to_vec(alloc),
-        Command::List => b"LIST \"\" \"*\" RETURN (SUBSCRIBED)".to_vec(alloc),
+        Command::List { special_use } => list(*special_use).to_vec(alloc),
         Command::Select { name, known } => select(alloc, name.as_slice(), *known),
         Command::Unselect => b"UNSELECT".to_vec(alloc),
         Command::FetchFlags => b"UID FETCH 1:* (UID FLAGS)".to_vec(alloc),

@@ -1,4 +1,4 @@
--- The texts of commands (RFC 9051 section 6, RFC 7162 section 3.2).
+-- The texts of commands (RFC 9051 section 6, RFC 6154 section 2, RFC 7162 section 3.2).
 use Rattle.std.specs.Prelude.{ℕ, ℤ, Bool, ◌&&◌, nat_le, if◌then◌else◌, List, [], ◌∷◌, ◌++◌, length, codes, Option, Some, None, bytes_eq}
 use Rattle.std.specs.List.{list_all}
 use Rattle.std.specs.Fmt.{decimal}
@@ -63,6 +63,12 @@ is_printable c = nat_le 32 c && nat_le c 126
 abbrev pub credential : List ℕ → Part
 credential t = if list_all is_printable t then Plain (quoted t) else Literal t
 
+-- every folder, and whether it is subscribed; where it is so, its special-use attributes too (RFC 6154 section 2)
+abbrev pub list_words : Bool → List ℕ
+list_words special_use =
+    if special_use then codes "LIST \"\" \"*\" RETURN (SUBSCRIBED SPECIAL-USE)"
+    else codes "LIST \"\" \"*\" RETURN (SUBSCRIBED)"
+
 abbrev pub select_words : List ℕ → Option (ℕ × ℕ) → List ℕ
 select_words name known = codes "SELECT " ++ quoted name ++ known_text known
 
@@ -98,7 +104,7 @@ abbrev pub words_of : Command → List ℕ
 words_of Capability = codes "CAPABILITY"
 words_of (Login user password) = []
 words_of Enable = codes "ENABLE QRESYNC IMAP4rev2"
-words_of ListFolders = codes "LIST \"\" \"*\" RETURN (SUBSCRIBED)"
+words_of (ListFolders special_use) = list_words special_use
 words_of (Select name known) = select_words name known
 words_of Unselect = codes "UNSELECT"
 words_of FetchFlags = codes "UID FETCH 1:* (UID FLAGS)"

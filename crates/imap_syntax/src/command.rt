@@ -1,4 +1,4 @@
-// What a store is asked (RFC 9051 section 6, RFC 7162 section 3.2).
+// What a store is asked (RFC 9051 section 6, RFC 6154 section 2, RFC 7162 section 3.2).
 use gate_world::{Bytes, Names};
 
 /// A command of the client.
@@ -13,8 +13,11 @@ pub enum Command {
     },
     /// QRESYNC and IMAP4rev2.
     Enable,
-    /// Every folder, and whether it is subscribed.
-    List,
+    /// Every folder, and whether it is subscribed (RFC 9051 section 6.3.9).
+    List {
+        /// Whether the special-use attributes are asked too (RFC 6154 section 2).
+        special_use: bool,
+    },
     /// RFC 9051 section 6.3.2; with QRESYNC where the folder is known (RFC 7162 section 3.2.5).
     Select {
         name: Bytes,

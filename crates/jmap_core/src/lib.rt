@@ -8,8 +8,12 @@ mod request;
 mod request_body;
 
 // References.
+mod limit;
+mod octets;
 mod pointer;
 mod references;
+mod sources;
+mod walks;
 
 // Answers.
 mod problem;
@@ -18,6 +22,7 @@ mod session;
 
 pub use call::Call;
 pub use created_ids::CreatedIds;
+pub use octets::MAX_RESOLVED_OCTETS;
 pub use problem::{problem_status, problem_text};
 pub use references::resolve;
 pub use request::{LimitName, Request, RequestError};

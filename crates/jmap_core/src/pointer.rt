@@ -38,7 +38,7 @@ fn after_slash(text: &str) -> Option<&str>
 }
 
 /// The segments of a pointer, or none where the path is no pointer.
-fn segments_of(alloc: Global, path: &str) -> Result<Option<Vec<String>>, AllocError>
+pub(crate) fn segments_of(alloc: Global, path: &str) -> Result<Option<Vec<String>>, AllocError>
     ensures { IfOk result (λ o. option_map (λ v. map string_bytes v.items) o
         ≡ spec.segments_of path.now) }
 {
@@ -108,9 +108,9 @@ fn at_each(
     Ok(Some(Value::Array(found)))
 }
 
-/// A copy of what stands at the segments.
+/// A copy of what stands at the segments (RFC 8620 section 3.7), or none where nothing does.
 #[cycle(path)]
-fn at_segments(
+pub(crate) fn at_segments(
     alloc: Global,
     value: &Value,
     segments: &[String],
@@ -127,15 +127,5 @@ fn at_segments(
             None => Ok(None),
             Some(found) => at_segments(alloc, found, rest),
         },
-    }
-}
-
-/// A copy of what stands at the path (RFC 8620 section 3.7), or none where nothing does.
-pub fn at_path(alloc: Global, value: &Value, path: &str) -> Result<Option<Value>, AllocError>
-    ensures { IfOk result (λ o. option_map view o ≡ spec.at_path path.now (view value.now)) }
-{
-    match segments_of(alloc, path)? {
-        None => Ok(None),
-        Some(segments) => at_segments(alloc, value, segments.as_slice()),
     }
 }

@@ -1,6 +1,7 @@
 -- Words in texts by the places where they stand.
-use Rattle.std.proofs.Common.{◌≡◌, ℕ, ◌+◌, ◌-◌, ◌<◌, ◌≤◌, List, ◌++◌, length, map, take, drop, slice_range, refl, sym, ap, subst, ◌∙◌, arith, length-append}
+use Rattle.std.proofs.Common.{◌≡◌, ◌↔◌, ℕ, ◌+◌, ◌-◌, ◌<◌, ◌≤◌, List, ◌++◌, length, map, take, drop, slice_range, refl, sym, ap, subst, ◌∙◌, arith, length-append}
 use Rattle.std.proofs.lemmas.List.{take_at, drop_at, take-append-drop, length-map}
+use Rattle.std.specs.List.{AllByRecursion}
 use Rattle.std.specs.Char.{to_ascii_lowercase}
 use Rattle.text_words.specs.Octets.{SameText}
 use Rattle.mail_conditions.specs.Words.{HasWord}
@@ -38,3 +39,10 @@ place_of word text h =
       within = omega (arith, long, ap length h.whole, length-append h.before (h.found ++ h.after), length-append h.found h.after);
       same = subst (λ (l : List ℕ). SameText l word) (sym part) h.same;
     }
+
+-- ---- one element after another
+
+module _ {A : Type 0} (P : A → Type 0) where
+  -- it holds of each of all where it holds of each of the rest
+  abbrev pub RestDecides : List A → ℕ → Type 0
+  RestDecides all i = AllByRecursion P (drop i all) ↔ AllByRecursion P all

@@ -6,7 +6,7 @@ use Rattle.std.specs.Ordering.{nat_cmp}
 use Rattle.mail_maps.specs.Keywords.{has_name}
 use Rattle.mail_maps.specs.Serve.{Email}
 use Rattle.mail_maps.specs.declared.envelope.Envelope.{Envelope}
-use Rattle.mail_conditions.specs.Words.{HasWord}
+use Rattle.mail_conditions.specs.Words.{HasWords}
 use Rattle.mail_conditions.specs.declared.email_condition.RecordCondition.{RecordCondition}
 use Rattle.mail_conditions.specs.declared.email_condition.RecordCondition.TheVariants as condition
 use Rattle.mail_conditions.specs.declared.email_condition.TextField.{TextField}
@@ -34,4 +34,4 @@ RecordMatches e (condition.MinSize size) = size ≤ e.immutable.size
 RecordMatches e (condition.MaxSize size) = e.immutable.size < size
 RecordMatches e (condition.HasKeyword keyword) = IsTrue (has_name keyword e.keywords)
 RecordMatches e (condition.NotKeyword keyword) = IsTrue (not (has_name keyword e.keywords))
-RecordMatches e (condition.InField field word) = HasWord word (field_text field e.immutable.envelope)
+RecordMatches e (condition.InField field words) = HasWords words (field_text field e.immutable.envelope)

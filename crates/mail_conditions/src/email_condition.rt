@@ -1,6 +1,6 @@
 // Conditions of Emails.
 
-use gate_world::Bytes;
+use gate_world::{Bytes, Names};
 use std::collections::BTreeSet;
 
 /// A field of whose text a condition speaks.
@@ -37,12 +37,12 @@ pub enum RecordCondition {
     HasKeyword(Bytes),
     /// `notKeyword`: it hasn't the keyword, which is in lower case.
     NotKeyword(Bytes),
-    /// `from`, `to`, `cc`, `bcc` and `subject`: the word stands in the field's text.
+    /// `from`, `to`, `cc`, `bcc` and `subject`: each of the words stands in the field's text.
     InField {
         /// The field.
         field: TextField,
-        /// The word.
-        word: Bytes,
+        /// The words and phrases.
+        words: Names,
     },
 }
 

@@ -18,4 +18,4 @@ pub use mailbox_condition::MailboxCondition;
 pub use mailboxes::mailbox_matches;
 pub use records::{field_text, record_matches};
 pub use threads::{KeywordThreads, keyword_threads, thread_matches};
-pub use words::has_word;
+pub use words::{has_word, has_words};

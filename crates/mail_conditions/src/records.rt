@@ -6,7 +6,7 @@ ghost use Rattle.mail_conditions.specs.Records as records;
 ghost use Rattle.mail_conditions.specs.Records.{RecordMatches};
 
 use crate::email_condition::{RecordCondition, TextField};
-use crate::words::has_word;
+use crate::words::has_words;
 use gate_world::Bytes;
 use mail_maps::keywords::has_name;
 use mail_maps::{EmailRow, Envelope};
@@ -56,8 +56,8 @@ pub fn record_matches(row: &EmailRow, condition: &RecordCondition) -> bool
         RecordCondition::MaxSize(size) => row.size < *size,
         RecordCondition::HasKeyword(keyword) => has_name(keyword.as_slice(), &row.keywords),
         RecordCondition::NotKeyword(keyword) => !has_name(keyword.as_slice(), &row.keywords),
-        RecordCondition::InField { field, word } => {
-            has_word(word.as_slice(), field_text(&row.envelope, *field))
+        RecordCondition::InField { field, words } => {
+            has_words(words, field_text(&row.envelope, *field))
         }
     }
 }

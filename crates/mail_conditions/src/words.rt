@@ -1,7 +1,8 @@
 // Words in texts.
 ghost use Rattle.std.specs.Prelude.{◌↔◌, IsTrue};
-ghost use Rattle.mail_conditions.specs.Words.{HasWord};
+ghost use Rattle.mail_conditions.specs.Words.{HasWord, HasWords};
 
+use gate_world::Names;
 use text_words::same_text;
 
 /// Whether a part of the text is the word, where A to Z count as a to z. It takes no memory, and of a text and a word no more
@@ -18,4 +19,16 @@ pub fn has_word(word: &[u8], text: &[u8]) -> bool
         }
     }
     false
+}
+
+/// Whether each of the words stands in the text. It takes no memory.
+pub fn has_words(words: &Names, text: &[u8]) -> bool
+    ensures { IsTrue result ↔ HasWords words.now text.now }
+{
+    for word in words.as_slice() {
+        if !has_word(word.as_slice(), text) {
+            return false;
+        }
+    }
+    true
 }

@@ -17,4 +17,4 @@ pub mod laws;
 pub use blocks::{fields, last_field};
 pub use bracketed::{as_message_ids, as_urls};
 pub use header::{Field, Fields};
-pub use raw_forms::{as_raw, as_text};
+pub use raw_forms::{as_raw, as_search_text, as_text};

@@ -6,7 +6,7 @@ ghost use Rattle.mail_header.specs.RawForms as forms;
 ghost use Rattle.mail_header.specs.reading.HeaderLines as reading;
 
 use gate_world::Bytes;
-use header_words::decode_words;
+use header_words::{Edges, decode_words_between};
 use std::alloc::{AllocError, Global};
 use text_words::{Blank, begins_with_lf, cut};
 
@@ -32,10 +32,25 @@ fn without_zeros(alloc: Global, raw: &[u8]) -> Result<Vec<u8>, AllocError>
 pub fn as_text(alloc: Global, raw: &[u8]) -> Result<Bytes, AllocError>
     ensures { IfOk result (λ b. forms.IsTextForm b raw.now) }
 {
+    text_between(alloc, Edges::White, raw)
+}
+
+/// The text in which an address field is searched: encoded words in quoted texts are decoded too. No sender may write
+/// these (RFC 2047 section 5), and many do.
+pub fn as_search_text(alloc: Global, raw: &[u8]) -> Result<Bytes, AllocError>
+    ensures { IfOk result (λ b. forms.IsSearchForm b raw.now) }
+{
+    text_between(alloc, Edges::Quotes, raw)
+}
+
+/// The raw value as a text whose encoded words stand between edges of this kind.
+fn text_between(alloc: Global, edges: Edges, raw: &[u8]) -> Result<Bytes, AllocError>
+    ensures { IfOk result (λ b. forms.IsTextFormBetween edges b raw.now) }
+{
     let raw = as_raw(alloc, raw)?;
     let line = unfold(alloc, raw.as_slice())?;
     let (_, text) = cut(&Blank, line.as_slice());
-    Ok(Bytes::from_vec(decode_words(alloc, text)?)?)
+    Ok(Bytes::from_vec(decode_words_between(alloc, edges, text)?)?)
 }
 
 /// The text without its line ends.

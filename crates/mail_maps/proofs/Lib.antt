@@ -11,3 +11,4 @@ mod KeptKeys
 pub mod Tallied
 mod ParentLaws
 mod OnceLaws
+pub mod IdLemmas

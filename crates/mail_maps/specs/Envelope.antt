@@ -2,13 +2,14 @@
 use Rattle.std.specs.Prelude.{◌≡◌, ℕ, ℤ, List, [], ◌∷◌, ◌++◌, Option, Some, None, codes}
 use Rattle.std.specs.Option.{option_map, unwrap_or}
 use Rattle.mail_header.specs.Fields.{NameAndRaw, IsHeader, last_named}
-use Rattle.mail_header.specs.RawForms.{IsTextForm}
+use Rattle.mail_header.specs.RawForms.{IsTextForm, IsSearchForm}
 use Rattle.header_addresses.specs.Names.{IsAddressesForm}
 use Rattle.mail_header.specs.Bracketed.{IsNamesForm}
 use Rattle.header_dates.specs.Dates.{IsDateForm}
 use Rattle.header_addresses.specs.declared.address.Address.{Address}
 use Rattle.header_dates.specs.declared.date.Moment.{Moment}
 use Rattle.thread_rule.specs.BaseSubject.{IsBaseOf}
+use Rattle.thread_rule.specs.Ids.{each_once}
 use Rattle.mail_maps.specs.declared.envelope.Envelope.{Envelope}
 use Rattle.mail_maps.specs.declared.envelope.Party.{Party}
 
@@ -16,6 +17,11 @@ use Rattle.mail_maps.specs.declared.envelope.Party.{Party}
 pub data IsFieldText : Option (List ℕ) → Option (List ℕ) → Type 0 where
   NoText : IsFieldText None None
   Text : (raw text : List ℕ) → IsTextForm text raw → IsFieldText (Some raw) (Some text)
+
+-- the text in which an address field is searched, where there is one
+pub data IsSearchText : Option (List ℕ) → Option (List ℕ) → Type 0 where
+  NoSearchText : IsSearchText None None
+  SearchText : (raw text : List ℕ) → IsSearchForm text raw → IsSearchText (Some raw) (Some text)
 
 -- a name, or this where it is missing or empty
 abbrev pub name_or : Option (List ℕ) → List ℕ → List ℕ
@@ -42,7 +48,7 @@ pub data IsFirstOf : Option (List ℕ) → Option (List ℕ) → Type 0 where
   First : (raw : List ℕ) (list : Option (List Address)) → IsAddressesForm raw list → IsFirstOf (Some raw) (first_name list)
 
 pub record IsPartyOf (raw : Option (List ℕ)) (p : Party) : Type 0 where
-  pub text : IsFieldText raw p.text
+  pub text : IsSearchText raw p.text
   pub first : IsFirstOf raw p.first
 
 -- the seconds of a date field
@@ -55,7 +61,7 @@ pub data AreIdsOf : Option (List ℕ) → List (List ℕ) → Type 0 where
   NoIds : AreIdsOf None []
   Ids : (raw : List ℕ) (names : Option (List (List ℕ))) → IsNamesForm names raw → AreIdsOf (Some raw) (unwrap_or names [])
 
--- the ids of References, In-Reply-To and Message-ID, in this order
+-- the ids of References, In-Reply-To and Message-ID, in this order, each once, where it stands first
 pub record AreAllIds (fields : List NameAndRaw) (ids : List (List ℕ)) : Type 0 where
   pub references : List (List ℕ)
   pub in_reply_to : List (List ℕ)
@@ -63,7 +69,7 @@ pub record AreAllIds (fields : List NameAndRaw) (ids : List (List ℕ)) : Type 0
   pub are_references : AreIdsOf (last_named (codes "references") fields) references
   pub are_in_reply_to : AreIdsOf (last_named (codes "in-reply-to") fields) in_reply_to
   pub are_message_id : AreIdsOf (last_named (codes "message-id") fields) message_id
-  pub all : ids ≡ references ++ in_reply_to ++ message_id
+  pub all : ids ≡ each_once (references ++ in_reply_to ++ message_id)
 
 -- what the fields of a header say; of two with one name the last counts
 pub record SaysEnvelope (fields : List NameAndRaw) (e : Envelope) : Type 0 where
@@ -71,8 +77,8 @@ pub record SaysEnvelope (fields : List NameAndRaw) (e : Envelope) : Type 0 where
   pub base : IsBaseOf (unwrap_or e.subject []) e.base
   pub from : IsPartyOf (last_named (codes "from") fields) e.from
   pub to : IsPartyOf (last_named (codes "to") fields) e.to
-  pub cc : IsFieldText (last_named (codes "cc") fields) e.cc
-  pub bcc : IsFieldText (last_named (codes "bcc") fields) e.bcc
+  pub cc : IsSearchText (last_named (codes "cc") fields) e.cc
+  pub bcc : IsSearchText (last_named (codes "bcc") fields) e.bcc
   pub sent_at : IsTimeOf (last_named (codes "date") fields) e.sent_at
   pub ids : AreAllIds fields e.ids
 

@@ -5,3 +5,4 @@ pub mod TakenRoles
 pub mod Tallies
 pub mod Sets
 pub mod Compared
+pub mod EndedIds

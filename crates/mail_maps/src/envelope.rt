@@ -1,8 +1,9 @@
 // The fields of a header by which Emails are threaded, filtered and ordered.
 
-use gate_world::{Bytes, Names};
+use gate_world::Bytes;
+use thread_rule::Ids;
 
-/// An address field: its text form, and its first mailbox, by its name or else its address.
+/// An address field: the text in which it is searched, and its first mailbox, by its name or else its address.
 #[derive(Debug, PartialEq, Drop)]
 pub struct Party {
     /// None where the header has no such field.
@@ -13,11 +14,11 @@ pub struct Party {
 }
 
 /// The fields of a header by which Emails are threaded, filtered and ordered, in the forms that this takes.
-#[derive(Debug, PartialEq, Drop)]
+#[derive(Debug, Drop)]
 pub struct Envelope {
-    /// The text forms of the last fields of these names; None where there is no such field.
+    /// The text form of the last Subject; None where there is none.
     pub subject: Option<Bytes>,
-    /// That of Cc.
+    /// The text in which the last Cc is searched; None where there is none.
     pub cc: Option<Bytes>,
     /// That of Bcc.
     pub bcc: Option<Bytes>,
@@ -29,6 +30,6 @@ pub struct Envelope {
     pub base: Bytes,
     /// The date, in seconds since 1970-01-01T00:00:00Z.
     pub sent_at: Option<i64>,
-    /// The ids of References, In-Reply-To and Message-ID, in this order.
-    pub ids: Names,
+    /// The ids of References, In-Reply-To and Message-ID, in this order, each once.
+    pub ids: Ids,
 }

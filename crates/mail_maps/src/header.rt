@@ -3,16 +3,17 @@ ghost use Rattle.std.specs.Prelude.{◌≡◌, ◌++◌, [], IfOk, OnOk};
 ghost use Rattle.std.specs.Option.{option_map, unwrap_or};
 ghost use Rattle.mail_header.specs.Fields.{last_named, names_and_raws};
 ghost use Rattle.thread_rule.specs.BaseSubject.{IsBaseOf};
+ghost use Rattle.mail_maps.specs.reading.EndedIds.{ended};
 ghost use Rattle.mail_maps.specs.Envelope as envelope;
-ghost use Rattle.mail_maps.specs.Envelope.{IsEnvelopeOf, IsFieldText, IsFirstOf, IsPartyOf, IsTimeOf, AreIdsOf};
+ghost use Rattle.mail_maps.specs.Envelope.{IsEnvelopeOf, IsFieldText, IsSearchText, IsFirstOf, IsPartyOf, IsTimeOf, AreIdsOf};
 
 use crate::{Envelope, Party};
 use gate_world::{Bytes, Names};
 use header_addresses::{Address, as_addresses};
 use header_dates::{Moment, as_date};
-use mail_header::{Fields, as_message_ids, as_text, fields};
+use mail_header::{Fields, as_message_ids, as_search_text, as_text, fields};
 use std::alloc::{AllocError, Global};
-use thread_rule::base_subject;
+use thread_rule::{Ids, base_subject, push_id};
 
 const SUBJECT: &[u8] = b"subject";
 
@@ -40,6 +41,23 @@ fn text_named(alloc: Global, fields: &Fields<'_>, name: &[u8]) -> Result<Option<
         None => Ok(None),
         Some(raw) => {
             let text = as_text(alloc, raw)?;
+            Ok(Some(text))
+        }
+    }
+}
+
+/// The text in which the last address field of the name is searched.
+fn search_text_named(
+    alloc: Global,
+    fields: &Fields<'_>,
+    name: &[u8],
+) -> Result<Option<Bytes>, AllocError>
+    ensures { IfOk result (λ text. IsSearchText (last_named name.now (names_and_raws fields.now)) text) }
+{
+    match fields.last(name) {
+        None => Ok(None),
+        Some(raw) => {
+            let text = as_search_text(alloc, raw)?;
             Ok(Some(text))
         }
     }
@@ -94,7 +112,7 @@ fn first_named(alloc: Global, fields: &Fields<'_>, name: &[u8]) -> Result<Option
 fn party_named(alloc: Global, fields: &Fields<'_>, name: &[u8]) -> Result<Party, AllocError>
     ensures { IfOk result (λ party. IsPartyOf (last_named name.now (names_and_raws fields.now)) party) }
 {
-    let text = text_named(alloc, fields, name)?;
+    let text = search_text_named(alloc, fields, name)?;
     let first = first_named(alloc, fields, name)?;
     Ok(Party { text, first })
 }
@@ -143,25 +161,29 @@ fn ids_named(alloc: Global, fields: &Fields<'_>, name: &[u8]) -> Result<Names, A
     }
 }
 
-/// Adds the ids at the end. Their octets are shared.
-fn push_all(ids: &mut Names, more: &Names) -> Result<(), AllocError>
-    ensures { OnOk result (ids.new ≡ ids.old ++ more.now) }
+/// Adds the ids at the end of a text, each with its `>`.
+fn push_all(text: &mut Vec<u8>, ids: &Names) -> Result<(), AllocError>
+    ensures { OnOk result (text.new.items ≡ text.old.items ++ ended ids.now) }
 {
-    for id in more.as_slice() {
-        ids.push(id.share()?)?;
+    for id in ids.as_slice() {
+        push_id(text, id.as_slice())?;
     }
     Ok(())
 }
 
-/// The ids by which an Email names others and itself: those of References, In-Reply-To and Message-ID, in this order.
-fn all_ids(alloc: Global, fields: &Fields<'_>) -> Result<Names, AllocError>
+/// The ids by which an Email names others and itself: those of References, In-Reply-To and Message-ID, in this order, each
+/// once.
+fn all_ids(alloc: Global, fields: &Fields<'_>) -> Result<Ids, AllocError>
     ensures { IfOk result (λ ids. envelope.AreAllIds (names_and_raws fields.now) ids) }
 {
-    let mut ids = ids_named(alloc, fields, REFERENCES)?;
+    let references = ids_named(alloc, fields, REFERENCES)?;
     let in_reply_to = ids_named(alloc, fields, IN_REPLY_TO)?;
     let message_id = ids_named(alloc, fields, MESSAGE_ID)?;
-    push_all(&mut ids, &in_reply_to)?;
-    push_all(&mut ids, &message_id)?;
+    let mut text = Vec::new(alloc);
+    push_all(&mut text, &references)?;
+    push_all(&mut text, &in_reply_to)?;
+    push_all(&mut text, &message_id)?;
+    let ids = Ids::of(alloc, text.as_slice())?;
     Ok(ids)
 }
 
@@ -187,8 +209,8 @@ fn envelope_of(alloc: Global, fields: &Fields<'_>) -> Result<Envelope, AllocErro
 {
     let subject = text_named(alloc, fields, SUBJECT)?;
     let base = base_of(alloc, text_or_empty(&subject))?;
-    let cc = text_named(alloc, fields, CC)?;
-    let bcc = text_named(alloc, fields, BCC)?;
+    let cc = search_text_named(alloc, fields, CC)?;
+    let bcc = search_text_named(alloc, fields, BCC)?;
     let from = party_named(alloc, fields, FROM)?;
     let to = party_named(alloc, fields, TO)?;
     let sent_at = time_named(alloc, fields, DATE)?;

@@ -4,6 +4,7 @@ use Rattle.std.specs.Option.{option_map, unwrap_or}
 use Rattle.text_words.specs.Cuts.{back}
 use Rattle.text_words.specs.Octets.{is_blank}
 use Rattle.header_words.proofs.WordLemmas as words
+use Rattle.header_words.specs.declared.encoded_word.Edges.TheVariants as edges
 use Rattle.mail_header.specs.Lines.{unfolded}
 use Rattle.mail_header.specs.RawForms.{raw_form}
 use Rattle.mail_header.specs.Bracketed.{IsNamesForm}
@@ -17,7 +18,8 @@ use Rattle.thread_rule.specs.BaseSubject.{IsBaseOf, spaced}
 use Rattle.thread_rule.proofs.NormalForms.{one_normal}
 use Rattle.mail_maps.specs.declared.envelope.Envelope.{Envelope}
 use Rattle.mail_maps.specs.declared.envelope.Party.{Party}
-use Rattle.mail_maps.specs.Envelope.{IsFieldText, NoText, Text, IsFirstOf, NoMailbox, First, first_name, IsPartyOf, IsTimeOf, NoDate, Date, AreIdsOf, NoIds, Ids, AreAllIds}
+use Rattle.thread_rule.specs.Ids.{each_once}
+use Rattle.mail_maps.specs.Envelope.{IsFieldText, NoText, Text, IsSearchText, NoSearchText, SearchText, IsFirstOf, NoMailbox, First, first_name, IsPartyOf, IsTimeOf, NoDate, Date, AreIdsOf, NoIds, Ids, AreAllIds}
 use Rattle.mail_maps.specs.Envelope.{SaysEnvelope, IsEnvelopeOf}
 use Rattle.mail_maps.specs.Visible.{Placed}
 use Rattle.told_folder.specs.declared.message.Held.{Held}
@@ -28,13 +30,18 @@ one_text : (raw x y : Option (List ℕ)) → IsFieldText raw x → IsFieldText r
 one_text _ _ _ NoText NoText = refl
 one_text _ _ _ (Text raw s g) (Text _ t h) = ap (λ (u : List ℕ). Some u) (words.one_text false (back is_blank (unfolded (raw_form raw))) s t g h)
 
+one_search_text : (raw x y : Option (List ℕ)) → IsSearchText raw x → IsSearchText raw y → x ≡ y
+one_search_text _ _ _ NoSearchText NoSearchText = refl
+one_search_text _ _ _ (SearchText raw s g) (SearchText _ t h) =
+    ap (λ (u : List ℕ). Some u) (words.one_text_between edges.Quotes false (back is_blank (unfolded (raw_form raw))) s t g h)
+
 one_first : (raw x y : Option (List ℕ)) → IsFirstOf raw x → IsFirstOf raw y → x ≡ y
 one_first _ _ _ NoMailbox NoMailbox = refl
 one_first _ _ _ (First raw l g) (First _ m h) = ap first_name (one_addresses raw l m g h)
 
 one_party : (raw : Option (List ℕ)) (p q : Party) → IsPartyOf raw p → IsPartyOf raw q → p ≡ q
 one_party raw p q g h =
-    ap (λ (u : Option (List ℕ)). record { text = u; first = p.first }) (one_text raw p.text q.text g.text h.text)
+    ap (λ (u : Option (List ℕ)). record { text = u; first = p.first }) (one_search_text raw p.text q.text g.text h.text)
     ∙ ap (λ (u : Option (List ℕ)). record { text = q.text; first = u }) (one_first raw p.first q.first g.first h.first)
 
 one_time : (raw : Option (List ℕ)) (x y : Option ℤ) → IsTimeOf raw x → IsTimeOf raw y → x ≡ y
@@ -54,9 +61,9 @@ one_ids _ _ _ (Ids raw m g) (Ids _ n h) = ap (λ (u : Option (List (List ℕ))).
 all_ids : (fs : List NameAndRaw) (x y : List (List ℕ)) → AreAllIds fs x → AreAllIds fs y → x ≡ y
 all_ids fs x y g h =
     g.all
-    ∙ ap (λ (u : List (List ℕ)). u ++ g.in_reply_to ++ g.message_id) (one_ids (last_named (codes "references") fs) g.references h.references g.are_references h.are_references)
-    ∙ ap (λ (u : List (List ℕ)). h.references ++ u ++ g.message_id) (one_ids (last_named (codes "in-reply-to") fs) g.in_reply_to h.in_reply_to g.are_in_reply_to h.are_in_reply_to)
-    ∙ ap (λ (u : List (List ℕ)). h.references ++ h.in_reply_to ++ u) (one_ids (last_named (codes "message-id") fs) g.message_id h.message_id g.are_message_id h.are_message_id)
+    ∙ ap (λ (u : List (List ℕ)). each_once (u ++ g.in_reply_to ++ g.message_id)) (one_ids (last_named (codes "references") fs) g.references h.references g.are_references h.are_references)
+    ∙ ap (λ (u : List (List ℕ)). each_once (h.references ++ u ++ g.message_id)) (one_ids (last_named (codes "in-reply-to") fs) g.in_reply_to h.in_reply_to g.are_in_reply_to h.are_in_reply_to)
+    ∙ ap (λ (u : List (List ℕ)). each_once (h.references ++ h.in_reply_to ++ u)) (one_ids (last_named (codes "message-id") fs) g.message_id h.message_id g.are_message_id h.are_message_id)
     ∙ sym h.all
 
 one_base : (text x y : List ℕ) → IsBaseOf text x → IsBaseOf text y → x ≡ y
@@ -74,8 +81,8 @@ one_said fs e f g h =
     let subject = one_text (last_named (codes "subject") fs) e.subject f.subject g.subject h.subject in
     let P : Option (List ℕ) → Type 0 = λ u. IsBaseOf (unwrap_or u []) e.base in
     envelope_same _ _ _ _ _ _ _ _ _ _ _ _ _ _ _ _ subject
-    (one_text (last_named (codes "cc") fs) e.cc f.cc g.cc h.cc)
-    (one_text (last_named (codes "bcc") fs) e.bcc f.bcc g.bcc h.bcc)
+    (one_search_text (last_named (codes "cc") fs) e.cc f.cc g.cc h.cc)
+    (one_search_text (last_named (codes "bcc") fs) e.bcc f.bcc g.bcc h.bcc)
     (one_party (last_named (codes "from") fs) e.from f.from g.from h.from)
     (one_party (last_named (codes "to") fs) e.to f.to g.to h.to)
     (one_base (unwrap_or f.subject []) e.base f.base (subst P subject g.base) h.base)

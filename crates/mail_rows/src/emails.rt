@@ -58,10 +58,10 @@ struct Remaining {
 }
 
 /// What the envelope of an Email of this number says to Threads.
-fn named_by(alloc: Global, email: u64, envelope: &Envelope) -> Result<Named, AllocError>
+fn named_by(email: u64, envelope: &Envelope) -> Result<Named, AllocError>
     ensures { IfOk result (λ n. n ≡ record { email = email; ids = envelope.now.ids; base = envelope.now.base }) }
 {
-    let ids = envelope.ids.share(alloc)?;
+    let ids = envelope.ids.share()?;
     let base = envelope.base.share()?;
     Ok(Named { email, ids, base })
 }
@@ -219,7 +219,7 @@ impl Emails {
         self.are_in_order();
         let number = self.next();
         let envelope = read_envelope(alloc, arrival.message.header.as_slice())?;
-        let named = named_by(alloc, number, &envelope)?;
+        let named = named_by(number, &envelope)?;
         let thread = self.book.find(&named);
         let row = row_of(alloc, number, thread, arrival, envelope)?;
         self.with_row(named, row)

@@ -389,9 +389,9 @@ list_tells m rs up =
 -- ---- exchanges
 
 ok_tells : (m : Mail) (c : Command) (rs : List Response) (selected : Option (List ℕ)) → IsMail m → TellsOn m (tell_ok m c rs selected)
-ok_tells m command.List rs selected i =
-    tells_join m (tell_named m command.List rs selected) (tell_list (tell_named m command.List rs selected) rs)
-    (named_tells m command.List rs selected i) (list_tells (tell_named m command.List rs selected) rs (ascends_named m command.List rs selected i.numbers))
+ok_tells m (command.List special_use) rs selected i =
+    tells_join m (tell_named m (command.List special_use) rs selected) (tell_list (tell_named m (command.List special_use) rs selected) rs)
+    (named_tells m (command.List special_use) rs selected i) (list_tells (tell_named m (command.List special_use) rs selected) rs (ascends_named m (command.List special_use) rs selected i.numbers))
 ok_tells m c rs selected i = named_tells m c (responses_of c rs) (target c selected) i
 
 exchange_tells : (m : Mail) (x : Exchange) → IsMail m → TellsOn m (tell m x)

@@ -63,7 +63,7 @@ kin_octets p q b s x k h =
 
 -- leaves of one number under a message are the same
 same_leaf : (b : List ℕ) (p q r : Part) (n : ℕ) → IsMessage b p → IsUnder q p → IsUnder r p → part_number q ≡ Some n → part_number r ≡ Some n → q ≡ r
-same_leaf b p q r n h u v i j = (tree_numbered MAX_DEPTH b 0 (length b) text_plain 1 p h.0 h.1).one q r n u v i j
+same_leaf b p q r n h u v i j = (tree_numbered h.levels b 0 (length b) text_plain 1 p h.next h.tree).one q r n u v i j
 
 -- where a tree of the message has no leaf of the number, the number names no octets
 pub no_leaf : (b s : List ℕ) (n : ℕ) (p : Part) → IsMessage b p → ((q : Part) → IsUnder q p → part_number q ≢ Some n) → LeafSpells b n s → ⊥

@@ -18,13 +18,16 @@ use Rattle.mime_fields.specs.reading.IdUnits.{BeginsWithOpener, TakesUnit}
 
 -- ---- a text begins with one unit at most
 
-comment_first : (x s t : List ℕ) (c : ℕ) → IsComment x → c ∷ t ≡ x ++ s → c ≡ 40
+-- a comment begins with a parenthesis
+pub comment_first : (x s t : List ℕ) (c : ℕ) → IsComment x → c ∷ t ≡ x ++ s → c ≡ 40
 comment_first x s t c b e = let q : c ∷ t ≡ 40 ∷ ((b.contents ++ 41 ∷ []) ++ s) = e ∙ ap (λ (u : List ℕ). u ++ s) b.whole in cc
 
-quoted_first : (x s t : List ℕ) (c : ℕ) → IsQuoted x → c ∷ t ≡ x ++ s → c ≡ 34
+-- a quoted text begins with a quotation mark
+pub quoted_first : (x s t : List ℕ) (c : ℕ) → IsQuoted x → c ∷ t ≡ x ++ s → c ≡ 34
 quoted_first x s t c b e = let q : c ∷ t ≡ 34 ∷ ((b.contents ++ 34 ∷ []) ++ s) = e ∙ ap (λ (u : List ℕ). u ++ s) b.whole in cc
 
-comment_no_quoted : (x y s t : List ℕ) → x ++ s ≡ y ++ t → IsComment x → IsQuoted y → ⊥
+-- no comment is a quoted text
+pub comment_no_quoted : (x y s t : List ℕ) → x ++ s ≡ y ++ t → IsComment x → IsQuoted y → ⊥
 comment_no_quoted x y s t e b c =
     let f : 40 ∷ ((b.contents ++ 41 ∷ []) ++ s) ≡ y ++ t = ap (λ (u : List ℕ). u ++ s) (sym b.whole) ∙ e in
     let q = quoted_first y t ((b.contents ++ 41 ∷ []) ++ s) 40 c f in
@@ -48,13 +51,16 @@ one_bracket k x y s t e i j =
     let q = d.one (record { kind = k; text = x }) (record { kind = k; text = y }) x y s t e i j in
     q.unit
 
-one_comment : (x y s t : List ℕ) → x ++ s ≡ y ++ t → IsComment x → IsComment y → x ≡ y
+-- a text begins with one comment at most
+pub one_comment : (x y s t : List ℕ) → x ++ s ≡ y ++ t → IsComment x → IsComment y → x ≡ y
 one_comment x y s t e b c = one_bracket kind.Comment x y s t e (record { text_is = refl; spelled = b; ends = tt }) (record { text_is = refl; spelled = c; ends = tt })
 
-one_quoted : (x y s t : List ℕ) → x ++ s ≡ y ++ t → IsQuoted x → IsQuoted y → x ≡ y
+-- a text begins with one quoted text at most
+pub one_quoted : (x y s t : List ℕ) → x ++ s ≡ y ++ t → IsQuoted x → IsQuoted y → x ≡ y
 one_quoted x y s t e b c = one_bracket kind.Quoted x y s t e (record { text_is = refl; spelled = b; ends = tt }) (record { text_is = refl; spelled = c; ends = tt })
 
-heads : (c d : ℕ) (s t : List ℕ) → c ∷ s ≡ d ∷ t → c ≡ d
+-- equal texts begin with the same octet
+pub heads : (c d : ℕ) (s t : List ℕ) → c ∷ s ≡ d ∷ t → c ≡ d
 heads c d s t e = ap (λ (u : List ℕ). get_or u 0 0) e
 
 white_visible : (c d : ℕ) → is_white c ≡ true → c ≡ d → is_white d ≡ false → ⊥

@@ -1,3 +1,6 @@
 pub mod IdLemmas
+pub mod ClosingLemmas
+pub mod PieceLemmas
+pub mod ParameterLemmas
 pub mod OneHeader
 pub mod MadeHeader

@@ -1,8 +1,9 @@
 -- Fields are one header of a part.
 use Rattle.std.proofs.Common.{◌≡◌, ℕ, false, List, [], ◌∷◌, ◌++◌, sym, ap, ◌∙◌, subst, Option, Some, None}
 use Rattle.std.specs.Prelude.{codes}
-use Rattle.std.specs.Option.{option_map}
+use Rattle.std.specs.Option.{option_map, option_or, option_and_then}
 use Rattle.std.proofs.lemmas.List.{append_cancel_right}
+use Rattle.header_words.specs.OneLine.{one_line}
 use Rattle.header_words.proofs.WordLemmas.{one_text}
 use Rattle.header_tokens.specs.declared.token.Alphabet.TheVariants as alphabet
 use Rattle.mail_header.specs.Fields.{NameAndRaw, last_named}
@@ -13,10 +14,11 @@ use Rattle.header_tokens.proofs.LeadingLemmas.{one_leading_lexemes}
 use Rattle.mime_fields.specs.declared.header.PartHeader.{PartHeader}
 use Rattle.mime_fields.proofs.IdLemmas.{one_kept}
 use Rattle.mime_fields.specs.ContentIds.{IsWithoutAngles, InAngles, Bare}
-use Rattle.mime_fields.specs.ContentTypes.{media_in, behind_media}
-use Rattle.mime_fields.specs.Dispositions.{leading_token, IsFileName}
-use Rattle.mime_fields.specs.Parameters.{parameter}
-use Rattle.mime_fields.specs.PartHeaders.{field_octets, HasLexemes, extended_name, written_name, trimmed, IsTrimmedTextOf, IsIdOf, mechanism, IsPartHeader}
+use Rattle.mime_fields.proofs.ParameterLemmas.{one_has, one_media, one_kind}
+use Rattle.mime_fields.specs.Dispositions.{IsFileName}
+use Rattle.mime_fields.specs.ExtendedValues.{extended_text}
+use Rattle.mime_fields.specs.Parameters.{trimmed}
+use Rattle.mime_fields.specs.PartHeaders.{field_octets, HasLexemes, IsTrimmedTextOf, IsIdOf, mechanism, IsPartHeader}
 
 one_lexemes : (f : List NameAndRaw) (name : List ℕ) (x y : List Spelled) → HasLexemes f name x → HasLexemes f name y → x ≡ y
 one_lexemes f name x y g h = one_leading_lexemes alphabet.Mime x y (field_octets f name) g h
@@ -24,7 +26,7 @@ one_lexemes f name x y g h = one_leading_lexemes alphabet.Mime x y (field_octets
 one_name : (extended written x y : Option (List ℕ)) → IsFileName extended written x → IsFileName extended written y → x ≡ y
 one_name (Some e) w x y g h = g ∙ sym h
 one_name None None x y g h = g ∙ sym h
-one_name None (Some w) x y g h = g.2 ∙ ap (λ (u : List ℕ). Some u) (one_text false (raw_form w) g.0 h.0 g.1 h.1) ∙ sym h.2
+one_name None (Some w) x y g h = g.2 ∙ ap (λ (u : List ℕ). Some u) (one_text false (one_line (raw_form w)) g.0 h.0 g.1 h.1) ∙ sym h.2
 
 one_trimmed : (raw x y : Option (List ℕ)) → IsTrimmedTextOf raw x → IsTrimmedTextOf raw y → x ≡ y
 one_trimmed None x y g h = g ∙ sym h
@@ -51,17 +53,21 @@ record_same m b c d n i l p e m' b' c' d' n' i' l' p' e' q1 q2 q3 q4 q5 q6 q7 q8
 -- two headers of a part that the same fields give are the same
 pub one_part_header : (f : List NameAndRaw) (g h : PartHeader) → IsPartHeader f g → IsPartHeader f h → g ≡ h
 one_part_header f g h i j =
-    let t = one_lexemes f (codes "content-type") i.content_type j.content_type i.has_content_type j.has_content_type in
-    let d = one_lexemes f (codes "content-disposition") i.content_disposition j.content_disposition i.has_content_disposition j.has_content_disposition in
+    let t = field_octets f (codes "content-type") in
+    let d = field_octets f (codes "content-disposition") in
     let e = one_lexemes f (codes "content-transfer-encoding") i.transfer_encoding j.transfer_encoding i.has_transfer_encoding j.has_transfer_encoding in
-    let n = subst (λ (u : List Spelled). IsFileName (extended_name u) (written_name u i.content_type) g.name) d i.name in
-    let m = subst (λ (u : List Spelled). IsFileName (extended_name j.content_disposition) (written_name j.content_disposition u) g.name) t n in
+    let x = one_has (codes "filename*") d i.extended_octets j.extended_octets i.has_extended j.has_extended in
+    let y = one_has (codes "filename") d i.file j.file i.has_file j.has_file in
+    let z = one_has (codes "name") t i.type_name j.type_name i.has_type_name j.has_type_name in
+    let n = subst (λ (u : Option (List ℕ)). IsFileName (option_and_then extended_text u) (option_or i.file i.type_name) g.name) x i.name in
+    let m = subst (λ (u : Option (List ℕ)). IsFileName (option_and_then extended_text j.extended_octets) (option_or u i.type_name) g.name) y n in
+    let o = subst (λ (u : Option (List ℕ)). IsFileName (option_and_then extended_text j.extended_octets) (option_or j.file u) g.name) z m in
     record_same _ _ _ _ _ _ _ _ _ _ _ _ _ _ _ _ _ _
-    (i.media ∙ ap media_in t ∙ sym j.media)
-    (i.boundary ∙ ap (λ u. parameter (codes "boundary") (behind_media u)) t ∙ sym j.boundary)
-    (i.charset ∙ ap (λ u. option_map raw_form (parameter (codes "charset") (behind_media u))) t ∙ sym j.charset)
-    (i.disposition ∙ ap leading_token d ∙ sym j.disposition)
-    (one_name _ _ g.name h.name m j.name)
+    (one_media t g.media h.media i.media j.media)
+    (one_has (codes "boundary") t g.boundary h.boundary i.boundary j.boundary)
+    (i.charset ∙ ap (option_map raw_form) (one_has (codes "charset") t i.charset_octets j.charset_octets i.has_charset j.has_charset) ∙ sym j.charset)
+    (one_kind d g.disposition h.disposition i.disposition j.disposition)
+    (one_name _ _ g.name h.name o j.name)
     (one_id _ g.cid h.cid i.cid j.cid)
     (i.language ∙ sym j.language)
     (one_trimmed _ g.location h.location i.location j.location)

@@ -1,11 +1,14 @@
--- Content-Type (RFC 2045 section 5.1), over the lexemes of its value.
+-- Content-Type (RFC 2045 section 5.1): the media type stands in the first piece of its value.
 use Rattle.std.specs.Prelude.{◌≡◌, ℕ, Bool, ◌&&◌, if◌then◌else◌, List, [], ◌∷◌, ◌++◌, map, Option, Some, None, codes}
 use Rattle.std.specs.Char.{to_ascii_lowercase}
 use Rattle.std.specs.Option.{option_map}
 use Rattle.mail_header.specs.RawForms.{raw_form}
+use Rattle.header_tokens.specs.declared.token.Alphabet.TheVariants as alphabet
 use Rattle.header_tokens.specs.Tokens.{Spelled}
+use Rattle.header_tokens.specs.Lexemes.{AreLeadingLexemes}
 use Rattle.header_tokens.specs.Kinds.{has_mark}
-use Rattle.mime_fields.specs.Parameters.{is_token, parameter}
+use Rattle.mime_fields.specs.Pieces.{BeginsWithPiece}
+use Rattle.mime_fields.specs.Parameters.{is_token, HasParameter}
 use Rattle.mime_fields.specs.declared.content_type.ContentType.{ContentType}
 
 -- A to Z as a to z
@@ -23,16 +26,22 @@ media_in (t ∷ []) = None
 media_in (t ∷ m ∷ []) = None
 media_in (t ∷ m ∷ s ∷ ls) = if is_media t m s then Some (lower t.text ++ 47 ∷ lower s.text) else None
 
--- what follows it
-abbrev pub behind_media : List Spelled → List Spelled
-behind_media [] = []
-behind_media (t ∷ []) = []
-behind_media (t ∷ m ∷ []) = []
-behind_media (t ∷ m ∷ s ∷ ls) = if is_media t m s then ls else []
+-- the first piece has these lexemes at its front
+pub record HasFrontLexemes (lexemes : List Spelled) (t : List ℕ) : Type 0 where
+  pub first : List ℕ
+  pub rest : Option (List ℕ)
+  pub begins : BeginsWithPiece first rest t
+  pub are : AreLeadingLexemes alphabet.Mime lexemes first
+
+-- the field's octets have this media type
+abbrev pub HasMedia : List ℕ → Option (List ℕ) → Type 0
+HasMedia t media = (lexemes : List Spelled) × HasFrontLexemes lexemes t × (media ≡ media_in lexemes)
 
 -- The boundary is the octets that delimiter lines have, the charset a text.
-pub record IsContentType (lexemes : List Spelled) (content : ContentType) : Type 0 where
-  pub media : content.media ≡ media_in lexemes
-  pub boundary : content.boundary ≡ parameter (codes "boundary") (behind_media lexemes)
-  pub charset : content.charset ≡ option_map raw_form (parameter (codes "charset") (behind_media lexemes))
-  pub name : content.name ≡ parameter (codes "name") (behind_media lexemes)
+pub record IsContentType (t : List ℕ) (content : ContentType) : Type 0 where
+  pub media : HasMedia t content.media
+  pub boundary : HasParameter (codes "boundary") t content.boundary
+  pub charset_octets : Option (List ℕ)
+  pub has_charset : HasParameter (codes "charset") t charset_octets
+  pub charset : content.charset ≡ option_map raw_form charset_octets
+  pub name : HasParameter (codes "name") t content.name

@@ -1,7 +1,8 @@
+pub mod ContentIds
+pub mod Pieces
 pub mod Parameters
 pub mod ContentTypes
 pub mod ExtendedValues
 pub mod Dispositions
-pub mod ContentIds
 pub mod PartHeaders
 pub mod reading

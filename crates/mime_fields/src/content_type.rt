@@ -4,10 +4,11 @@ ghost use Rattle.std.specs.Option.{option_map};
 ghost use Rattle.mail_header.specs.RawForms.{raw_form};
 ghost use Rattle.header_tokens.specs.TokenView.{token_view};
 ghost use Rattle.mime_fields.specs.ContentTypes as types;
-ghost use Rattle.mime_fields.specs.Parameters as parameters;
 ghost use Rattle.mime_fields.specs.reading.MimeLexemes.{mime_lexemes};
 
+use crate::closings::closings;
 use crate::parameters::{is_token, mime_lexeme, parameter};
+use crate::pieces::next_piece;
 use gate_world::Bytes;
 use header_tokens::{Token, has_mark};
 use mail_header::as_raw;
@@ -40,69 +41,61 @@ fn media_text(alloc: Global, kind: &[u8], subtype: &[u8]) -> Result<Bytes, Alloc
     Ok(Bytes::from_vec(text)?)
 }
 
-/// A type and a subtype, and what follows them.
+/// A type and a subtype.
 #[derive(Clone, Copy)]
 struct MediaAt<'a> {
     kind: &'a [u8],
     subtype: &'a [u8],
-    rest: &'a [u8],
 }
 
 /// The type and the subtype at the front.
 fn media_at(text: &[u8]) -> Option<MediaAt<'_>>
-    ensures media { MatchOption result (types.media_in (mime_lexemes text.now) ≡ None)
+    ensures { MatchOption result (types.media_in (mime_lexemes text.now) ≡ None)
         (λ m. types.media_in (mime_lexemes text.now) ≡ Some (types.lower m.kind.now ++ 47 ∷ types.lower m.subtype.now)) }
-    ensures behind { MatchOption result (types.behind_media (mime_lexemes text.now) ≡ [])
-        (λ m. types.behind_media (mime_lexemes text.now) ≡ mime_lexemes m.rest.now) }
 {
     let (kind, rest) = mime_lexeme(text)?;
     let (slash, rest) = mime_lexeme(rest)?;
-    let (subtype, rest) = mime_lexeme(rest)?;
+    let (subtype, _) = mime_lexeme(rest)?;
     if !is_media(&kind, &slash, &subtype) {
         return None;
     }
     Some(MediaAt {
         kind: kind.text,
         subtype: subtype.text,
-        rest,
     })
 }
 
-fn unreadable() -> ContentType
-    ensures media { result.media ≡ None }
-    ensures boundary { result.boundary ≡ None }
-    ensures charset { result.charset ≡ None }
-    ensures name { result.name ≡ None }
+/// The media type at the front of the first piece.
+fn media_of(alloc: Global, first: &[u8]) -> Result<Option<Bytes>, AllocError>
+    ensures { IfOk result (λ m. m ≡ types.media_in (mime_lexemes first.now)) }
 {
-    ContentType {
-        media: None,
-        boundary: None,
-        charset: None,
-        name: None,
+    match media_at(first) {
+        None => Ok(None),
+        Some(media) => Ok(Some(media_text(alloc, media.kind, media.subtype)?)),
     }
 }
 
-/// The parameter `charset` as a text.
-fn charset_in(alloc: Global, text: &[u8]) -> Result<Option<Bytes>, AllocError>
-    ensures { IfOk result (λ c. c ≡ option_map raw_form (parameters.parameter (codes "charset") (mime_lexemes text.now))) }
+/// The text of a charset's octets.
+fn charset_text(alloc: Global, octets: Option<Bytes>) -> Result<Option<Bytes>, AllocError>
+    ensures { IfOk result (λ c. c ≡ option_map raw_form octets) }
 {
-    match parameter(alloc, b"charset", text)? {
+    match octets {
         None => Ok(None),
         Some(charset) => Ok(Some(as_raw(alloc, charset.as_slice())?)),
     }
 }
 
-/// What the octets of a Content-Type say.
+/// What the octets of a Content-Type say. Its parameters are read also where the type can't be.
 pub(crate) fn read_type(alloc: Global, text: &[u8]) -> Result<ContentType, AllocError>
-    ensures { IfOk result (λ c. types.IsContentType (mime_lexemes text.now) c) }
+    ensures { IfOk result (λ c. types.IsContentType text.now c) }
 {
-    match media_at(text) {
-        None => Ok(unreadable()),
-        Some(media) => Ok(ContentType {
-            media: Some(media_text(alloc, media.kind, media.subtype)?),
-            boundary: parameter(alloc, b"boundary", media.rest)?,
-            charset: charset_in(alloc, media.rest)?,
-            name: parameter(alloc, b"name", media.rest)?,
-        }),
-    }
+    let closed = closings(alloc, text)?;
+    let (first, rest) = next_piece(text, closed.as_slice());
+    let charset = parameter(alloc, b"charset", rest, closed.as_slice())?;
+    Ok(ContentType {
+        media: media_of(alloc, first)?,
+        boundary: parameter(alloc, b"boundary", rest, closed.as_slice())?,
+        charset: charset_text(alloc, charset)?,
+        name: parameter(alloc, b"name", rest, closed.as_slice())?,
+    })
 }

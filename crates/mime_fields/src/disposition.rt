@@ -4,10 +4,12 @@ ghost use Rattle.mime_fields.specs.ContentTypes.{lower};
 ghost use Rattle.mime_fields.specs.Dispositions as dispositions;
 ghost use Rattle.mime_fields.specs.reading.MimeLexemes.{mime_lexemes};
 
+use crate::closings::closings;
 use crate::extended_value::extended;
 use crate::parameters::{is_token, mime_lexeme, parameter};
+use crate::pieces::next_piece;
 use gate_world::Bytes;
-use header_words::decode_words;
+use header_words::{as_one_line, decode_words};
 use mail_header::as_raw;
 use std::alloc::{AllocError, Global};
 
@@ -19,14 +21,13 @@ pub(crate) struct Disposition {
     pub file: Option<Bytes>,
 }
 
-/// The token at the front, and what follows it.
-fn token_at(text: &[u8]) -> Option<(&[u8], &[u8])>
-    ensures token { MatchOption result (dispositions.leading_token (mime_lexemes text.now) ≡ None) (λ r. dispositions.leading_token (mime_lexemes text.now) ≡ Some (lower r.0.now)) }
-    ensures behind { MatchOption result (dispositions.behind_token (mime_lexemes text.now) ≡ []) (λ r. dispositions.behind_token (mime_lexemes text.now) ≡ mime_lexemes r.1.now) }
+/// The token at the front.
+fn token_at(text: &[u8]) -> Option<&[u8]>
+    ensures { MatchOption result (dispositions.leading_token (mime_lexemes text.now) ≡ None) (λ r. dispositions.leading_token (mime_lexemes text.now) ≡ Some (lower r.now)) }
 {
-    let (token, rest) = mime_lexeme(text)?;
+    let (token, _) = mime_lexeme(text)?;
     if is_token(&token) {
-        Some((token.text, rest))
+        Some(token.text)
     } else {
         None
     }
@@ -38,37 +39,25 @@ pub(crate) fn first_token(alloc: Global, text: &[u8]) -> Result<Option<Bytes>, A
 {
     match token_at(text) {
         None => Ok(None),
-        Some((token, _)) => Ok(Some(Bytes::from_vec(token.to_ascii_lowercase(alloc)?)?)),
+        Some(token) => Ok(Some(Bytes::from_vec(token.to_ascii_lowercase(alloc)?)?)),
     }
 }
 
-fn no_disposition() -> Disposition
-    ensures kind { result.kind ≡ None }
-    ensures extended { result.extended ≡ None }
-    ensures file { result.file ≡ None }
-{
-    Disposition {
-        kind: None,
-        extended: None,
-        file: None,
-    }
-}
-
-/// What the octets of a Content-Disposition say.
+/// What the octets of a Content-Disposition say. Its parameters are read also where its kind can't be.
 pub(crate) fn read_disposition(alloc: Global, text: &[u8]) -> Result<Disposition, AllocError>
-    ensures { IfOk result (λ d. dispositions.IsDisposition (mime_lexemes text.now) d) }
+    ensures { IfOk result (λ d. dispositions.IsDisposition text.now d) }
 {
-    match token_at(text) {
-        None => Ok(no_disposition()),
-        Some((kind, rest)) => Ok(Disposition {
-            kind: Some(Bytes::from_vec(kind.to_ascii_lowercase(alloc)?)?),
-            extended: extended(alloc, parameter(alloc, b"filename*", rest)?)?,
-            file: parameter(alloc, b"filename", rest)?,
-        }),
-    }
+    let closed = closings(alloc, text)?;
+    let (first, rest) = next_piece(text, closed.as_slice());
+    let octets = parameter(alloc, b"filename*", rest, closed.as_slice())?;
+    Ok(Disposition {
+        kind: first_token(alloc, first)?,
+        extended: extended(alloc, octets)?,
+        file: parameter(alloc, b"filename", rest, closed.as_slice())?,
+    })
 }
 
-/// The name in an extended value, else the one as it is written, as a text with encoded words decoded.
+/// The name in an extended value, else the one as it is written, with encoded words decoded; as one line.
 pub(crate) fn name_of(
     alloc: Global,
     extended: Option<Bytes>,
@@ -77,7 +66,7 @@ pub(crate) fn name_of(
     ensures { IfOk result (λ n. dispositions.IsFileName extended written n) }
 {
     match extended {
-        Some(name) => Ok(Some(name)),
+        Some(name) => Ok(Some(Bytes::from_vec(as_one_line(alloc, name.as_slice())?)?)),
         None => decoded(alloc, written),
     }
 }
@@ -89,7 +78,8 @@ fn decoded(alloc: Global, written: Option<Bytes>) -> Result<Option<Bytes>, Alloc
         None => Ok(None),
         Some(value) => {
             let text = as_raw(alloc, value.as_slice())?;
-            Ok(Some(Bytes::from_vec(decode_words(alloc, text.as_slice())?)?))
+            let line = as_one_line(alloc, text.as_slice())?;
+            Ok(Some(Bytes::from_vec(decode_words(alloc, line.as_slice())?)?))
         }
     }
 }

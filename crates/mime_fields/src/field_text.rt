@@ -5,11 +5,10 @@ ghost use Rattle.mail_header.specs.Fields.{names_and_raws, last_named};
 ghost use Rattle.mail_header.specs.RawForms.{raw_form};
 ghost use Rattle.mime_fields.specs.PartHeaders as headers;
 
+use crate::parameters::trimmed;
 use gate_world::Bytes;
-use mail_header::white_end::without_white_end;
 use mail_header::{Fields, as_raw, as_text};
 use std::alloc::{AllocError, Global};
-use text_words::{White, cut};
 
 /// The octets of the last field of this name, none where there is no such field.
 pub(crate) fn octets_of<'a>(fields: &Fields<'a>, name: &[u8]) -> &'a [u8]
@@ -50,12 +49,4 @@ pub(crate) fn trimmed_text_of(
             Ok(Some(Bytes::copy_of(alloc, trimmed(text.as_slice()))?))
         }
     }
-}
-
-/// The text without white space at its ends.
-fn trimmed(text: &[u8]) -> &[u8]
-    ensures { result.now ≡ headers.trimmed text.now }
-{
-    let (_, text) = cut(&White, text);
-    without_white_end(text)
 }

@@ -68,8 +68,7 @@ fn token_or_none(alloc: Global, text: &[u8]) -> Result<Bytes, AllocError>
 }
 
 /// What the header of a body part says, where of several fields of a name the last counts (RFC 8621 section 4.1.4).
-/// What can't be read is passed over: a parameter that is none ends the parameters. A field that is missing takes no
-/// memory.
+/// What can't be read is passed over. A field that is missing takes no memory.
 pub fn part_header(alloc: Global, fields: &Fields<'_>) -> Result<PartHeader, AllocError>
     ensures { IfOk result (λ h. headers.IsPartHeader (names_and_raws fields.now) h) }
 {

@@ -1,10 +1,12 @@
 //! What the header of a body part says: its media type, its name, its ids and its encoding (RFC 2045, RFC 2183).
 #![tactic(auto)]
 
-// Octets and parameters of fields.
+// Pieces and parameters of fields.
+mod closings;
 mod extended_value;
 mod field_text;
 mod parameters;
+mod pieces;
 
 // Fields.
 mod content_id;

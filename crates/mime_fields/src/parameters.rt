@@ -1,14 +1,22 @@
-// Tokens and parameters, read one after another.
-ghost use Rattle.std.specs.Prelude.{◌≡◌, ◌<◌, [], ◌∷◌, None, Some, length, IfOk, IfSome, MatchOption};
+// Tokens and parameters.
+ghost use Rattle.std.specs.Prelude.{◌≡◌, ◌<◌, [], ◌∷◌, ℕ, List, None, Some, length, IfOk, IfSome, MatchBool, MatchOption};
 ghost use Rattle.header_words.specs.Charsets.{is_ascii};
+ghost use Rattle.header_tokens.specs.declared.token.Alphabet.TheVariants as alphabet;
+ghost use Rattle.header_tokens.specs.Tokens.{Spelled};
+ghost use Rattle.header_tokens.specs.Lexemes.{AreLexemes, BeginsWithLexeme};
 ghost use Rattle.header_tokens.specs.TokenView.{token_view};
 ghost use Rattle.mime_fields.specs.Parameters as parameters;
 ghost use Rattle.mime_fields.specs.reading.MimeLexemes.{mime_lexemes};
+ghost use Rattle.mime_fields.specs.reading.PieceSteps.{TellClosings};
+ghost use Rattle.mime_fields.specs.reading.ParameterSteps as reading;
 
+use crate::pieces::next_piece;
 use gate_world::Bytes;
-use header_tokens::{Alphabet, Token, has_mark, is_atom, is_word, next_lexeme, word_text};
+use header_tokens::{Alphabet, Kind, Token, has_mark, is_atom, is_row, next_lexeme, unquoted};
+use mail_header::raw_forms::unfold;
+use mail_header::white_end::without_white_end;
 use std::alloc::{AllocError, Global};
-use text_words::{Class, are_all, same_text};
+use text_words::{Class, White, are_all, cut, same_text};
 
 /// The octets of US-ASCII.
 struct Ascii;
@@ -21,10 +29,12 @@ impl Class<u8> for Ascii {
     }
 }
 
-/// The first lexeme of a field of MIME, and what follows it.
+/// The first lexeme of a text of MIME, and what follows it.
 pub(crate) fn mime_lexeme(text: &[u8]) -> Option<(Token<'_>, &[u8])>
     ensures value { MatchOption result (mime_lexemes text.now ≡ []) (λ r. mime_lexemes text.now ≡ token_view r.0 ∷ mime_lexemes r.1.now) }
-    ensures shorter { IfSome result (λ r. length r.1.now < length text.now) }
+    ensures first { MatchOption result
+        ((v : Spelled) (rest : List ℕ) → BeginsWithLexeme alphabet.Mime v rest text.now → ⊥)
+        (λ r. BeginsWithLexeme alphabet.Mime (token_view r.0) r.1.now text.now) }
 {
     next_lexeme(Alphabet::Mime, text)
 }
@@ -36,70 +46,163 @@ pub fn is_token(lexeme: &Token<'_>) -> bool
     is_atom(lexeme) && are_all(&Ascii, lexeme.text)
 }
 
-fn is_parameter(
-    semicolon: &Token<'_>,
-    attribute: &Token<'_>,
-    equals: &Token<'_>,
-    value: &Token<'_>,
-) -> bool
-    ensures { result ≡ parameters.is_parameter (token_view semicolon.now) (token_view attribute.now) (token_view equals.now) (token_view value.now) }
+/// The text without white space at its ends.
+pub(crate) fn trimmed(text: &[u8]) -> &[u8]
+    ensures { result.now ≡ parameters.trimmed text.now }
 {
-    has_mark(b';', semicolon) && is_atom(attribute) && has_mark(b'=', equals) && is_word(value)
+    let (_, text) = cut(&White, text);
+    without_white_end(text)
 }
 
-/// A parameter, and what follows it.
+/// The text without a quotation mark in front.
+fn without_quote(text: &[u8]) -> &[u8]
+    ensures { result.now ≡ parameters.without_quote text.now }
+{
+    match text {
+        [b'"', rest @ ..] => rest,
+        _ => text,
+    }
+}
+
+/// The octets that a wrong sender wrote for a value; there is none where these are none.
+fn written(alloc: Global, raw: &[u8]) -> Result<Option<Bytes>, AllocError>
+    ensures { IfOk result (λ v. MatchOption v
+        (parameters.octets_written raw.now ≡ [])
+        (λ b. (b ≡ parameters.octets_written raw.now) × (0 < length (parameters.octets_written raw.now)))) }
+{
+    let line = unfold(alloc, raw)?;
+    let text = trimmed(without_quote(trimmed(line.as_slice())));
+    if text.is_empty() {
+        return Ok(None);
+    }
+    Ok(Some(Bytes::copy_of(alloc, text)?))
+}
+
+/// Whether the text is white space and comments.
+fn are_gaps(text: &[u8]) -> bool
+    ensures { MatchBool result (AreLexemes alphabet.Mime [] text.now) (AreLexemes alphabet.Mime [] text.now → ⊥) }
+{
+    match mime_lexeme(text) {
+        Some(_) => false,
+        None => is_row(Alphabet::Mime, text),
+    }
+}
+
+fn is_quoted(lexeme: &Token<'_>) -> bool
+    ensures { result ≡ parameters.is_quoted (token_view lexeme.now) }
+{
+    match lexeme.kind {
+        Kind::Quoted => true,
+        Kind::Space | Kind::Comment | Kind::Literal | Kind::Atom | Kind::Mark => false,
+    }
+}
+
+/// In which form a value stands.
 #[derive(Clone, Copy)]
-struct ParameterAt<'a> {
-    attribute: &'a [u8],
-    value: Token<'a>,
-    rest: &'a [u8],
+enum ValueForm<'a> {
+    /// A quoted text, with its quotes.
+    Quoted(&'a [u8]),
+    /// A token.
+    Token(&'a [u8]),
+    /// Neither, as wrong senders write it.
+    Written,
 }
 
-/// The parameter at the front.
-fn parameter_at(text: &[u8]) -> Option<ParameterAt<'_>>
-    ensures value { MatchOption result (parameters.parameters (mime_lexemes text.now) ≡ [])
-        (λ p. parameters.parameters (mime_lexemes text.now) ≡ record { name = p.attribute.now; value = token_view p.value } ∷ parameters.parameters (mime_lexemes p.rest.now)) }
-    ensures shorter { IfSome result (λ p. length p.rest.now < length text.now) }
+/// The form of the value that stands in these octets.
+fn value_form(raw: &[u8]) -> ValueForm<'_>
+    ensures { reading.HasForm result raw.now }
 {
-    let (semicolon, rest) = mime_lexeme(text)?;
-    let (attribute, rest) = mime_lexeme(rest)?;
-    let (equals, rest) = mime_lexeme(rest)?;
-    let (value, rest) = mime_lexeme(rest)?;
-    if !is_parameter(&semicolon, &attribute, &equals, &value) {
+    let Some((lexeme, rest)) = mime_lexeme(raw) else {
+        return ValueForm::Written;
+    };
+    if is_quoted(&lexeme) {
+        return ValueForm::Quoted(lexeme.text);
+    }
+    if !is_atom(&lexeme) {
+        return ValueForm::Written;
+    }
+    if are_gaps(rest) {
+        return ValueForm::Token(lexeme.text);
+    }
+    ValueForm::Written
+}
+
+/// The value that stands in these octets.
+fn value_in(alloc: Global, raw: &[u8]) -> Result<Option<Bytes>, AllocError>
+    ensures { IfOk result (λ v. MatchOption v
+        ((x : List ℕ) → parameters.IsValue x raw.now → ⊥)
+        (λ b. parameters.IsValue b raw.now)) }
+{
+    match value_form(raw) {
+        ValueForm::Quoted(text) => Ok(Some(Bytes::from_vec(unquoted(alloc, text)?)?)),
+        ValueForm::Token(text) => Ok(Some(Bytes::copy_of(alloc, text)?)),
+        ValueForm::Written => written(alloc, raw),
+    }
+}
+
+/// A name, and what follows the equals sign behind it.
+#[derive(Clone, Copy)]
+struct NameAt<'a> {
+    name: &'a [u8],
+    raw: &'a [u8],
+}
+
+/// The name at the front of a piece.
+fn name_at(piece: &[u8]) -> Option<NameAt<'_>>
+    ensures { MatchOption result
+        ((n raw : List ℕ) → reading.HasName n raw piece.now → ⊥)
+        (λ r. reading.HasName r.name.now r.raw.now piece.now) }
+{
+    let Some((name, rest)) = mime_lexeme(piece) else {
+        return None;
+    };
+    let Some((equals, raw)) = mime_lexeme(rest) else {
+        return None;
+    };
+    if !is_atom(&name) {
         return None;
     }
-    Some(ParameterAt {
-        attribute: attribute.text,
-        value,
-        rest,
+    if !has_mark(b'=', &equals) {
+        return None;
+    }
+    Some(NameAt {
+        name: name.text,
+        raw,
     })
 }
 
-/// The value of the first parameter of this name.
-fn value_named<'a>(name: &[u8], text: &'a [u8]) -> Option<Token<'a>>
-    ensures { MatchOption result (parameters.value_named name.now (mime_lexemes text.now) ≡ None)
-        (λ t. parameters.value_named name.now (mime_lexemes text.now) ≡ Some (token_view t)) }
+/// The value of the piece, where it is a parameter of this name.
+fn parameter_in(alloc: Global, name: &[u8], piece: &[u8]) -> Result<Option<Bytes>, AllocError>
+    ensures { IfOk result (λ v. MatchOption v
+        (parameters.IsOther name.now piece.now)
+        (λ b. reading.IsNamed name.now b piece.now)) }
 {
-    let mut rest = text;
-    while let Some(parameter) = parameter_at(rest) {
-        if same_text(parameter.attribute, name) {
-            return Some(parameter.value);
-        }
-        rest = parameter.rest;
+    let Some(found) = name_at(piece) else {
+        return Ok(None);
+    };
+    if !same_text(found.name, name) {
+        return Ok(None);
     }
-    None
+    value_in(alloc, found.raw)
 }
 
-/// The octets of the first parameter of this name, unquoted.
+/// The value of the first parameter of this name in what follows a semicolon. The closings of the whole value are known.
 pub(crate) fn parameter(
     alloc: Global,
     name: &[u8],
-    text: &[u8],
+    after_first: Option<&[u8]>,
+    closed: &[bool],
 ) -> Result<Option<Bytes>, AllocError>
-    ensures { IfOk result (λ v. v ≡ parameters.parameter name.now (mime_lexemes text.now)) }
+    requires { IfSome after_first (λ t. TellClosings closed.now t.now) }
+    ensures { IfOk result (λ v. MatchOption after_first.entry (parameters.IsFirstNamed name.now None v) (λ t. parameters.IsFirstNamed name.now (Some t.now) v)) }
 {
-    match value_named(name, text) {
-        None => Ok(None),
-        Some(value) => Ok(Some(Bytes::from_vec(word_text(alloc, &value)?)?)),
+    let mut rest = after_first;
+    while let Some(text) = rest {
+        let (piece, more) = next_piece(text, closed);
+        if let Some(value) = parameter_in(alloc, name, piece)? {
+            return Ok(Some(value));
+        }
+        rest = more;
     }
+    Ok(None)
 }

@@ -6,7 +6,9 @@ pub mod OneSplit
 pub mod BehindLemmas
 pub mod TreeLemmas
 pub mod OneTree
+pub mod CountLemmas
 pub mod UnderLemmas
+pub mod MessageLemmas
 pub mod KindLemmas
 pub mod ListWalkLemmas
 pub mod OneWalk

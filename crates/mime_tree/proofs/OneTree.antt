@@ -1,5 +1,5 @@
 -- Octets have one tree.
-use Rattle.std.proofs.Common.{◌≡◌, ℕ, zero, suc, ◌+◌, List, [], ◌∷◌, sym, ap, subst, ◌∙◌, Option, Some, None}
+use Rattle.std.proofs.Common.{◌≡◌, ◌≤◌, ◌⊎◌, inl, inr, arith, ℕ, zero, suc, ◌+◌, List, [], ◌∷◌, sym, ap, subst, ◌∙◌, Option, Some, None}
 use Rattle.std.specs.Prelude.{slice_range, unwrap_or, length}
 use Rattle.mail_header.specs.Fields.{NameAndRaw}
 use Rattle.mail_header.proofs.FieldLemmas as fields
@@ -9,10 +9,10 @@ use Rattle.mime_fields.proofs.OneHeader.{one_part_header}
 use Rattle.mime_tree.specs.declared.head.Head.{Head}
 use Rattle.mime_tree.specs.declared.split.Piece.{Piece}
 use Rattle.mime_tree.specs.declared.part.Part.{Part, out-Part}
-use Rattle.mime_tree.specs.declared.tree.TheConstants.{MAX_DEPTH}
-use Rattle.mime_tree.specs.Parts.{children}
-use Rattle.mime_tree.specs.Heads.{IsHead, boundary_of, default_in}
-use Rattle.mime_tree.specs.Trees.{TreeWord, HasHead, IsLeaf, AreTrees, ArePieces, IsPartOf, IsTree, IsMessage}
+use Rattle.mime_tree.specs.declared.tree.TheConstants.{MAX_DEPTH, MAX_PARTS}
+use Rattle.mime_tree.specs.Parts.{children, parts_within}
+use Rattle.mime_tree.specs.Heads.{IsHead, boundary_of, default_in, text_plain}
+use Rattle.mime_tree.specs.Trees.{TreeWord, HasHead, IsLeaf, AreTrees, ArePieces, IsPartOf, IsTree, HasTooManyParts, IsMessage}
 use Rattle.mime_tree.specs.SameTrees.{AllSame, SamePart, NoPart, Same}
 use Rattle.mime_tree.proofs.OneSplit.{one_split}
 
@@ -96,7 +96,8 @@ one_part T S o h (Some qs) f p q m n i j =
     let a = one_trees T S o h.body (default_in h.media) qs f (children p) (children q) m n i.1 j.1 in
     (a.0, same_part S h p q i.0.head j.0.head (i.0.number ∙ sym j.0.number) (i.0.media ∙ sym j.0.media) (i.0.charset ∙ sym j.0.charset) a.1)
 
-one_pieces : (y : Option (List ℕ)) (body : List ℕ) (r s : Option (List Piece)) → ArePieces y body r → ArePieces y body s → r ≡ s
+-- a body has one list of pieces, or none
+pub one_pieces : (y : Option (List ℕ)) (body : List ℕ) (r s : Option (List Piece)) → ArePieces y body r → ArePieces y body s → r ≡ s
 one_pieces None body r s g h = g ∙ sym h
 one_pieces (Some y) body r s g h = one_split body y r s g h
 
@@ -114,6 +115,26 @@ one_tree (suc more) b s e d f p q m n g h =
     let C : Option (List Piece) → Type 0 = λ x. IsPartOf (IsTree more b) g.0 x f q n in
     one_part (IsTree more b) (Same more) (λ s e d f p q m n. one_tree more b s e d f p q m n) g.0 g.2 f p q m n g.4 (subst C (sym r) (subst B w h.4))
 
+-- two leaves of the same octets are the same, whatever levels are allowed
+leaf_same : (more : ℕ) (b : List ℕ) (s e : ℕ) (d : List ℕ) (f : ℕ) (p q : Part) (m n : ℕ) → IsTree zero b s e d f p m → IsTree zero b s e d f q n → Same (suc more) p q
+unfolding IsTree Same
+leaf_same more b s e d f p q m n g h =
+    let L : Head → Type 0 = λ x. IsLeaf x f q n in
+    (one_leaf (Same more) g.0 f p q m n g.2 (subst L (sym (one_head b s e d g.0 h.0 g.1 h.1)) h.2)).1
+
 -- two parts that are the same message are the same
 pub one_message : (b : List ℕ) (p q : Part) → IsMessage b p → IsMessage b q → Same MAX_DEPTH p q
-one_message b p q g h = (one_tree MAX_DEPTH b 0 (length b) _ 1 p q g.0 h.0 g.1 h.1).1
+one_message b p q g h = by g.bounded h.bounded
+  where
+    whole : (r : Part) (i : IsMessage b r) → i.levels ≡ MAX_DEPTH → IsTree MAX_DEPTH b 0 (length b) text_plain 1 r i.next
+    whole r i e = let P : ℕ → Type 0 = λ l. IsTree l b 0 (length b) text_plain 1 r i.next in subst P e i.tree
+
+    one : (r : Part) (i : IsMessage b r) → i.levels ≡ 0 → IsTree 0 b 0 (length b) text_plain 1 r i.next
+    one r i e = let P : ℕ → Type 0 = λ l. IsTree l b 0 (length b) text_plain 1 r i.next in subst P e i.tree
+
+    by : ((g.levels ≡ MAX_DEPTH) × (parts_within MAX_DEPTH p ≤ MAX_PARTS)) ⊎ ((g.levels ≡ 0) × HasTooManyParts b)
+        → ((h.levels ≡ MAX_DEPTH) × (parts_within MAX_DEPTH q ≤ MAX_PARTS)) ⊎ ((h.levels ≡ 0) × HasTooManyParts b) → Same MAX_DEPTH p q
+    by (inl x) (inl y) = (one_tree MAX_DEPTH b 0 (length b) text_plain 1 p q g.next h.next (whole p g x.0) (whole q h y.0)).1
+    by (inl x) (inr y) = absurd (omega (arith, x.1, y.1 p g.next (whole p g x.0)))
+    by (inr x) (inl y) = absurd (omega (arith, y.1, x.1 q h.next (whole q h y.0)))
+    by (inr x) (inr y) = leaf_same 63 b 0 (length b) text_plain 1 p q g.next h.next (one p g x.0) (one q h y.0)

@@ -1,14 +1,17 @@
 -- Splitting, line by line.
-use Rattle.std.proofs.Common.{◌≡◌, ℕ, ◌+◌, ◌≤◌, List, [], ◌∷◌, ◌++◌, length, drop, refl, sym, ap, subst, ◌∙◌, arith, append_assoc, Option, Some, None}
+use Rattle.std.proofs.Common.{◌≡◌, ℕ, ◌+◌, ◌<◌, ◌≤◌, List, [], ◌∷◌, ◌++◌, length, drop, refl, sym, ap, subst, ◌∙◌, arith, append_assoc, Option, Some, None}
 use Rattle.std.specs.Prelude.{IfSome}
-use Rattle.std.proofs.lemmas.List.{drop_all}
+use Rattle.std.proofs.lemmas.List.{drop_all, length-append}
+use Rattle.mime_tree.specs.declared.split.Mark.{Mark}
 use Rattle.mime_tree.specs.declared.split.Mark.TheVariants as mark
 use Rattle.mime_tree.specs.declared.split.Piece.{Piece}
 use Rattle.mime_tree.specs.Delimiters.{size, lines}
 use Rattle.mime_tree.specs.reading.LineReading.{line_mark}
 use Rattle.mime_tree.specs.Splits.{piece, ending, before, end_of, InPart, AreParts, Follows, HasParts, IsSplit}
+use Rattle.mime_tree.specs.reading.Bounds.{HasMoreThan}
 use Rattle.mime_tree.proofs.LineLemmas.{Here}
 use Rattle.mime_tree.proofs.MarkLemmas.{mark_is}
+use Rattle.mime_tree.proofs.OneSplit.{one_split}
 
 -- pieces before those that are found
 abbrev pub onto : List Piece → Option (List Piece) → Option (List Piece)
@@ -161,3 +164,60 @@ at_end_outside begun b y ps at le s e =
     let O : Option ℕ → Type 0 = λ o. Left o b y None at (lines (drop at b)) in
     let m = s.so_far in
     m.forth None (subst O (sym e) (begins b y at (lines (drop at b)) None (nothing_left b at le)))
+
+-- ---- up to a number of pieces
+
+-- any lines can be read on
+left_some : (begun : Option ℕ) (b y : List ℕ) (at : ℕ) (t : List (List ℕ)) → (r : Option (List Piece)) × Left begun b y r at t
+left_some None b y at [] = (None, begins b y at [] None refl)
+left_some (Some start) b y at [] = (Some (piece start at ∷ []), ends_inside b y start at)
+left_some begun b y at (l ∷ t) = by (line_mark y l) refl (λ other n. left_some other b y n t)
+  where
+    by : (m : Mark) → line_mark y l ≡ m → ((other : Option ℕ) (n : ℕ) → (r : Option (List Piece)) × Left other b y r n t)
+        → (r : Option (List Piece)) × Left begun b y r at (l ∷ t)
+    by mark.Plain e more = let q = more begun (at + length l) in (q.0, plain_more begun b y at l t q.0 e q.1)
+    by mark.Opens e more =
+        let q = more (Some (at + length l)) (at + length l) in
+        (onto (ending begun b at) q.0, opens_more begun b y at l t q.0 e q.1)
+    by mark.Closes e more = (Some (ending begun b at), closes_here begun b y at l t e)
+
+left_more : (start : ℕ) (b y : List ℕ) (ps : List Piece) (most at : ℕ) (t : List (List ℕ)) → most ≤ length ps → (r : Option (List Piece)) → Left (Some start) b y r at t
+    → HasMoreThan most (onto ps r)
+left_more start b y ps most at t le None h = absurd h
+left_more start b y ps most at t le (Some []) h = absurd h
+left_more start b y ps most at t le (Some (q ∷ qs)) h = omega (arith, length-append ps (q ∷ qs))
+
+-- where a part begins behind as many pieces as are wanted, there are more
+pub split_more : (start : ℕ) (b y : List ℕ) (ps : List Piece) (most at : ℕ) → Split (Some start) b y ps at → most ≤ length ps → (r : Option (List Piece)) → IsSplit b y r
+    → HasMoreThan most r
+split_more start b y ps most at s le r h =
+    let q = left_some (Some start) b y at (lines (drop at b)) in
+    let P : Option (List Piece) → Type 0 = λ u. HasMoreThan most u in
+    subst P (one_split b y (onto ps q.0) r (s.so_far.forth q.0 q.1) h) (left_more start b y ps most at (lines (drop at b)) le q.0 q.1)
+
+-- there is room for the part that has begun
+abbrev pub HasRoom : ℕ → Option ℕ → List Piece → Type 0
+HasRoom most None ps = ps ≡ []
+HasRoom most (Some start) ps = length ps < most
+
+-- with it there are no more than are wanted
+pub room_ends : (most : ℕ) (begun : Option ℕ) (b : List ℕ) (at : ℕ) (ps ps' : List Piece) → HasRoom most begun ps → ps' ≡ ps ++ ending begun b at → length ps' ≤ most
+room_ends most None b at ps ps' h e = omega (arith, ap length e, length-append ps [], ap length h)
+room_ends most (Some start) b at ps ps' h e = omega (arith, ap length e, length-append ps (piece start (before b start at) ∷ []))
+
+-- so at the end of the body
+pub room_inside : (most : ℕ) (begun : Option ℕ) (start at : ℕ) (ps ps' : List Piece) → HasRoom most begun ps → begun ≡ Some start → ps' ≡ ps ++ piece start at ∷ []
+    → length ps' ≤ most
+room_inside most None start at ps ps' h b e = absurd cc
+room_inside most (Some s) start at ps ps' h b e = omega (arith, ap length e, length-append ps (piece start at ∷ []))
+
+-- a part that begins where the pieces are fewer than are wanted has room
+pub room_begins : (most : ℕ) (begun : Option ℕ) (start : ℕ) (ps : List Piece) → begun ≡ Some start → length ps < most → HasRoom most begun ps
+room_begins most begun start ps e h = let P : Option ℕ → Type 0 = λ o. HasRoom most o ps in subst P (sym e) h
+
+-- nothing changed
+pub room_stays : (most : ℕ) (begun begun' : Option ℕ) (ps ps' : List Piece) → HasRoom most begun ps → begun' ≡ begun → ps' ≡ ps → HasRoom most begun' ps'
+room_stays most begun begun' ps ps' h e f =
+    let P : Option ℕ → Type 0 = λ o. HasRoom most o ps' in
+    let Q : List Piece → Type 0 = λ u. HasRoom most begun u in
+    subst P (sym e) (subst Q (sym f) h)

@@ -1,5 +1,6 @@
 -- Parts, one under another.
-use Rattle.std.specs.Prelude.{◌≡◌, ◌≤◌, ℕ, List, length, Option, Contains}
+use Rattle.std.specs.Prelude.{◌≡◌, ◌≤◌, ℕ, zero, suc, List, length, Option, Contains}
+use Rattle.std.specs.List.{sum_by}
 use Rattle.mime_tree.specs.declared.part.Part.{Part, out-Part}
 
 -- the parts directly in a part
@@ -20,3 +21,8 @@ pub record IsWithin (p : Part) (b : List ℕ) : Type 0 where
   pub body_follows : (out-Part p).head_end ≡ (out-Part p).start
   pub body : (out-Part p).start ≤ (out-Part p).end
   pub within : (out-Part p).end ≤ length b
+
+-- how many parts a tree has, leaves and multiparts together, where at most n levels stand below its root
+unfoldable pub parts_within : ℕ → Part → ℕ
+parts_within zero p = 1
+parts_within (suc n) p = suc (sum_by (parts_within n) (children p))

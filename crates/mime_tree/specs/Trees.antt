@@ -1,10 +1,10 @@
 -- The tree of parts that octets are (RFC 2046 section 5.1).
-use Rattle.std.specs.Prelude.{◌≡◌, ℕ, zero, suc, ◌+◌, true, false, List, [], ◌∷◌, length, slice_range, Option, Some, None, unwrap_or}
+use Rattle.std.specs.Prelude.{◌≡◌, ◌<◌, ◌≤◌, ◌⊎◌, ℕ, zero, suc, ◌+◌, true, false, List, [], ◌∷◌, length, slice_range, Option, Some, None, unwrap_or}
 use Rattle.mime_tree.specs.declared.head.Head.{Head}
 use Rattle.mime_tree.specs.declared.split.Piece.{Piece}
 use Rattle.mime_tree.specs.declared.part.Part.{Part, out-Part}
-use Rattle.mime_tree.specs.declared.tree.TheConstants.{MAX_DEPTH}
-use Rattle.mime_tree.specs.Parts.{children}
+use Rattle.mime_tree.specs.declared.tree.TheConstants.{MAX_DEPTH, MAX_PARTS}
+use Rattle.mime_tree.specs.Parts.{children, parts_within}
 use Rattle.mime_tree.specs.Splits.{IsSplit}
 use Rattle.mime_tree.specs.Heads.{IsHead, boundary_of, default_in, leaf_media, leaf_charset, is_multipart, text_plain, seven_bit}
 
@@ -67,9 +67,17 @@ IsTree (suc more) b s e default first p next =
     (h : Head) × IsHead b s e default h × (qs : Option (List Piece)) × ArePieces (boundary_of h) (slice_range b h.body h.end) qs
     × IsPartOf (IsTree more b) h qs first p next
 
--- the part is the message b, of which a part at depth MAX_DEPTH is a leaf
-abbrev pub IsMessage : List ℕ → Part → Type 0
-IsMessage b p = (next : ℕ) × IsTree MAX_DEPTH b 0 (length b) text_plain 1 p next
+-- The tree of the octets, of which a part at depth MAX_DEPTH is a leaf, has more than MAX_PARTS parts. Wrong senders alone reach
+-- this.
+abbrev pub HasTooManyParts : List ℕ → Type 0
+HasTooManyParts b = (p : Part) (next : ℕ) → IsTree MAX_DEPTH b 0 (length b) text_plain 1 p next → MAX_PARTS < parts_within MAX_DEPTH p
+
+-- The part is the message b. One with too many parts is one leaf.
+pub record IsMessage (b : List ℕ) (p : Part) : Type 0 where
+  pub levels : ℕ
+  pub next : ℕ
+  pub tree : IsTree levels b 0 (length b) text_plain 1 p next
+  pub bounded : ((levels ≡ MAX_DEPTH) × (parts_within MAX_DEPTH p ≤ MAX_PARTS)) ⊎ ((levels ≡ 0) × HasTooManyParts b)
 
 -- a part with a number and no parts in it, which is no multipart
 pub record IsSingle (p : Part) : Type 0 where

@@ -2,3 +2,4 @@
 pub mod LineReading
 pub mod ListBuilding
 pub mod Shared
+pub mod Bounds

@@ -2,7 +2,8 @@
 ghost use Rattle.std.specs.Prelude.{◌≡◌, ◌≤◌, ◌<◌, ◌+◌, IfOk, OnOk, IfSome, MatchOption, None, Some, ◌++◌, length, ℕ, List};
 ghost use Rattle.mime_tree.specs.reading.LineReading as reading;
 ghost use Rattle.mime_tree.specs.Splits as splits;
-ghost use Rattle.mime_tree.specs.Splits.{IsSplit, AreBehind, ending};
+ghost use Rattle.mime_tree.specs.Splits.{ending};
+ghost use Rattle.mime_tree.specs.reading.Bounds.{IsSplitBody};
 
 use gate_world::Listed;
 use mail_header::lines::without_end;
@@ -106,15 +107,25 @@ fn end_part(
     }
 }
 
-/// Where the parts of a multipart's body stand in it. None where no delimiter line comes; no part where the closing
-/// line comes first.
+/// How a multipart's body is split.
+#[derive(Drop)]
+pub enum SplitBody {
+    /// No delimiter line comes.
+    Undelimited,
+    /// Where the parts stand in the body; no part where the closing line comes first.
+    Pieces(Listed<Piece>),
+    /// There are more parts than are wanted.
+    TooMany,
+}
+
+/// Where the parts of a multipart's body stand in it, if they are no more than `most`. Of more than these none is kept.
 pub fn split(
     alloc: Global,
     bytes: &[u8],
     boundary: &[u8],
-) -> Result<Option<Listed<Piece>>, AllocError>
-    ensures split { IfOk result (λ parts. IsSplit bytes.now boundary.now parts) }
-    ensures behind { IfOk result (λ parts. IfSome parts (λ ps. AreBehind 0 ps (length bytes.now))) }
+    most: usize,
+) -> Result<SplitBody, AllocError>
+    ensures { IfOk result (λ parts. IsSplitBody most (Some boundary.now) bytes.now parts) }
 {
     let mut pieces = Vec::new(alloc);
     let mut begun: Option<usize> = None;
@@ -127,20 +138,23 @@ pub fn split(
             Mark::Plain => {}
             Mark::Opens => {
                 end_part(&mut pieces, bytes, begun, at)?;
+                if pieces.len() >= most {
+                    return Ok(SplitBody::TooMany);
+                }
                 begun = Some(at + len);
             }
             Mark::Closes => {
                 end_part(&mut pieces, bytes, begun, at)?;
-                return Ok(Some(Listed::from_vec(pieces)));
+                return Ok(SplitBody::Pieces(Listed::from_vec(pieces)));
             }
         }
         at += len;
     }
     match begun {
-        None => Ok(None),
+        None => Ok(SplitBody::Undelimited),
         Some(start) => {
             pieces.push(Piece { start, end: at })?;
-            Ok(Some(Listed::from_vec(pieces)))
+            Ok(SplitBody::Pieces(Listed::from_vec(pieces)))
         }
     }
 }

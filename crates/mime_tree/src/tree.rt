@@ -1,21 +1,32 @@
 // The tree of a message's parts.
-ghost use Rattle.std.specs.Prelude.{◌≡◌, ◌≤◌, ◌<◌, ◌+◌, ◌-◌, ◌^◌, ℕ, IfOk, IfSome, None, Some, length, slice_range};
+ghost use Rattle.std.specs.Prelude.{◌≡◌, ◌≤◌, ◌<◌, ◌+◌, ◌-◌, ◌^◌, ℕ, IfOk, MatchOption, length, slice_range};
 ghost use Rattle.mime_tree.specs.declared.part.Part.{Part, out-Part};
 ghost use Rattle.mime_tree.specs.Heads as heads;
 ghost use Rattle.mime_tree.specs.Parts.{IsUnder, IsWithin};
-ghost use Rattle.mime_tree.specs.Splits.{AreBehind};
 ghost use Rattle.mime_tree.specs.reading.Shared.{AreShared};
-ghost use Rattle.mime_tree.specs.Trees.{ArePieces, IsLeaf, IsNode, IsTree, IsMessage};
+ghost use Rattle.mime_tree.specs.reading.Bounds.{IsSplitBody, HasMoreParts, IsBuilt};
+ghost use Rattle.mime_tree.specs.Trees.{IsLeaf, IsNode, IsMessage};
 
 use crate::head::{Head, boundary_of, default_in, encoding_or, head_at, leaf_charset, leaf_media};
 use crate::part::Part;
 use crate::shared::{SharedTexts, shared_texts};
-use crate::split::{Piece, split};
-use gate_world::{Bytes, Listed};
+use crate::split::{Piece, SplitBody, split};
+use gate_world::Bytes;
 use std::alloc::{AllocError, Global};
 
 /// The depth at which each part is a leaf. The root is at depth 0.
 pub const MAX_DEPTH: usize = 64;
+
+/// How many parts a message may have, leaves and multiparts together. One with more is one leaf.
+pub const MAX_PARTS: usize = 10_000;
+
+/// A part, the number after its leaves', and how many parts its tree has.
+#[derive(Drop)]
+struct Built {
+    part: Part,
+    next: u64,
+    parts: usize,
+}
 
 /// The tree of the octets of a message, which may be any. A part without a header takes no memory but its own place.
 pub fn parse(alloc: Global, bytes: &[u8]) -> Result<Part, AllocError>
@@ -28,11 +39,48 @@ pub fn parse(alloc: Global, bytes: &[u8]) -> Result<Part, AllocError>
         end: bytes.len(),
     };
     let default = &shared.text_plain;
-    let (part, _) = part_at(alloc, &shared, bytes, place, default, MAX_DEPTH, 1)?;
-    Ok(part)
+    match part_at(
+        alloc, &shared, bytes, place, default, MAX_DEPTH, 1, MAX_PARTS,
+    )? {
+        Some(built) => Ok(part_of(built)),
+        None => {
+            let head = head_at(alloc, bytes, place, default)?;
+            leaf(alloc, &shared, head, 1)
+        }
+    }
 }
 
-/// The part that stands there, and the number after its leaves'.
+fn part_of(built: Built) -> Part
+    ensures { result ≡ built.part }
+{
+    let Built {
+        part,
+        next: _,
+        parts: _,
+    } = built;
+    part
+}
+
+/// A leaf, which is a tree of one part.
+fn built_leaf(
+    alloc: Global,
+    shared: &SharedTexts,
+    head: Head,
+    number: u64,
+) -> Result<Built, AllocError>
+    requires shared { AreShared shared.now }
+    requires room { number < 2 ^ 64 - 1 }
+    ensures leaf { IfOk result (λ t. IsLeaf head number t.part t.next) }
+    ensures one { IfOk result (λ t. t.parts ≡ 1) }
+{
+    Ok(Built {
+        part: leaf(alloc, shared, head, number)?,
+        next: number + 1,
+        parts: 1,
+    })
+}
+
+/// The part that stands there, where it has no more than `most` parts.
 fn part_at(
     alloc: Global,
     shared: &SharedTexts,
@@ -41,50 +89,71 @@ fn part_at(
     default: &Bytes,
     more: usize,
     first: u64,
-) -> Result<(Part, u64), AllocError>
+    most: usize,
+) -> Result<Option<Built>, AllocError>
     requires shared { AreShared shared.now }
     requires ordered { place.start ≤ place.end }
     requires within { place.end ≤ length bytes.now }
     requires room { first + (place.end - place.start) ≤ 2 ^ 63 }
-    ensures tree { IfOk result (λ r. IsTree more bytes.now place.start place.end default.now first r.0 r.1) }
-    ensures numbers { IfOk result (λ r. r.1 ≤ first + (place.end - place.start) + 1) }
+    ensures { IfOk result (λ r. MatchOption r
+        (HasMoreParts most more bytes.now place.start place.end default.now first)
+        (λ t. IsBuilt most more bytes.now place.start place.end default.now first t)) }
 {
+    if most == 0 {
+        return Ok(None);
+    }
     let head = head_at(alloc, bytes, place, default)?;
     if more == 0 {
-        return Ok((leaf(alloc, shared, head, first)?, first + 1));
+        return Ok(Some(built_leaf(alloc, shared, head, first)?));
     }
-    match pieces_of(alloc, bytes, &head)? {
-        None => Ok((leaf(alloc, shared, head, first)?, first + 1)),
-        Some(pieces) => {
+    match pieces_of(alloc, bytes, &head, most - 1)? {
+        SplitBody::Undelimited => Ok(Some(built_leaf(alloc, shared, head, first)?)),
+        SplitBody::TooMany => Ok(None),
+        SplitBody::Pieces(pieces) => {
             let mut children = Vec::with_capacity(alloc, pieces.len())?;
             let mut next = first;
+            let mut parts = 1;
             for piece in pieces.as_slice() {
                 let place = Piece {
                     start: head.body + piece.start,
                     end: head.body + piece.end,
                 };
                 let default = default_in(shared, head.media.as_slice());
-                let (child, after) = part_at(alloc, shared, bytes, place, default, more - 1, next)?;
-                children.push(child)?;
-                next = after;
+                match part_at(
+                    alloc,
+                    shared,
+                    bytes,
+                    place,
+                    default,
+                    more - 1,
+                    next,
+                    most - parts,
+                )? {
+                    None => return Ok(None),
+                    Some(built) => {
+                        next = built.next;
+                        parts += built.parts;
+                        children.push(part_of(built))?;
+                    }
+                }
             }
-            Ok((node(shared, head, children)?, next))
+            let part = node(shared, head, children)?;
+            Ok(Some(Built { part, next, parts }))
         }
     }
 }
 
-/// The pieces of the body, where it is split by a boundary and a delimiter line comes.
-fn pieces_of(alloc: Global, bytes: &[u8], head: &Head) -> Result<Option<Listed<Piece>>, AllocError>
+/// The pieces of the body, where it is split by a boundary, a delimiter line comes, and they are no more than `most`.
+fn pieces_of(alloc: Global, bytes: &[u8], head: &Head, most: usize) -> Result<SplitBody, AllocError>
     requires ordered { head.now.body ≤ head.now.end }
     requires within { head.now.end ≤ length bytes.now }
-    ensures pieces { IfOk result (λ qs. ArePieces (heads.boundary_of head.now) (slice_range bytes.now head.now.body head.now.end) qs) }
-    ensures behind { IfOk result (λ qs. IfSome qs (λ ps. AreBehind 0 ps (head.now.end - head.now.body))) }
+    ensures { IfOk result (λ r. IsSplitBody most (heads.boundary_of head.now) (slice_range bytes.now head.now.body head.now.end) r) }
 {
     match boundary_of(head) {
-        None => Ok(None),
+        None => Ok(SplitBody::Undelimited),
         Some(boundary) => {
             let body = &bytes[head.body..head.end];
-            split(alloc, body, boundary)
+            split(alloc, body, boundary, most)
         }
     }
 }

@@ -1,5 +1,5 @@
 -- Dates in UTC (RFC 8620 section 1.4, RFC 3339 section 5.6), part by part: what stands at the front, and what follows it.
-use Rattle.std.specs.Prelude.{ℕ, ◌==◌, ◌&&◌, nat_le, Bool, if◌then◌else◌, ℤ, pos, ◌+ℤ◌}
+use Rattle.std.specs.Prelude.{ℕ, ◌+◌, ◌==◌, ◌&&◌, nat_le, Bool, if◌then◌else◌, ℤ, pos, ◌+ℤ◌}
 use Rattle.std.specs.Prelude.{List, [], ◌∷◌, length, take, drop, bytes_eq, codes, Option, Some, None, option_map}
 use Rattle.std.specs.List.{list_all}
 use Rattle.serde_json.specs.Data.{Data}
@@ -72,12 +72,15 @@ day_of n = record { year = n.first; month = n.second; day = n.third }
 abbrev pub clock_of : ThreeNumbers → Clock
 clock_of n = record { hour = n.first; minute = n.second; second = n.third }
 
+-- second 60, a leap second, is one second after 59, of which a moment is
+abbrev pub after_59 : Clock → ℕ
+after_59 c = if c.second == 60 then 1 else 0
+
 -- since 1970-01-01T00:00:00Z, of a day and a time that exist, and so many more
 abbrev pub seconds_on : Day → Clock → ℕ → Option ℤ
-seconds_on d c more = option_map (λ m. m.seconds +ℤ pos more) (moment_of d c (pos 0))
+seconds_on d c more = option_map (λ m. m.seconds +ℤ pos (after_59 c + more)) (moment_of d c (pos 0))
 
 -- The first whole second from the date on: what was received at a whole second was before it just where it was before the date.
--- Second 60 is read as 59, so that what was received at 59 isn't before it.
 abbrev pub utc_seconds_in : List ℕ → Option ℤ
 utc_seconds_in t =
     and_then_in (date_at t) (λ date.

@@ -102,6 +102,15 @@ fn fraction_in(text: &[u8]) -> Option<u32>
     }
 }
 
+/// How many seconds a time is after that of its moment: a leap second, which is second 60, is one after second 59, as which moments
+/// have it.
+fn after_59(clock: Clock) -> u32
+    ensures value { result ≡ dates.after_59 clock }
+    ensures small { result ≤ 1 }
+{
+    if clock.second == 60 { 1 } else { 0 }
+}
+
 /// The seconds since 1970 of a day and a time, where they exist, and so many more.
 fn seconds_on(day: Day, clock: Clock, more: u32) -> Option<i64>
     requires { more ≤ 1 }
@@ -109,7 +118,7 @@ fn seconds_on(day: Day, clock: Clock, more: u32) -> Option<i64>
 {
     match moment_of(day, clock, 0) {
         None => None,
-        Some(moment) => Some(moment.seconds + more as i64),
+        Some(moment) => Some(moment.seconds + (after_59(clock) + more) as i64),
     }
 }
 
@@ -133,7 +142,7 @@ fn seconds_of_date(text: &[u8]) -> Option<i64>
     seconds_on(day, clock, more)
 }
 
-/// The first whole second from a date on, in seconds since 1970-01-01T00:00:00Z; second 60 is read as 59.
+/// The first whole second from a date on, in seconds since 1970-01-01T00:00:00Z.
 pub(crate) fn utc_seconds_of(value: &Value) -> Option<i64>
     ensures { result ≡ dates.utc_seconds_of (view value.now) }
 {

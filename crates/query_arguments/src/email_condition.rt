@@ -1,6 +1,6 @@
 // Conditions of Emails.
 
-use gate_world::Bytes;
+use gate_world::{Bytes, Names};
 use mail_conditions::{Quantity, RecordCondition};
 
 /// A condition of Emails (RFC 8621 section 4.4.1).
@@ -8,8 +8,8 @@ use mail_conditions::{Quantity, RecordCondition};
 pub enum EmailCondition {
     /// Its own row decides.
     Record(RecordCondition),
-    /// `header`: the name of a field, and a word in its text where one is asked.
-    Header(Bytes, Option<Bytes>),
+    /// `header`: the name of a field, and words that all stand in the text of one such field where a text is searched for.
+    Header(Bytes, Option<Names>),
     /// So many Emails of its Thread have the keyword, which is in lower case.
     Thread(Quantity, Bytes),
 }

@@ -3,6 +3,7 @@ ghost use Rattle.std.specs.Prelude.{◌≡◌, IfOk, List, ℕ, map};
 ghost use Rattle.serde_json.specs.Find.{as_str};
 ghost use Rattle.serde_json.specs.View.{view};
 ghost use Rattle.jmap_methods.specs.Ids.{mailbox_letter};
+ghost use Rattle.search_words.specs.SearchWords.{words_asked};
 ghost use Rattle.query_arguments.specs.Dates as dates;
 ghost use Rattle.query_arguments.specs.EmailFilters as spec;
 ghost use Rattle.query_arguments.specs.EmailFilters.{of_record};
@@ -12,11 +13,10 @@ ghost use Rattle.query_arguments.specs.Values as values;
 use crate::dates::utc_seconds_of;
 use crate::email_condition::EmailCondition;
 use crate::reading::Reading;
-use crate::values::{
-    keyword_given, list_of_texts, mailbox_number, natural_of, numbers_of_ids, word_of,
-};
-use gate_world::Bytes;
+use crate::values::{keyword_given, list_of_texts, mailbox_number, natural_of, numbers_of_ids};
+use gate_world::{Bytes, Names};
 use mail_conditions::{Quantity, RecordCondition, TextField};
+use search_words::search_words;
 use serde_json::Value;
 use std::alloc::{AllocError, Global};
 
@@ -118,40 +118,60 @@ fn in_thread(
     }
 }
 
+/// The condition that the words of a search text are to stand in a field. One that asks for too many isn't supported.
+fn field_has(field: TextField, words: Option<Names>) -> Reading<EmailCondition>
+    ensures { result ≡ spec.field_has field words }
+{
+    match words {
+        None => Reading::Unsupported,
+        Some(words) => record(RecordCondition::InField { field, words }),
+    }
+}
+
 fn in_field(
     alloc: Global,
     field: TextField,
     value: &Value,
 ) -> Result<Reading<EmailCondition>, AllocError>
-    ensures { IfOk result (λ r. r ≡ of_record (λ word. RecordCondition.InField field word) (as_str (view value.now))) }
+    ensures { IfOk result (λ r. r ≡ spec.in_field field (as_str (view value.now))) }
 {
-    match word_of(alloc, value)? {
+    match value.as_str() {
         None => Ok(Reading::Wrong),
-        Some(word) => Ok(record(RecordCondition::InField { field, word })),
+        Some(text) => {
+            let words = search_words(alloc, text.as_bytes())?;
+            Ok(field_has(field, words))
+        }
     }
 }
 
 fn header_named(
     alloc: Global,
     name: &str,
-    word: Option<Bytes>,
+    words: Option<Names>,
 ) -> Result<Reading<EmailCondition>, AllocError>
-    ensures { IfOk result (λ r. r ≡ Reading.Means (EmailCondition.Header name.now word)) }
+    ensures { IfOk result (λ r. r ≡ Reading.Means (EmailCondition.Header name.now words)) }
 {
     let name = Bytes::copy_of(alloc, name.as_bytes())?;
-    Ok(Reading::Means(EmailCondition::Header(name, word)))
+    Ok(Reading::Means(EmailCondition::Header(name, words)))
 }
 
-/// The condition that a list of a field's name, and a word in it, is.
-fn field_and_word(alloc: Global, texts: &[&str]) -> Result<Reading<EmailCondition>, AllocError>
-    ensures { IfOk result (λ r. r ≡ spec.field_and_word (map (λ t. t.now) texts.now)) }
+/// The condition that the words of a search text are to stand in a field of the name.
+fn header_has(alloc: Global, name: &str, text: &str) -> Result<Reading<EmailCondition>, AllocError>
+    ensures { IfOk result (λ r. r ≡ spec.header_has name.now (words_asked text.now)) }
+{
+    match search_words(alloc, text.as_bytes())? {
+        None => Ok(Reading::Unsupported),
+        Some(words) => header_named(alloc, name, Some(words)),
+    }
+}
+
+/// The condition that a list of a field's name, and a search text, is.
+fn name_and_text(alloc: Global, texts: &[&str]) -> Result<Reading<EmailCondition>, AllocError>
+    ensures { IfOk result (λ r. r ≡ spec.name_and_text (map (λ t. t.now) texts.now)) }
 {
     match texts {
         [name] => header_named(alloc, *name, None),
-        [name, word] => {
-            let word = Bytes::copy_of(alloc, word.as_bytes())?;
-            header_named(alloc, *name, Some(word))
-        }
+        [name, text] => header_has(alloc, *name, *text),
         _ => Ok(Reading::Wrong),
     }
 }
@@ -161,7 +181,7 @@ fn header(alloc: Global, value: &Value) -> Result<Reading<EmailCondition>, Alloc
 {
     match list_of_texts(alloc, value)? {
         None => Ok(Reading::Wrong),
-        Some(texts) => field_and_word(alloc, texts.as_slice()),
+        Some(texts) => name_and_text(alloc, texts.as_slice()),
     }
 }
 

@@ -75,7 +75,7 @@ module _ {C : Type 0} (is_such : C → Bool) (P Q : C → Type 0) (same : (c : C
 module _ (earlier now : List (ℕ × Email)) where
   condition_same : (e : Email) (c : EmailCondition) → reads_thread c ≡ false → EmailMatches earlier e c ↔ EmailMatches now e c
   condition_same e (Record c) alone = ((λ h. h), (λ h. h))
-  condition_same e (Header name word) alone = ((λ h. h), (λ h. h))
+  condition_same e (Header name words) alone = ((λ h. h), (λ h. h))
   condition_same e (Thread quantity keyword) alone = absurd (cc)
 
   pub takes_same : (f : FilterTree EmailCondition) (e : Email) → has_condition reads_thread f ≡ false

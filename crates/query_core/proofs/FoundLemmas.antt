@@ -134,7 +134,7 @@ module _ (emails : List (ℕ × Email)) where
     knows_all : (cs : List EmailCondition) → AllByRecursion (HasThreads emails found) (keywords_of_all cs) → AllByRecursion (KnowsThreads emails found) cs
     knows_all [] all = tt
     knows_all (Record c ∷ cs) all = (tt, knows_all cs all)
-    knows_all (Header name word ∷ cs) all = (tt, knows_all cs all)
+    knows_all (Header name words ∷ cs) all = (tt, knows_all cs all)
     knows_all (Thread quantity keyword ∷ cs) all = (all.0, knows_all cs all.1)
 
     mutual

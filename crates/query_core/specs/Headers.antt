@@ -3,27 +3,27 @@ use Rattle.std.specs.Prelude.{◌≡◌, ◌≢◌, ℕ, List, [], true, Contain
 use Rattle.text_words.specs.Octets.{is_same_text}
 use Rattle.mail_header.specs.Fields.{NameAndRaw, IsHeader, last_named}
 use Rattle.mail_header.specs.RawForms.{IsTextForm}
-use Rattle.mail_conditions.specs.Words.{HasWord}
+use Rattle.mail_conditions.specs.Words.{HasWords}
 
--- the field is of the name, and the word stands in its text
-pub record FieldHasWord (name word : List ℕ) (f : NameAndRaw) : Type 0 where
+-- the field is of the name, and each of the words stands in its text
+pub record FieldHasWords (name : List ℕ) (words : List (List ℕ)) (f : NameAndRaw) : Type 0 where
   pub named : is_same_text f.0 name ≡ true
   pub text : List ℕ
   pub is_text : IsTextForm text f.1
-  pub has_word : HasWord word text
+  pub has_words : HasWords words text
 
--- a field of the name has the word in its text, which is empty where there is no such field
-pub data FieldsHaveWord (name word : List ℕ) (fields : List NameAndRaw) : Type 0 where
-  InField : (f : NameAndRaw) → Contains fields f → FieldHasWord name word f → FieldsHaveWord name word fields
-  NoField : last_named name fields ≡ None → HasWord word [] → FieldsHaveWord name word fields
+-- a field of the name has each of the words in its text, which is empty where there is no such field
+pub data FieldsHaveWords (name : List ℕ) (words : List (List ℕ)) (fields : List NameAndRaw) : Type 0 where
+  InField : (f : NameAndRaw) → Contains fields f → FieldHasWords name words f → FieldsHaveWords name words fields
+  NoField : last_named name fields ≡ None → HasWords words [] → FieldsHaveWords name words fields
 
--- it is asked whether there is a field of the name, or whether one has the word
-abbrev pub FieldsMatch : List ℕ → Option (List ℕ) → List NameAndRaw → Type 0
+-- it is asked whether there is a field of the name, or whether one has words
+abbrev pub FieldsMatch : List ℕ → Option (List (List ℕ)) → List NameAndRaw → Type 0
 FieldsMatch name None fields = last_named name fields ≢ None
-FieldsMatch name (Some word) fields = FieldsHaveWord name word fields
+FieldsMatch name (Some words) fields = FieldsHaveWords name words fields
 
-pub record HeaderMatches (header name : List ℕ) (word : Option (List ℕ)) : Type 0 where
+pub record HeaderMatches (header name : List ℕ) (words : Option (List (List ℕ))) : Type 0 where
   pub fields : List NameAndRaw
   pub end : ℕ
   pub is_header : IsHeader fields end header
-  pub matches : FieldsMatch name word fields
+  pub matches : FieldsMatch name words fields

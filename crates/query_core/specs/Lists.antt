@@ -29,13 +29,13 @@ MailboxListAsked = ListMeant MailboxCondition MailboxComparator
 -- when an Email, of all these, is as a condition says
 abbrev pub EmailMatches : List (ℕ × Email) → Email → EmailCondition → Type 0
 EmailMatches emails e (Record c) = RecordMatches e c
-EmailMatches emails e (Header name word) = HeaderMatches e.immutable.header name word
+EmailMatches emails e (Header name words) = HeaderMatches e.immutable.header name words
 EmailMatches emails e (Thread quantity keyword) = ThreadMatches emails quantity keyword e.immutable.thread
 
 -- whether other Emails of its Thread decide too
 abbrev pub reads_thread : EmailCondition → Bool
 reads_thread (Record c) = false
-reads_thread (Header name word) = false
+reads_thread (Header name words) = false
 reads_thread (Thread quantity keyword) = true
 
 -- all rows, or of each Thread the first

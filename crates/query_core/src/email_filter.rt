@@ -14,7 +14,8 @@ use crate::emails::TestedEmail;
 use crate::filter_walk::{Tested, takes};
 use crate::kept::keep_if;
 use crate::keyword_threads::{FoundThreads, threads_for};
-use crate::text_search::having_word;
+use crate::searched_fields::searches_again;
+use crate::text_search::having_words;
 use mail_conditions::{EmailEntry, RecordCondition, record_matches};
 use query_arguments::{EmailCondition, Filter};
 use query_lists::FilterOperator;
@@ -65,8 +66,8 @@ fn satisfying<'a>(
         → IfOk result (λ v. Keeps (λ e. EmailMatches (emails_at emails.now) e.1 condition.now) (emails_at rows.entry.items) (emails_at v.items)) }
 {
     if let EmailCondition::Record(record) = condition {
-        if let RecordCondition::InField { field, word } = record {
-            return having_word(alloc, &rows, *field, word.as_slice());
+        if let RecordCondition::InField { field, words } = record {
+            return having_words(alloc, &rows, *field, words);
         }
         let mut left = rows;
         retain_matching(&mut left, record);
@@ -88,7 +89,7 @@ fn is_of_text(condition: &RecordCondition) -> bool
         RecordCondition::MaxSize(_) => false,
         RecordCondition::HasKeyword(_) => false,
         RecordCondition::NotKeyword(_) => false,
-        RecordCondition::InField { field: _, word: _ } => true,
+        RecordCondition::InField { field: _, words: _ } => true,
     }
 }
 
@@ -229,7 +230,8 @@ fn taken_of<'a>(
     }
 }
 
-/// Those that the filter takes, in their order.
+/// Those that the filter takes, in their order. The texts of a field are copied once at most: where two conditions search one field,
+/// the filter is walked for each Email, and words are searched where the texts lie, all of them while a text is near.
 pub(crate) fn taken<'a>(
     alloc: Global,
     emails: &[EmailEntry<'a>],
@@ -239,6 +241,9 @@ pub(crate) fn taken<'a>(
         (emails_at emails.now) (emails_at v.items)) }
 {
     let found = threads_for(alloc, emails, filter)?;
+    if searches_again(filter) {
+        return taken_by(alloc, emails, emails, &found, filter);
+    }
     let rows = emails.to_vec(alloc)?;
     taken_of(alloc, emails, rows, &found, filter)
 }

@@ -43,9 +43,9 @@ impl<'a> Tested<EmailCondition> for TestedEmail<'a> {
     fn holds(&self, condition: &EmailCondition) -> Result<bool, AllocError> {
         match condition {
             EmailCondition::Record(condition) => Ok(record_matches(self.email.row, condition)),
-            EmailCondition::Header(name, word) => {
+            EmailCondition::Header(name, words) => {
                 let header = self.email.row.header.as_slice();
-                header_matches(self.alloc, header, name.as_slice(), word)
+                header_matches(self.alloc, header, name.as_slice(), words)
             }
             EmailCondition::Thread(quantity, keyword) => {
                 Ok(thread_holds(self, *quantity, keyword.as_slice()))

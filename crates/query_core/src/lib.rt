@@ -11,6 +11,7 @@ mod keyword_threads;
 // Rows that a filter takes.
 mod email_filter;
 mod kept;
+mod searched_fields;
 mod text_search;
 
 // Lists.

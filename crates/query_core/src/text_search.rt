@@ -1,14 +1,15 @@
-// Emails whose texts have a word.
+// Emails whose texts have words.
 ghost use Rattle.std.specs.Prelude.{◌≡◌, List, ℕ, IfOk, length, map};
 ghost use Rattle.mail_maps.specs.Serve.{Email};
 ghost use Rattle.mail_conditions.specs.Entries.{email_at, emails_at};
 ghost use Rattle.mail_conditions.specs.Records as records;
-ghost use Rattle.mail_conditions.specs.Words.{HasWord};
+ghost use Rattle.mail_conditions.specs.Words.{HasWords};
 ghost use Rattle.query_core.specs.reading.Joined.{joined};
 ghost use Rattle.query_core.specs.reading.Kept.{Keeps};
 
 use crate::kept::keep_if;
-use mail_conditions::{EmailEntry, TextField, field_text, has_word};
+use gate_world::Names;
+use mail_conditions::{EmailEntry, TextField, field_text, has_words};
 use std::alloc::{AllocError, Global};
 
 /// The texts of a field, where they lie. The loop does nothing else, so that the processor reads several rows at a time.
@@ -26,11 +27,20 @@ fn field_texts<'a>(
     Ok(texts)
 }
 
+/// How long the texts are together.
+fn length_of(texts: &[&[u8]]) -> usize {
+    let mut length: usize = 0;
+    for text in texts {
+        length = length.saturating_add(text.len());
+    }
+    length
+}
+
 /// The texts, one after another.
 fn joined_texts(alloc: Global, texts: &[&[u8]]) -> Result<Vec<u8>, AllocError>
     ensures { IfOk result (λ v. v.items ≡ joined (map (λ t. t.now) texts.now)) }
 {
-    let mut octets = Vec::new(alloc);
+    let mut octets = Vec::with_capacity(alloc, length_of(texts))?;
     for text in texts {
         octets.extend_from_slice(text)?;
     }
@@ -56,36 +66,36 @@ fn cut_texts<'a>(
     Ok(cut)
 }
 
-/// Those whose text has the word; each Email has the text at its place.
-fn with_word<'a>(
+/// Those whose text has each of the words; each Email has the text at its place.
+fn with_words<'a>(
     alloc: Global,
     rows: &[EmailEntry<'a>],
     texts: &[&[u8]],
-    word: &[u8],
+    words: &Names,
 ) -> Result<Vec<EmailEntry<'a>>, AllocError>
     requires { length texts.now ≡ length rows.now }
     ensures { (of : Email → List ℕ) → map (λ t. t.now) texts.now ≡ map (λ e. of (email_at e)) rows.now
-        → IfOk result (λ v. Keeps (λ e. HasWord word.now (of e.1)) (emails_at rows.now) (emails_at v.items)) }
+        → IfOk result (λ v. Keeps (λ e. HasWords words.now (of e.1)) (emails_at rows.now) (emails_at v.items)) }
 {
     let mut kept = Vec::new(alloc);
     for (at, text) in texts.iter().enumerate() {
-        keep_if(&mut kept, rows[at], has_word(word, text))?;
+        keep_if(&mut kept, rows[at], has_words(words, text))?;
     }
     Ok(kept)
 }
 
-/// Those in whose field the word stands, in their order. The texts are copied into one piece of memory first, which is freed at the
+/// Those in whose field each of the words stands, in their order. The texts are copied into one piece of memory first, which is freed at the
 /// end, since a search in texts that lie far from one another takes much longer.
-pub(crate) fn having_word<'a>(
+pub(crate) fn having_words<'a>(
     alloc: Global,
     rows: &[EmailEntry<'a>],
     field: TextField,
-    word: &[u8],
+    words: &Names,
 ) -> Result<Vec<EmailEntry<'a>>, AllocError>
-    ensures { IfOk result (λ v. Keeps (λ e. HasWord word.now (records.field_text field e.1.immutable.envelope)) (emails_at rows.now) (emails_at v.items)) }
+    ensures { IfOk result (λ v. Keeps (λ e. HasWords words.now (records.field_text field e.1.immutable.envelope)) (emails_at rows.now) (emails_at v.items)) }
 {
     let found = field_texts(alloc, rows, field)?;
     let octets = joined_texts(alloc, &found)?;
     let texts = cut_texts(alloc, &found, octets.as_slice())?;
-    with_word(alloc, rows, &texts, word)
+    with_words(alloc, rows, &texts, words)
 }

@@ -1,6 +1,6 @@
 // What the arguments of queries ask.
 
-use gate_world::Bytes;
+use gate_world::{Bytes, Names};
 use jmap_methods::MethodError;
 use mail_conditions::{MailboxCondition, Quantity, RecordCondition, TextField};
 use mail_maps::Role;
@@ -39,6 +39,19 @@ fn put_text(name: &str, text: &Bytes, out: &mut String) -> Result<(), AllocError
     put_octets(text, out)
 }
 
+/// Words and phrases, with `/` between two.
+fn put_words(name: &str, words: &Names, out: &mut String) -> Result<(), AllocError> {
+    out.push_str(name)?;
+    out.push(' ')?;
+    for (at, word) in words.as_slice().iter().enumerate() {
+        if at != 0 {
+            out.push('/')?;
+        }
+        put_octets(word, out)?;
+    }
+    Ok(())
+}
+
 fn field_name(field: TextField) -> &'static str {
     match field {
         TextField::From => "from",
@@ -69,7 +82,7 @@ impl Shown for RecordCondition {
             RecordCondition::MaxSize(size) => write!(out, "maxSize {size}"),
             RecordCondition::HasKeyword(keyword) => put_text("hasKeyword", keyword, out),
             RecordCondition::NotKeyword(keyword) => put_text("notKeyword", keyword, out),
-            RecordCondition::InField { field, word } => put_text(field_name(*field), word, out),
+            RecordCondition::InField { field, words } => put_words(field_name(*field), words, out),
         }
     }
 }
@@ -92,9 +105,9 @@ impl Shown for EmailCondition {
                 out,
             ),
             EmailCondition::Header(name, None) => put_text("header", name, out),
-            EmailCondition::Header(name, Some(word)) => {
+            EmailCondition::Header(name, Some(words)) => {
                 put_text("header", name, out)?;
-                put_text(" with", word, out)
+                put_words(" with", words, out)
             }
         }
     }

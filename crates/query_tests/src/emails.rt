@@ -6,6 +6,7 @@ use mail_conditions::{
     thread_matches,
 };
 use mail_maps::EmailRow;
+use search_words::search_words;
 use std::alloc::{AllocError, Global};
 use std::collections::BTreeSet;
 
@@ -30,20 +31,37 @@ fn field_of(name: &str) -> Option<TextField> {
     }
 }
 
-/// The condition of a name that speaks of a word.
+/// The condition of a name that speaks of the text of a field.
+fn text_condition(
+    alloc: Global,
+    name: &str,
+    text: &str,
+) -> Result<Option<RecordCondition>, AllocError> {
+    let Some(field) = field_of(name) else {
+        return Ok(None);
+    };
+    match search_words(alloc, text.as_bytes())? {
+        None => Ok(None),
+        Some(words) => Ok(Some(RecordCondition::InField { field, words })),
+    }
+}
+
+/// The condition of a name that speaks of a keyword or of the text of a field.
 fn worded_condition(
     alloc: Global,
     name: &str,
     word: &str,
 ) -> Result<Option<RecordCondition>, AllocError> {
-    let text = Bytes::copy_of(alloc, word.as_bytes())?;
     match name {
-        "hasKeyword" => Ok(Some(RecordCondition::HasKeyword(text))),
-        "notKeyword" => Ok(Some(RecordCondition::NotKeyword(text))),
-        _ => match field_of(name) {
-            None => Ok(None),
-            Some(field) => Ok(Some(RecordCondition::InField { field, word: text })),
-        },
+        "hasKeyword" => {
+            let keyword = Bytes::copy_of(alloc, word.as_bytes())?;
+            Ok(Some(RecordCondition::HasKeyword(keyword)))
+        }
+        "notKeyword" => {
+            let keyword = Bytes::copy_of(alloc, word.as_bytes())?;
+            Ok(Some(RecordCondition::NotKeyword(keyword)))
+        }
+        _ => text_condition(alloc, name, word),
     }
 }
 

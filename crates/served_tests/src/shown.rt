@@ -4,6 +4,7 @@ use gate_world::Bytes;
 use mail_maps::{EmailRow, Envelope, MailboxRow};
 use mail_state::{MailState, MailType};
 use std::alloc::AllocError;
+use thread_rule::next_id;
 use told_dialogues::put_octets;
 
 /// ` e3 m1/5 t2 $seen;`: the Email, its Mailbox, its UID, which isn't served and may be left out, its Thread and keywords.
@@ -125,6 +126,20 @@ fn put_part(out: &mut String, part: &Option<Bytes>) -> Result<(), AllocError> {
     out.push('|')
 }
 
+/// Adds the ids of a text.
+fn put_message_ids(out: &mut String, text: &[u8]) -> Result<(), AllocError> {
+    let mut rest = text;
+    for _ in 0..text.len() {
+        let Some((id, more)) = next_id(rest) else {
+            break;
+        };
+        out.push(' ')?;
+        put_octets(out, id)?;
+        rest = more;
+    }
+    Ok(())
+}
+
 /// Adds what is read of a header.
 pub(crate) fn put_envelope(out: &mut String, read: &Envelope) -> Result<(), AllocError> {
     let (from, to) = (&read.from, &read.to);
@@ -141,9 +156,5 @@ pub(crate) fn put_envelope(out: &mut String, read: &Envelope) -> Result<(), Allo
     }
     put_octets(out, read.base.as_slice())?;
     write!(out, "|{:?}", read.sent_at)?;
-    for id in read.ids.as_slice() {
-        out.push(' ')?;
-        put_octets(out, id.as_slice())?;
-    }
-    Ok(())
+    put_message_ids(out, read.ids.as_text())
 }

@@ -84,9 +84,9 @@ lists_all mail whole none = record {
       (told_among list_response ListsFolder (λ f. (refl, refl, refl)) mail.folders));
 }
 
-pub list_honest : (s : StoreSession) → IsStoreMail s.mail → s.mail.unselectable ≡ [] → IsOkHonest s command.List
-list_honest s whole none =
-    late_answer s s command.List (map list_response s.mail.folders) code.Absent whole
+pub list_honest : (special_use : Bool) (s : StoreSession) → IsStoreMail s.mail → s.mail.unselectable ≡ [] → IsOkHonest s (command.List special_use)
+list_honest special_use s whole none =
+    late_answer s s (command.List special_use) (map list_response s.mail.folders) code.Absent whole
     (each_told list_response (IsTrueThere (messages_of_selected s.selected s.mail)) (λ f. (tt, tt)) s.mail.folders) (refl, lists_all s.mail whole none)
 
 -- ---- in the folder that is selected

@@ -46,7 +46,7 @@ good : (s : StoreSession) (c : Command) → IsSmallMail s.mail → HasStorablePa
 good s command.Capability small ask free = record { honest = capability_honest s small.well_formed; small = small }
 good s (command.Login user password) small ask free = record { honest = login_honest s user password small.well_formed; small = small }
 good s command.Enable small ask free = record { honest = enable_honest s small.well_formed; small = small }
-good s command.List small ask free = record { honest = list_honest s small.well_formed small.all_selectable; small = small }
+good s (command.List special_use) small ask free = record { honest = list_honest special_use s small.well_formed small.all_selectable; small = small }
 good s (command.Select name known) small ask free = record {
   honest = select_honest s name known small.well_formed (all_modseqs s small) free;
   small = select_leaves s known (folder_called s.mail.folders name) small;

@@ -125,7 +125,7 @@ abbrev pub ok_reply : StoreSession → Command → Reply
 ok_reply s command.Capability = reply_with s (response.Capability (codes "IMAP4rev2" ∷ codes "QRESYNC" ∷ []) ∷ [])
 ok_reply s (command.Login user password) = reply_with (unselected s) []
 ok_reply s command.Enable = reply_with s (response.Enabled (codes "QRESYNC" ∷ codes "IMAP4rev2" ∷ []) ∷ [])
-ok_reply s command.List = reply_with s (map list_response s.mail.folders)
+ok_reply s (command.List special_use) = reply_with s (map list_response s.mail.folders)
 ok_reply s (command.Select name known) = select_reply s known (folder_called s.mail.folders name)
 ok_reply s command.Unselect = reply_with (unselected s) []
 ok_reply s command.FetchFlags = reply_in s (selected_folder s) (λ f. fetch_reply s f.messages (λ u. true) flags_response)

@@ -287,7 +287,7 @@ sent_after : (s : StoreSession) (c : Command) → IsSmallMail s.mail → IsSenda
 sent_after s command.Capability small told parts free = sent_with s (response.Capability (codes "IMAP4rev2" ∷ codes "QRESYNC" ∷ []) ∷ []) (printed, tt)
 sent_after s (command.Login user password) small told parts free = record { responses = tt; code = absent_short }
 sent_after s command.Enable small told parts free = sent_with s (response.Enabled (codes "QRESYNC" ∷ codes "IMAP4rev2" ∷ []) ∷ []) (enabled, tt)
-sent_after s command.List small told parts free =
+sent_after s (command.List special_use) small told parts free =
     sent_with s (map list_response s.mail.folders)
     (each_mapped list_response IsSendable s.mail.folders (each_folder s.mail small told (λ f. IsSendable (list_response f)) list_sent))
 sent_after s (command.Select name known) small told parts free = select_sent s name known small told (folder_called s.mail.folders name) refl

@@ -148,7 +148,7 @@ told_after : (s : StoreSession) (c : Command) → IsSendableMail s.mail → HasS
 told_after s command.Capability told parts free = told
 told_after s (command.Login user password) told parts free = told
 told_after s command.Enable told parts free = told
-told_after s command.List told parts free = told
+told_after s (command.List special_use) told parts free = told
 told_after s (command.Select name known) told parts free = select_told s known (folder_called s.mail.folders name) told
 told_after s command.Unselect told parts free = told
 told_after s command.FetchFlags told parts free = read_told s (selected_folder s) (λ ms u. true) flags_response told

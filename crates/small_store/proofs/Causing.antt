@@ -83,8 +83,8 @@ free_login user password s needs = free_by s (command.Login user password) refl 
 pub free_enable : IsFree command.Enable
 free_enable s needs = free_by s command.Enable refl refl (λ a. a) (λ a. a) needs (λ a. a) refl (λ a. a)
 
-pub free_list : IsFree command.List
-free_list s needs = free_by s command.List refl refl (λ a. a) (λ a. a) needs (λ a. a) refl (λ a. a)
+pub free_list : (special_use : Bool) → IsFree (command.List special_use)
+free_list special_use s needs = free_by s (command.List special_use) refl refl (λ a. a) (λ a. a) needs (λ a. a) refl (λ a. a)
 
 pub free_unselect : IsFree command.Unselect
 free_unselect s needs = free_by s command.Unselect refl refl (λ a. a) (λ a. a) needs (λ a. a) refl (λ a. a)

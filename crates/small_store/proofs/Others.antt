@@ -17,7 +17,7 @@ pub needs_none : (c : Command)
 needs_none command.Capability _ _ _ _ _ _ _ _ = λ needs. needs
 needs_none (command.Login user password) _ _ _ _ _ _ _ _ = λ needs. needs
 needs_none command.Enable _ _ _ _ _ _ _ _ = λ needs. needs
-needs_none command.List _ _ _ _ _ _ _ _ = λ needs. needs
+needs_none (command.List special_use) _ _ _ _ _ _ _ _ = λ needs. needs
 needs_none (command.Select name known) _ _ _ _ _ _ _ _ = λ needs. needs
 needs_none command.Unselect not_unselect _ _ _ _ _ _ _ = absurd (not_unselect refl)
 needs_none command.FetchFlags _ not_flags _ _ _ _ _ _ = absurd (not_flags refl)
@@ -45,7 +45,7 @@ pub free_rest : (s : StoreSession) (c : Command)
 free_rest s command.Capability _ _ _ _ _ _ _ _ _ needs = free_capability s needs
 free_rest s (command.Login user password) _ _ _ _ _ _ _ _ _ needs = free_login user password s needs
 free_rest s command.Enable _ _ _ _ _ _ _ _ _ needs = free_enable s needs
-free_rest s command.List _ _ _ _ _ _ _ _ _ needs = free_list s needs
+free_rest s (command.List special_use) _ _ _ _ _ _ _ _ _ needs = free_list special_use s needs
 free_rest s (command.Select name known) not_select _ _ _ _ _ _ _ _ needs = absurd (not_select name known refl)
 free_rest s command.Unselect _ _ _ _ _ _ _ _ _ needs = free_unselect s needs
 free_rest s command.FetchFlags _ _ _ _ _ _ _ _ _ needs = free_flags s needs
@@ -64,7 +64,7 @@ free_rest s (command.Subscribe name on) _ _ _ _ _ not_subscribe _ _ _ needs = ab
 -- one is on messages
 pub uses_rest : (c : Command)
     → (c ≡ command.Capability → ⊥) → (c ≡ command.Enable → ⊥)
-    → (c ≡ command.List → ⊥) → ((user : List ℕ) (password : List ℕ) → c ≡ command.Login user password → ⊥)
+    → ((special_use : Bool) → c ≡ command.List special_use → ⊥) → ((user : List ℕ) (password : List ℕ) → c ≡ command.Login user password → ⊥)
     → (c ≡ command.Unselect → ⊥) → ((name : List ℕ) (known : Option (ℕ × ℕ)) → c ≡ command.Select name known → ⊥)
     → ((name : List ℕ) → c ≡ command.Create name → ⊥) → ((name : List ℕ) → c ≡ command.Delete name → ⊥)
     → ((from : List ℕ) (to : List ℕ) → c ≡ command.Rename from to → ⊥) → ((name : List ℕ) (on : Bool) → c ≡ command.Subscribe name on → ⊥)
@@ -73,7 +73,7 @@ pub uses_rest : (c : Command)
 uses_rest command.Capability not_capability _ _ _ _ _ _ _ _ _ _ = absurd (not_capability refl)
 uses_rest (command.Login user password) _ _ _ not_login _ _ _ _ _ _ _ = absurd (not_login user password refl)
 uses_rest command.Enable _ not_enable _ _ _ _ _ _ _ _ _ = absurd (not_enable refl)
-uses_rest command.List _ _ not_list _ _ _ _ _ _ _ _ = absurd (not_list refl)
+uses_rest (command.List special_use) _ _ not_list _ _ _ _ _ _ _ _ = absurd (not_list special_use refl)
 uses_rest (command.Select name known) _ _ _ _ _ not_select _ _ _ _ _ = absurd (not_select name known refl)
 uses_rest command.Unselect _ _ _ _ not_unselect _ _ _ _ _ _ = absurd (not_unselect refl)
 uses_rest command.FetchFlags _ _ _ _ _ _ _ _ _ _ _ = tt
@@ -98,7 +98,7 @@ pub reads_rest : (c : Command)
 reads_rest command.Capability _ _ _ uses = uses
 reads_rest (command.Login user password) _ _ _ uses = uses
 reads_rest command.Enable _ _ _ uses = uses
-reads_rest command.List _ _ _ uses = uses
+reads_rest (command.List special_use) _ _ _ uses = uses
 reads_rest (command.Select name known) _ _ _ uses = uses
 reads_rest command.Unselect _ _ _ uses = uses
 reads_rest command.FetchFlags _ _ _ uses = uses

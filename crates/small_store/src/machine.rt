@@ -124,7 +124,7 @@ impl Machine {
         match command {
             Command::Capability => capability(alloc),
             Command::Enable => enable(alloc),
-            Command::List => Ok(Answer::told(list_responses(alloc, self.mail.folders())?)),
+            Command::List { .. } => Ok(Answer::told(list_responses(alloc, self.mail.folders())?)),
             Command::Login { .. } => Ok(self.unselect()),
             Command::Unselect => Ok(self.unselect()),
             Command::Select { name, known } => self.select(name.as_slice(), *known),

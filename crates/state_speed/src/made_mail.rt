@@ -104,7 +104,12 @@ fn tell_folder(alloc: Global, mirror: &mut Mirror) -> Result<(), AllocError> {
         delimiter: Some(b'/'),
         name: Bytes::copy_of(alloc, b"INBOX")?,
     })?;
-    tell(alloc, mirror, Command::List, responses)
+    tell(
+        alloc,
+        mirror,
+        Command::List { special_use: false },
+        responses,
+    )
 }
 
 /// Tells of the messages from one number to before another.

@@ -1,30 +1,29 @@
 // Threads of Emails as they arrive.
-use gate_world::{Bytes, Names};
 use std::alloc::{AllocError, Global};
-use thread_rule::{Named, ThreadBook, base_subject};
+use thread_rule::{Ids, Named, ThreadBook, base_subject, push_id};
 use told_dialogues::{first_number, first_word};
 
 /// So many ids, of eight octets each.
-fn numbered(alloc: Global, count: u64) -> Result<Names, AllocError> {
-    let mut names = Names::new(alloc);
+fn numbered(alloc: Global, count: u64) -> Result<Ids, AllocError> {
+    let mut text = Vec::new(alloc);
     for id in 0..count {
-        names.push(Bytes::copy_of(alloc, &id.to_le_bytes())?)?;
+        push_id(&mut text, format!(in alloc; "{id:08}")?.as_bytes())?;
     }
-    Ok(names)
+    Ids::of(alloc, text.as_slice())
 }
 
-/// The ids between commas; `-` stands for none, and `#` and a number for so many.
-fn names_of(alloc: Global, ids: &str) -> Result<Names, AllocError> {
+/// The ids between commas, each in angle brackets; `-` stands for none, and `#` and a number for so many.
+fn ids_of(alloc: Global, ids: &str) -> Result<Ids, AllocError> {
     if let Some(count) = ids.strip_prefix('#') {
         return numbered(alloc, first_number(count).0);
     }
-    let mut names = Names::new(alloc);
+    let mut text = Vec::new(alloc);
     for id in ids.split(',') {
-        if id != "-" {
-            names.push(Bytes::copy_of(alloc, id.as_bytes())?)?;
+        if let Some(id) = id.strip_prefix('<') {
+            push_id(&mut text, id.strip_suffix('>').unwrap_or(id).as_bytes())?;
         }
     }
-    Ok(names)
+    Ids::of(alloc, text.as_slice())
 }
 
 /// The Email of a number, ids and a Subject, in which its number stands for `%n`.
@@ -34,7 +33,7 @@ fn named_of(alloc: Global, email: u64, text: &str) -> Result<Named, AllocError> 
     let subject = subject.replace(alloc, "%n", &number)?;
     Ok(Named {
         email,
-        ids: names_of(alloc, ids)?,
+        ids: ids_of(alloc, ids)?,
         base: base_subject(alloc, subject.as_bytes())?,
     })
 }

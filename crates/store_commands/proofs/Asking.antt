@@ -121,7 +121,7 @@ request_askable command.Capability t h = tt
 request_askable (command.Login user password) t h =
     (credential_octets user h.second.front h.second.first, credential_octets password h.second.second.back h.second.second.second)
 request_askable command.Enable t h = tt
-request_askable command.List t h = tt
+request_askable (command.List special_use) t h = tt
 request_askable (command.Select name known) t h = (name_plain name h.second.front h.second.first, known_within known h.second.back h.second.second)
 request_askable command.Unselect t h = tt
 request_askable command.FetchFlags t h = tt

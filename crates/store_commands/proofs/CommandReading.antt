@@ -25,10 +25,12 @@ abbrev pub Arguments : FixedText → Command → List ℕ → Type 0
 Arguments word.Capability = Nothing command.Capability
 Arguments word.Enable = Nothing command.Enable
 Arguments word.Unselect = Nothing command.Unselect
-Arguments word.List = Nothing command.List
-Arguments word.ListAtom = Nothing command.List
-Arguments word.ListSubscribed = Nothing command.List
-Arguments word.ListAtomSubscribed = Nothing command.List
+Arguments word.List = Nothing (command.List false)
+Arguments word.ListAtom = Nothing (command.List false)
+Arguments word.ListSubscribed = Nothing (command.List false)
+Arguments word.ListAtomSubscribed = Nothing (command.List false)
+Arguments word.ListSpecialUse = Nothing (command.List true)
+Arguments word.ListAtomSpecialUse = Nothing (command.List true)
 Arguments word.Login = LoginArguments
 Arguments word.Select = SelectArguments
 Arguments word.Append = AppendArguments
@@ -51,6 +53,8 @@ behind word.List = WantsLiteral
 behind word.ListAtom = WantsLiteral
 behind word.ListSubscribed = WantsLiteral
 behind word.ListAtomSubscribed = WantsLiteral
+behind word.ListSpecialUse = WantsLiteral
+behind word.ListAtomSpecialUse = WantsLiteral
 behind _ = NeedMore
 
 arguments_reader : (k : FixedText) → IsReader (behind k) (Arguments k) (arguments_at k)
@@ -58,10 +62,12 @@ unfolding arguments_at message_arguments_at folder_arguments_at
 arguments_reader word.Capability = nothing_reader WantsLiteral command.Capability
 arguments_reader word.Enable = nothing_reader WantsLiteral command.Enable
 arguments_reader word.Unselect = nothing_reader WantsLiteral command.Unselect
-arguments_reader word.List = nothing_reader WantsLiteral command.List
-arguments_reader word.ListAtom = nothing_reader WantsLiteral command.List
-arguments_reader word.ListSubscribed = nothing_reader WantsLiteral command.List
-arguments_reader word.ListAtomSubscribed = nothing_reader WantsLiteral command.List
+arguments_reader word.List = nothing_reader WantsLiteral (command.List false)
+arguments_reader word.ListAtom = nothing_reader WantsLiteral (command.List false)
+arguments_reader word.ListSubscribed = nothing_reader WantsLiteral (command.List false)
+arguments_reader word.ListAtomSubscribed = nothing_reader WantsLiteral (command.List false)
+arguments_reader word.ListSpecialUse = nothing_reader WantsLiteral (command.List true)
+arguments_reader word.ListAtomSpecialUse = nothing_reader WantsLiteral (command.List true)
 arguments_reader word.Login = login_reader
 arguments_reader word.Select = select_reader
 arguments_reader word.Append = append_reader
@@ -107,8 +113,9 @@ parts_reader = chain_reader NeedMore (λ tag. NeedMore) TagText (λ tag. Chain (
   where
     more : List FixedText
     more =
-        word.Login ∷ word.Enable ∷ word.List ∷ word.ListAtom ∷ word.ListSubscribed ∷ word.ListAtomSubscribed ∷ word.Select ∷ word.Unselect ∷ word.Fetch ∷ word.Store ∷ word.Move
+        word.Login ∷ word.Enable ∷ word.List ∷ word.ListAtom ∷ word.ListSubscribed ∷ word.ListAtomSubscribed ∷ word.ListSpecialUse ∷ word.ListAtomSpecialUse
+        ∷ word.Select ∷ word.Unselect ∷ word.Fetch ∷ word.Store ∷ word.Move
         ∷ word.Expunge ∷ word.Append ∷ word.Create ∷ word.Delete ∷ word.Rename ∷ word.Subscribe ∷ word.Unsubscribe ∷ []
 
     all : AllStop commands
-    all = (refl, (refl, (refl, (refl, (refl, (refl, (refl, (refl, (refl, (refl, (refl, (refl, (refl, (refl, (refl, (refl, (refl, (refl, (refl, tt)))))))))))))))))))
+    all = (refl, (refl, (refl, (refl, (refl, (refl, (refl, (refl, (refl, (refl, (refl, (refl, (refl, (refl, (refl, (refl, (refl, (refl, (refl, (refl, (refl, tt)))))))))))))))))))))

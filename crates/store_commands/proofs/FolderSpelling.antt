@@ -255,63 +255,86 @@ pub unselect_back : (r : List ℕ) → Asks command.Unselect r → Spelled word.
 unselect_back r h = fixed_back (codes "unselect") word.Unselect command.Unselect h.front r refl (h.whole ∙ ap (λ (u : List ℕ). h.front ++ u) h.second) h.first
 
 -- the words of a LIST up to the line's end
-list_request : (name options : List ℕ) → list_all is_sign name ≡ true → IsAnyName name → ((x : List ℕ) → IsWord options x → IsReturn x)
-    → (x : List ℕ) → IsWord (codes "list \"\" " ++ (name ++ options)) x → IsRequest command.List x
-list_request name options sign is k x e =
+list_request : (special_use : Bool) (name options : List ℕ) → list_all is_sign name ≡ true → IsAnyName name
+    → ((x : List ℕ) → IsWord options x → IsReturn special_use x)
+    → (x : List ℕ) → IsWord (codes "list \"\" " ++ (name ++ options)) x → IsRequest (command.List special_use) x
+list_request special_use name options sign is k x e =
     let s = word_split (codes "list \"\" ") (name ++ options) x e in
     let n = word_split name options s.1 s.4 in
     then_of s.0 s.1 x s.2 s.3 (then_of n.0 n.1 s.1 n.2 (subst IsAnyName (sym (sign_word name n.0 sign n.3)) is) (k n.1 n.4))
 
-no_options : (x : List ℕ) → IsWord [] x → IsReturn x
+no_options : (x : List ℕ) → IsWord [] x → IsReturn false x
 no_options [] e = inl refl
 no_options (c ∷ x) e = absurd cc
 
-pub list_forth : (c : Command) (r : List ℕ) → Spelled word.List (Nothing command.List) c r → Asks c r
-list_forth c r h = fixed_forth (codes "list \"\" \"*\"") command.List c r h.0 h.1 h.2 h.3 h.4 (list_request (codes "\"*\"") [] refl (inl refl) no_options)
+pub list_forth : (c : Command) (r : List ℕ) → Spelled word.List (Nothing (command.List false)) c r → Asks c r
+list_forth c r h =
+    fixed_forth (codes "list \"\" \"*\"") (command.List false) c r h.0 h.1 h.2 h.3 h.4 (list_request false (codes "\"*\"") [] refl (inl refl) no_options)
 
-pub list_atom_forth : (c : Command) (r : List ℕ) → Spelled word.ListAtom (Nothing command.List) c r → Asks c r
-list_atom_forth c r h = fixed_forth (codes "list \"\" *") command.List c r h.0 h.1 h.2 h.3 h.4 (list_request (codes "*") [] refl (inr refl) no_options)
+pub list_atom_forth : (c : Command) (r : List ℕ) → Spelled word.ListAtom (Nothing (command.List false)) c r → Asks c r
+list_atom_forth c r h =
+    fixed_forth (codes "list \"\" *") (command.List false) c r h.0 h.1 h.2 h.3 h.4 (list_request false (codes "*") [] refl (inr refl) no_options)
 
-pub list_subscribed_forth : (c : Command) (r : List ℕ) → Spelled word.ListSubscribed (Nothing command.List) c r → Asks c r
+pub list_subscribed_forth : (c : Command) (r : List ℕ) → Spelled word.ListSubscribed (Nothing (command.List false)) c r → Asks c r
 list_subscribed_forth c r h =
-    fixed_forth (codes "list \"\" \"*\" return (subscribed)") command.List c r h.0 h.1 h.2 h.3 h.4
-    (list_request (codes "\"*\"") (codes " return (subscribed)") refl (inl refl) (λ x e. inr e))
+    fixed_forth (codes "list \"\" \"*\" return (subscribed)") (command.List false) c r h.0 h.1 h.2 h.3 h.4
+    (list_request false (codes "\"*\"") (codes " return (subscribed)") refl (inl refl) (λ x e. inr e))
 
-pub list_atom_subscribed_forth : (c : Command) (r : List ℕ) → Spelled word.ListAtomSubscribed (Nothing command.List) c r → Asks c r
+pub list_atom_subscribed_forth : (c : Command) (r : List ℕ) → Spelled word.ListAtomSubscribed (Nothing (command.List false)) c r → Asks c r
 list_atom_subscribed_forth c r h =
-    fixed_forth (codes "list \"\" * return (subscribed)") command.List c r h.0 h.1 h.2 h.3 h.4
-    (list_request (codes "*") (codes " return (subscribed)") refl (inr refl) (λ x e. inr e))
+    fixed_forth (codes "list \"\" * return (subscribed)") (command.List false) c r h.0 h.1 h.2 h.3 h.4
+    (list_request false (codes "*") (codes " return (subscribed)") refl (inr refl) (λ x e. inr e))
 
--- one of the four texts
-abbrev pub ListSpelled : List ℕ → Type 0
-ListSpelled r =
-    Spelled word.List (Nothing command.List) command.List r ⊎ (Spelled word.ListAtom (Nothing command.List) command.List r
-    ⊎ (Spelled word.ListSubscribed (Nothing command.List) command.List r ⊎ Spelled word.ListAtomSubscribed (Nothing command.List) command.List r))
+pub list_special_use_forth : (c : Command) (r : List ℕ) → Spelled word.ListSpecialUse (Nothing (command.List true)) c r → Asks c r
+list_special_use_forth c r h =
+    fixed_forth (codes "list \"\" \"*\" return (subscribed special-use)") (command.List true) c r h.0 h.1 h.2 h.3 h.4
+    (list_request true (codes "\"*\"") (codes " return (subscribed special-use)") refl (inl refl) (λ x e. e))
 
-pub list_back : (r : List ℕ) → Asks command.List r → ListSpelled r
-list_back r h = by w.second.front w.second.back w.second.first w.second.second (h.whole ∙ ap (λ (u : List ℕ). u ++ h.back)
-    (w.whole ∙ ap (λ (u : List ℕ). w.front ++ u) w.second.whole))
+pub list_atom_special_use_forth : (c : Command) (r : List ℕ) → Spelled word.ListAtomSpecialUse (Nothing (command.List true)) c r → Asks c r
+list_atom_special_use_forth c r h =
+    fixed_forth (codes "list \"\" * return (subscribed special-use)") (command.List true) c r h.0 h.1 h.2 h.3 h.4
+    (list_request true (codes "*") (codes " return (subscribed special-use)") refl (inr refl) (λ x e. e))
+
+-- one of the four texts that don't ask the special uses, or of the two that do
+abbrev pub ListSpelled : Bool → List ℕ → Type 0
+ListSpelled false r =
+    Spelled word.List (Nothing (command.List false)) (command.List false) r ⊎ (Spelled word.ListAtom (Nothing (command.List false)) (command.List false) r
+    ⊎ (Spelled word.ListSubscribed (Nothing (command.List false)) (command.List false) r
+    ⊎ Spelled word.ListAtomSubscribed (Nothing (command.List false)) (command.List false) r))
+ListSpelled true r =
+    Spelled word.ListSpecialUse (Nothing (command.List true)) (command.List true) r ⊎ Spelled word.ListAtomSpecialUse (Nothing (command.List true)) (command.List true) r
+
+-- the words, the pattern and the options of a LIST are the text of this word
+list_spelled : (special_use : Bool) (pattern wanted : List ℕ) (w : FixedText) (front name options r : List ℕ)
+    → fixed_text w ≡ (codes "list \"\" " ++ (pattern ++ wanted)) ++ crlf → r ≡ (front ++ (name ++ options)) ++ crlf
+    → IsWord (codes "list \"\" ") front → IsWord pattern name → IsWord wanted options
+    → Spelled w (Nothing (command.List special_use)) (command.List special_use) r
+list_spelled special_use pattern wanted w front name options r same e f n o =
+    fixed_back (codes "list \"\" " ++ (pattern ++ wanted)) w (command.List special_use) (front ++ (name ++ options)) r same e
+    (word_join (codes "list \"\" ") (pattern ++ wanted) front (name ++ options) f (word_join pattern wanted name options n o))
+
+list_by : (special_use : Bool) (front name options r : List ℕ) → r ≡ (front ++ (name ++ options)) ++ crlf
+    → IsWord (codes "list \"\" ") front → IsAnyName name → IsReturn special_use options → ListSpelled special_use r
+list_by false front name options r e f (inl n) (inl o) =
+    inl (list_spelled false (codes "\"*\"") [] word.List front name options r refl e f (ap (map lower) n) (ap (map lower) o))
+list_by false front name options r e f (inr n) (inl o) =
+    inr (inl (list_spelled false (codes "*") [] word.ListAtom front name options r refl e f (ap (map lower) n) (ap (map lower) o)))
+list_by false front name options r e f (inl n) (inr o) =
+    inr (inr (inl (list_spelled false (codes "\"*\"") (codes " return (subscribed)") word.ListSubscribed front name options r refl e f (ap (map lower) n) o)))
+list_by false front name options r e f (inr n) (inr o) =
+    inr (inr (inr (list_spelled false (codes "*") (codes " return (subscribed)") word.ListAtomSubscribed front name options r refl e f (ap (map lower) n) o)))
+list_by true front name options r e f (inl n) o =
+    inl (list_spelled true (codes "\"*\"") (codes " return (subscribed special-use)") word.ListSpecialUse front name options r refl e f (ap (map lower) n) o)
+list_by true front name options r e f (inr n) o =
+    inr (list_spelled true (codes "*") (codes " return (subscribed special-use)") word.ListAtomSpecialUse front name options r refl e f (ap (map lower) n) o)
+
+pub list_back : (special_use : Bool) (r : List ℕ) → Asks (command.List special_use) r → ListSpelled special_use r
+list_back special_use r h = list_by special_use w.front w.second.front w.second.back r whole w.first w.second.first w.second.second
   where
-    w : Then (IsWord (codes "list \"\" ")) (IsAnyName ▷ IsReturn) h.front
+    w : Then (IsWord (codes "list \"\" ")) (IsAnyName ▷ IsReturn special_use) h.front
     w = h.first
 
-    text : (x : List ℕ) → r ≡ x ++ h.back → r ≡ x ++ crlf
-    text x e = e ∙ ap (λ (u : List ℕ). x ++ u) h.second
-
-    by : (name options : List ℕ) → IsAnyName name → IsReturn options → r ≡ (w.front ++ (name ++ options)) ++ h.back → ListSpelled r
-    by name options (inl n) (inl o) e =
-        inl (fixed_back (codes "list \"\" \"*\"") word.List command.List (w.front ++ (name ++ options)) r refl (text (w.front ++ (name ++ options)) e)
-        (word_join (codes "list \"\" ") (codes "\"*\"") w.front (name ++ options) w.first (word_join (codes "\"*\"") [] name options (ap (map lower) n) (ap (map lower) o))))
-    by name options (inr n) (inl o) e =
-        inr (inl (fixed_back (codes "list \"\" *") word.ListAtom command.List (w.front ++ (name ++ options)) r refl (text (w.front ++ (name ++ options)) e)
-        (word_join (codes "list \"\" ") (codes "*") w.front (name ++ options) w.first (word_join (codes "*") [] name options (ap (map lower) n) (ap (map lower) o)))))
-    by name options (inl n) (inr o) e =
-        inr (inr (inl (fixed_back (codes "list \"\" \"*\" return (subscribed)") word.ListSubscribed command.List (w.front ++ (name ++ options)) r refl
-        (text (w.front ++ (name ++ options)) e)
-        (word_join (codes "list \"\" ") (codes "\"*\" return (subscribed)") w.front (name ++ options) w.first
-        (word_join (codes "\"*\"") (codes " return (subscribed)") name options (ap (map lower) n) o)))))
-    by name options (inr n) (inr o) e =
-        inr (inr (inr (fixed_back (codes "list \"\" * return (subscribed)") word.ListAtomSubscribed command.List (w.front ++ (name ++ options)) r refl
-        (text (w.front ++ (name ++ options)) e)
-        (word_join (codes "list \"\" ") (codes "* return (subscribed)") w.front (name ++ options) w.first
-        (word_join (codes "*") (codes " return (subscribed)") name options (ap (map lower) n) o)))))
+    whole : r ≡ (w.front ++ (w.second.front ++ w.second.back)) ++ crlf
+    whole =
+        h.whole ∙ ap (λ (u : List ℕ). u ++ h.back) (w.whole ∙ ap (λ (u : List ℕ). w.front ++ u) w.second.whole)
+        ∙ ap (λ (u : List ℕ). (w.front ++ (w.second.front ++ w.second.back)) ++ u) h.second

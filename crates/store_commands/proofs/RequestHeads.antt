@@ -23,9 +23,10 @@ any_others : (x : List ℕ) → IsAnyName x → Each is_other x
 any_others x (inl h) = exact_others (codes "\"*\"") x refl h
 any_others x (inr h) = exact_others (codes "*") x refl h
 
-return_others : (x : List ℕ) → IsReturn x → Each is_other x
-return_others x (inl h) = exact_others [] x refl h
-return_others x (inr h) = word_other (codes " return (subscribed)") x refl h
+return_others : (special_use : Bool) (x : List ℕ) → IsReturn special_use x → Each is_other x
+return_others false x (inl h) = exact_others [] x refl h
+return_others false x (inr h) = word_other (codes " return (subscribed)") x refl h
+return_others true x h = word_other (codes " return (subscribed special-use)") x refl h
 
 parameter_others : (known : Option (ℕ × ℕ)) (x : List ℕ) → IsSelectParameter known x → Each is_other x
 parameter_others None x h = exact_others [] x refl h
@@ -49,8 +50,8 @@ pub request_others : (c : Command) (t : List ℕ) → IsPlain c → IsRequest c 
 request_others command.Capability t p h = word_other (codes "capability") t refl h
 request_others (command.Login user password) t p h = absurd p
 request_others command.Enable t p h = word_other (codes "enable qresync imap4rev2") t refl h
-request_others command.List t p h =
-    then_others t h (λ x k. word_other (codes "list \"\" ") x refl k) (λ x k. then_others x k any_others return_others)
+request_others (command.List special_use) t p h =
+    then_others t h (λ x k. word_other (codes "list \"\" ") x refl k) (λ x k. then_others x k any_others (return_others special_use))
 request_others (command.Select name known) t p h =
     then_others t h (λ x k. word_other (codes "select ") x refl k) (λ x k. then_others x k (folder_others name) (parameter_others known))
 request_others command.Unselect t p h = word_other (codes "unselect") t refl h
@@ -100,7 +101,7 @@ request_headed (command.Append name flags date message) t h =
     (λ x k. then_headed x k (λ x k. other_headed x (date_others date x k)) (λ x k. then_headed x k space_headed (counted_headed message)))))))
 request_headed command.Capability t h = other_headed t (request_others command.Capability t tt h)
 request_headed command.Enable t h = other_headed t (request_others command.Enable t tt h)
-request_headed command.List t h = other_headed t (request_others command.List t tt h)
+request_headed (command.List special_use) t h = other_headed t (request_others (command.List special_use) t tt h)
 request_headed (command.Select name known) t h = other_headed t (request_others (command.Select name known) t tt h)
 request_headed command.Unselect t h = other_headed t (request_others command.Unselect t tt h)
 request_headed command.FetchFlags t h = other_headed t (request_others command.FetchFlags t tt h)

@@ -160,9 +160,12 @@ asked : (c : Command) → IsReadable c → IsAsked (as_sent c) (parts_of c)
 asked command.Capability h = plain_asked command.Capability tt refl
 asked (command.Login user password) h = login_asked user password h.0 h.1
 asked command.Enable h = plain_asked command.Enable tt refl
-asked command.List h = plain_asked command.List tt
-    (then_of (codes "LIST \"\" ") (codes "\"*\" RETURN (SUBSCRIBED)") (words_of command.List) refl refl
+asked (command.List false) h = plain_asked (command.List false) tt
+    (then_of (codes "LIST \"\" ") (codes "\"*\" RETURN (SUBSCRIBED)") (words_of (command.List false)) refl refl
     (then_of (codes "\"*\"") (codes " RETURN (SUBSCRIBED)") (codes "\"*\" RETURN (SUBSCRIBED)") refl (inl refl) (inr refl)))
+asked (command.List true) h = plain_asked (command.List true) tt
+    (then_of (codes "LIST \"\" ") (codes "\"*\" RETURN (SUBSCRIBED SPECIAL-USE)") (words_of (command.List true)) refl refl
+    (then_of (codes "\"*\"") (codes " RETURN (SUBSCRIBED SPECIAL-USE)") (codes "\"*\" RETURN (SUBSCRIBED SPECIAL-USE)") refl (inl refl) refl))
 asked (command.Select name None) h = plain_asked (command.Select name None) tt
     (then_of (codes "SELECT ") (quoted name ++ []) (words_of (command.Select name None)) (append_assoc (codes "SELECT ") (quoted name) []) refl
     (then_of (quoted name) [] (quoted name ++ []) refl (quoted_is name h.0) refl))

@@ -1,5 +1,5 @@
 -- The commands, and the texts that a store reads as each: of those of RFC 9051 sections 6 and 9 and RFC 7162 section 3.2.5 the ones that
--- have a value as a Command. Words are in letters of any case. No other text is a command.
+-- have a value as a Command, and LIST with the special uses (RFC 6154 section 2). Words are in letters of any case. No other text is a command.
 use Rattle.std.specs.Prelude.{◌≡◌, ◌⊎◌, ℕ, Bool, true, false, List, [], ◌∷◌, ◌++◌, codes, Option, Some, None}
 use Rattle.imap_syntax.specs.declared.command.Command.{Command}
 use Rattle.imap_syntax.specs.declared.command.Command.TheVariants.{Capability, Login, Enable, List as ListFolders, Select, Unselect, FetchFlags, FetchSlice}
@@ -13,9 +13,10 @@ use Rattle.command_parts.specs.Fields.{◌▷◌, greatest_modseq, IsSpace, IsTa
 abbrev pub IsAnyName : List ℕ → Type 0
 IsAnyName t = (t ≡ codes "\"*\"") ⊎ (t ≡ codes "*")
 
--- [SP "RETURN" SP "(SUBSCRIBED)"]
-abbrev pub IsReturn : List ℕ → Type 0
-IsReturn t = (t ≡ []) ⊎ IsWord (codes " return (subscribed)") t
+-- [SP "RETURN" SP "(SUBSCRIBED)"], or SP "RETURN" SP "(SUBSCRIBED SPECIAL-USE)" where the special uses are asked
+abbrev pub IsReturn : Bool → List ℕ → Type 0
+IsReturn false t = (t ≡ []) ⊎ IsWord (codes " return (subscribed)") t
+IsReturn true t = IsWord (codes " return (subscribed special-use)") t
 
 -- [SP "(QRESYNC (" number SP number "))"], the validity and the mod-sequence up to which the folder is known
 abbrev pub IsSelectParameter : Option (ℕ × ℕ) → List ℕ → Type 0
@@ -33,7 +34,7 @@ abbrev pub IsRequest : Command → List ℕ → Type 0
 IsRequest Capability t = IsWord (codes "capability") t
 IsRequest (Login user password) t = (IsWord (codes "login ") ▷ IsCredential user ▷ IsSpace ▷ IsCredential password) t
 IsRequest Enable t = IsWord (codes "enable qresync imap4rev2") t
-IsRequest ListFolders t = (IsWord (codes "list \"\" ") ▷ IsAnyName ▷ IsReturn) t
+IsRequest (ListFolders special_use) t = (IsWord (codes "list \"\" ") ▷ IsAnyName ▷ IsReturn special_use) t
 IsRequest (Select name known) t = (IsWord (codes "select ") ▷ IsFolderName name ▷ IsSelectParameter known) t
 IsRequest Unselect t = IsWord (codes "unselect") t
 IsRequest FetchFlags t = IsWord (codes "uid fetch 1:* (uid flags)") t

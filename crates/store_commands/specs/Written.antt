@@ -34,7 +34,7 @@ abbrev pub IsReadable : Command → Type 0
 IsReadable Capability = Unit {0}
 IsReadable (Login user password) = IsPlainCredential user × IsPlainCredential password
 IsReadable Enable = Unit {0}
-IsReadable ListFolders = Unit {0}
+IsReadable (ListFolders special_use) = Unit {0}
 IsReadable (Select name known) = IsPlainName name × IsKnownWithin known
 IsReadable Unselect = Unit {0}
 IsReadable FetchFlags = Unit {0}

@@ -71,10 +71,12 @@ fn arguments(word: FixedText, bytes: &[u8]) -> Result<(Request, &[u8]), NoComman
         FixedText::Capability => Ok((Request::Capability, bytes)),
         FixedText::Enable => Ok((Request::Enable, bytes)),
         FixedText::Unselect => Ok((Request::Unselect, bytes)),
-        FixedText::List => Ok((Request::List, bytes)),
-        FixedText::ListAtom => Ok((Request::List, bytes)),
-        FixedText::ListSubscribed => Ok((Request::List, bytes)),
-        FixedText::ListAtomSubscribed => Ok((Request::List, bytes)),
+        FixedText::List => Ok((Request::List { special_use: false }, bytes)),
+        FixedText::ListAtom => Ok((Request::List { special_use: false }, bytes)),
+        FixedText::ListSubscribed => Ok((Request::List { special_use: false }, bytes)),
+        FixedText::ListAtomSubscribed => Ok((Request::List { special_use: false }, bytes)),
+        FixedText::ListSpecialUse => Ok((Request::List { special_use: true }, bytes)),
+        FixedText::ListAtomSpecialUse => Ok((Request::List { special_use: true }, bytes)),
         _ => message_arguments(word, bytes),
     }
 }

@@ -20,7 +20,9 @@ pub enum Request<'a> {
         password: Credential<'a>,
     },
     Enable,
-    List,
+    List {
+        special_use: bool,
+    },
     Select {
         name: &'a [u8],
         known: Option<(u32, u64)>,
@@ -142,7 +144,9 @@ pub fn command_of(alloc: Global, request: &Request) -> Result<Command, AllocErro
         Request::Capability => Ok(Command::Capability),
         Request::Login { user, password } => login(alloc, user, password),
         Request::Enable => Ok(Command::Enable),
-        Request::List => Ok(Command::List),
+        Request::List { special_use } => Ok(Command::List {
+            special_use: *special_use,
+        }),
         Request::Select { name, known } => {
             let name = text_of(alloc, name)?;
             let known = *known;

@@ -1,5 +1,5 @@
 -- What a change at one key, or at several, leaves of the index, and what is read of it at a key.
-use Rattle.std.proofs.Common.{◌≡◌, ℕ, ◌+◌, ◌<◌, Bool, true, false, ◌&&◌, ◌||◌, cond, eqb, eqb-true, List, [], ◌∷◌, ◌++◌, length, get_or, take, drop, refl, sym, ap, ◌∙◌, subst}
+use Rattle.std.proofs.Common.{◌≡◌, ℕ, Bool, true, false, ◌&&◌, ◌||◌, cond, eqb, eqb-true, List, [], ◌∷◌, ◌++◌, refl, sym, ap, ◌∙◌, subst, append_assoc}
 use Rattle.std.proofs.Common.{map, Result, Ok, Err, arith}
 use Rattle.std.specs.Result.{OnErr}
 use Rattle.std.specs.List.{list_any, filter, AllByRecursion}
@@ -15,12 +15,12 @@ use Rattle.std.specs.Cmp.Lexicographic.{slice_cmp}
 use Rattle.std.specs.Str.{bytes_eq}
 use Rattle.std.proofs.lemmas.Bool.{cond-true, cond-false}
 use Rattle.std.proofs.lemmas.Cmp.{nat_list_cmp_total, nat_list_eq_equiv, tied_itself}
-use Rattle.std.proofs.lemmas.List.{take_more, take-append-drop, length-map}
+use Rattle.std.proofs.lemmas.List.{append-nil, map-append}
 use Rattle.std.proofs.lemmas.List.Folds.{list_any-append}
 use Rattle.std.proofs.lemmas.Map.Keys.{sorted_head, sorted_tail}
 use Rattle.std.proofs.lemmas.Map.Text.{is_eq-slice_cmp}
 use Rattle.std.proofs.lemmas.Slice.Eq.{bytes_eq-Decides}
-use Rattle.std.proofs.Math.ListN.{get_or-map}
+use Rattle.thread_rule.specs.Ids.{ids_in}
 use Rattle.thread_rule.specs.Threads.{is_among}
 use Rattle.thread_rule.specs.reading.Keys.{key_after, keys_under}
 use Rattle.thread_rule.specs.reading.Index.{Entry, KeyIndex, entry_cmp, numbers_at, numbers_up_to_other, emails_at, has_entry, SameIndex, SetsOne, SetsAll, SameApart}
@@ -80,30 +80,47 @@ sets_more k m n xs x email b g h id e =
     ∙ both (bytes_eq id x) (is_among xs id) (eqb email e) b (has_entry k id e)
     ∙ ap (λ (y : Bool). cond (y && eqb email e) b (has_entry k id e)) (sym (list_any-append (bytes_eq id) xs (x ∷ [])))
 
--- one turn of a loop over ids
-pub sets_turn : (k m n : KeyIndex) (ids : List (List ℕ)) (i : ℕ) (x : List ℕ) (email : ℕ) (b : Bool) → i < length ids → x ≡ get_or ids i x → SetsAll k m (take i ids) email b
-    → SetsOne m n x email b → SetsAll k n (take (i + 1) ids) email b
-sets_turn k m n ids i x email b l e g h =
-    let P : List (List ℕ) → Type 0 = λ xs. SetsAll k n xs email b in
-    subst P (ap (λ (y : List ℕ). take i ids ++ y ∷ []) e ∙ sym (take_more ids i x l)) (sets_more k m n (take i ids) x email b g h)
+-- of these ids the ones before the rest are done
+pub record SetsSoFar (old new : KeyIndex) (digest : List ℕ) (ids : List (List ℕ)) (rest : List ℕ) (email : ℕ) (there : Bool) : Type 0 where
+  pub done : List (List ℕ)
+  pub whole : ids ≡ done ++ ids_in rest
+  pub sets : SetsAll old new (keys_under digest done) email there
+
+-- none are done
+pub none_set : (m : KeyIndex) (digest : List ℕ) (ids : List (List ℕ)) (rest : List ℕ) (email : ℕ) (b : Bool) → ids_in rest ≡ ids → SetsSoFar m m digest ids rest email b
+none_set m digest ids rest email b e = record { done = []; whole = sym e; sets = sets_none m email b }
 
 -- one turn of a loop over ids, at the key of each
-pub keys_turn : (k m n : KeyIndex) (digest : List ℕ) (ids : List (List ℕ)) (i : ℕ) (x y : List ℕ) (email : ℕ) (b : Bool) → i < length ids → x ≡ get_or ids i x
-    → y ≡ key_after digest x
-    → SetsAll k m (take i (keys_under digest ids)) email b → SetsOne m n y email b → SetsAll k n (take (i + 1) (keys_under digest ids)) email b
-keys_turn k m n digest ids i x y email b l e is g h =
+pub keys_turn : (k m n : KeyIndex) (digest : List ℕ) (ids : List (List ℕ)) (rest id more key : List ℕ) (email : ℕ) (b : Bool) → SetsSoFar k m digest ids rest email b
+    → ids_in rest ≡ id ∷ ids_in more → key ≡ key_after digest id → SetsOne m n key email b → SetsSoFar k n digest ids more email b
+keys_turn k m n digest ids rest id more key email b far e is one =
     let f : List ℕ → List ℕ = key_after digest in
-    let there : f x ≡ get_or (map f ids) i (f x) = ap f e ∙ sym (get_or-map f ids i x) in
-    let P : List ℕ → Type 0 = λ z. z ≡ get_or (map f ids) i z in
-    sets_turn k m n (map f ids) i y email b (omega (arith, l, length-map ids f)) (subst P (sym is) there) g h
+    let P : List (List ℕ) → Type 0 = λ xs. SetsAll k n xs email b in
+    let Q : List ℕ → Type 0 = λ x. SetsOne m n x email b in
+    record {
+      done = far.done ++ id ∷ [];
+      whole = far.whole ∙ ap (λ (xs : List (List ℕ)). far.done ++ xs) e ∙ sym (append_assoc far.done (id ∷ []) (ids_in more));
+      sets = subst P (sym (map-append f far.done (id ∷ []))) (sets_more k m n (map f far.done) (f id) email b far.sets (subst Q is one));
+    }
 
--- where the index changed for an Email at the first i of some keys alone, all but this Email at these keys is as it was
-pub apart_of : (k m n : KeyIndex) (ids : List (List ℕ)) (i : ℕ) (email : ℕ) (b : Bool) → SetsAll k m (take i ids) email b → SameIndex m n → SameApart k n ids email
-apart_of k m n ids i email b g h id e f =
-    let whole : is_among ids id ≡ (is_among (take i ids) id || is_among (drop i ids) id) =
-    ap (list_any (bytes_eq id)) (sym (take-append-drop i ids)) ∙ list_any-append (bytes_eq id) (take i ids) (drop i ids) in
-    let none = left_false (is_among (take i ids) id) (is_among (drop i ids) id) (eqb email e) (ap (λ (y : Bool). y && eqb email e) (sym whole) ∙ f) in
-    h id e ∙ g id e ∙ cond-false (is_among (take i ids) id && eqb email e) b (has_entry k id e) none
+-- all are done
+pub all_set : (k m : KeyIndex) (digest : List ℕ) (ids : List (List ℕ)) (rest : List ℕ) (email : ℕ) (b : Bool) → SetsSoFar k m digest ids rest email b → ids_in rest ≡ []
+    → SetsAll k m (keys_under digest ids) email b
+all_set k m digest ids rest email b far e =
+    let P : List (List ℕ) → Type 0 = λ xs. SetsAll k m (keys_under digest xs) email b in
+    subst P (sym (far.whole ∙ ap (λ (xs : List (List ℕ)). far.done ++ xs) e ∙ append-nil far.done)) far.sets
+
+-- where the index changed for an Email at some of its keys alone, all but this Email at its keys is as it was
+pub apart_of : (k m n : KeyIndex) (digest : List ℕ) (ids : List (List ℕ)) (rest : List ℕ) (email : ℕ) (b : Bool) → SetsSoFar k m digest ids rest email b → SameIndex m n
+    → SameApart k n (keys_under digest ids) email
+apart_of k m n digest ids rest email b far h key e f =
+    let g : List ℕ → List ℕ = key_after digest in
+    let xs = keys_under digest far.done in
+    let ys = keys_under digest (ids_in rest) in
+    let whole : is_among (keys_under digest ids) key ≡ (is_among xs key || is_among ys key) =
+    ap (list_any (bytes_eq key)) (ap (map g) far.whole ∙ map-append g far.done (ids_in rest)) ∙ list_any-append (bytes_eq key) xs ys in
+    let none = left_false (is_among xs key) (is_among ys key) (eqb email e) (ap (λ (y : Bool). y && eqb email e) (sym whole) ∙ f) in
+    h key e ∙ far.sets key e ∙ cond-false (is_among xs key && eqb email e) b (has_entry k key e) none
 
 -- what was added in part is taken out again
 pub undone : (k m n : KeyIndex) (ids : List (List ℕ)) (email : ℕ) → ((id : List ℕ) → has_entry k id email ≡ false) → SameApart k m ids email → SetsAll m n ids email false

@@ -4,4 +4,6 @@ pub mod LeaderLemmas
 pub mod NormalForms
 pub mod IndexLemmas
 pub mod SearchLemmas
-pub mod NamedLaws
+pub mod IdLemmas
+pub mod OnceLemmas
+pub mod LowerLemmas

@@ -1,12 +1,11 @@
 -- What the search by the index finds is the Thread among all Emails.
-use Rattle.std.proofs.Common.{◌≡◌, ℕ, ◌≤◌, ◌<◌, Bool, true, false, ◌||◌, ◌&&◌, map, cond, eqb-true, eq-eqb, ◌+◌, List, [], ◌∷◌, length, get_or, drop, refl, sym, ap, ◌∙◌, subst}
+use Rattle.std.proofs.Common.{◌≡◌, ℕ, ◌≤◌, ◌<◌, Bool, true, false, ◌||◌, ◌&&◌, map, cond, eqb-true, eq-eqb, List, [], ◌∷◌, refl, sym, ap, ◌∙◌, subst}
 use Rattle.std.proofs.Common.{Option, Some, None, arith}
 use Rattle.std.specs.List.{list_any, AllByRecursion}
 use Rattle.std.specs.List.Sorted.{IsStrictlySortedBy}
 use Rattle.std.specs.Ordering.{nat_cmp}
 use Rattle.std.specs.declared.cmp.Ordering.TheVariants.{Less}
 use Rattle.std.specs.BTreeMap.{is_at}
-use Rattle.std.proofs.lemmas.List.{drop_more, drop_all}
 use Rattle.std.proofs.lemmas.Map.Keys.{sorted_head, sorted_tail}
 use Rattle.std.proofs.lemmas.Slice.Eq.{bytes_eq-Decides}
 use Rattle.text_words.specs.Octets.{SameText, is_same_text}
@@ -14,6 +13,7 @@ use Rattle.thread_rule.specs.declared.member.Member.{Member}
 use Rattle.std.specs.Str.{bytes_eq}
 use Rattle.sha2.specs.Sha256.{sha256}
 use Rattle.thread_rule.specs.reading.Keys.{base_digest, key_after}
+use Rattle.thread_rule.specs.Ids.{ids_in}
 use Rattle.thread_rule.specs.Threads.{Members, member_at, is_among, Shares, IsThreadOf, Founds, Joins, Passes}
 use Rattle.thread_rule.specs.reading.Index.{KeyIndex, emails_at, keys_of, IsIndexOf, thread_if, first_thread}
 use Rattle.thread_rule.proofs.IndexLemmas.{number_test, has_listed}
@@ -213,37 +213,35 @@ passes index members base number id more thread i s e t =
     let l : LacksBase members base id at = subst F (sym e) (first_finds members base id at s) in
     Passes id more thread (λ other m h. l other m (shares_listed index members base id other m i h)) t
 
--- one turn of the search: b is the base subject and y the id, as they were read, and k the key
-pub joins_here : (index : KeyIndex) (members : Members) (base : List ℕ) (number : ℕ) (named : List (List ℕ)) (i : ℕ) (x y b k : List ℕ) (thread : ℕ) → IsIndexOf index members
-    → i < length named → x ≡ get_or named i x → y ≡ x → b ≡ base → k ≡ key_of b y → IsStrictlySortedBy nat_cmp (emails_at index k)
-    → Some thread ≡ first_thread members b y (emails_at index k) → IsThreadOf members base number (drop i named) thread
-joins_here index members base number named i x y b k thread o l e f g is s h =
+-- one turn of the search: b is the base subject as it was read, k the key, and r the text of the ids that are left
+pub joins_here : (index : KeyIndex) (members : Members) (base : List ℕ) (number : ℕ) (r x more b k : List ℕ) (thread : ℕ) → IsIndexOf index members
+    → ids_in r ≡ x ∷ ids_in more → b ≡ base → k ≡ key_of b x → IsStrictlySortedBy nat_cmp (emails_at index k)
+    → Some thread ≡ first_thread members b x (emails_at index k) → IsThreadOf members base number (ids_in r) thread
+joins_here index members base number r x more b k thread o e g is s h =
     let P : List (List ℕ) → Type 0 = λ xs. IsThreadOf members base number xs thread in
-    let Q : List ℕ → Type 0 = λ z. IsThreadOf members z number (y ∷ drop (i + 1) named) thread in
+    let Q : List ℕ → Type 0 = λ z. IsThreadOf members z number (x ∷ ids_in more) thread in
     let S : List ℕ → Type 0 = λ z. IsStrictlySortedBy nat_cmp (emails_at index z) in
-    let T : List ℕ → Type 0 = λ z. Some thread ≡ first_thread members b y (emails_at index z) in
-    subst P (ap (λ (z : List ℕ). z ∷ drop (i + 1) named) (f ∙ e) ∙ sym (drop_more named i x l))
-    (subst Q g (joins index members b number y (drop (i + 1) named) thread o (subst S is s) (subst T is h)))
+    let T : List ℕ → Type 0 = λ z. Some thread ≡ first_thread members b x (emails_at index z) in
+    subst P (sym e) (subst Q g (joins index members b number x (ids_in more) thread o (subst S is s) (subst T is h)))
 
--- where the id at i decides nothing, the Thread is the one by the ids from i + 1 on
-pub passes_here : (index : KeyIndex) (members : Members) (base : List ℕ) (number : ℕ) (named : List (List ℕ)) (i : ℕ) (x y b k : List ℕ) (thread : ℕ) → IsIndexOf index members
-    → i < length named → x ≡ get_or named i x → y ≡ x → b ≡ base → k ≡ key_of b y → IsStrictlySortedBy nat_cmp (emails_at index k)
-    → None ≡ first_thread members b y (emails_at index k)
-    → IsThreadOf members base number (drop (i + 1) named) thread → IsThreadOf members base number (drop i named) thread
-passes_here index members base number named i x y b k thread o l e f g is s h t =
+-- where the first id that is left decides nothing, the Thread is the one by those behind it
+pub passes_here : (index : KeyIndex) (members : Members) (base : List ℕ) (number : ℕ) (r x more b k : List ℕ) (thread : ℕ) → IsIndexOf index members
+    → ids_in r ≡ x ∷ ids_in more → b ≡ base → k ≡ key_of b x → IsStrictlySortedBy nat_cmp (emails_at index k)
+    → None ≡ first_thread members b x (emails_at index k)
+    → IsThreadOf members base number (ids_in more) thread → IsThreadOf members base number (ids_in r) thread
+passes_here index members base number r x more b k thread o e g is s h t =
     let P : List (List ℕ) → Type 0 = λ xs. IsThreadOf members base number xs thread in
-    let Q : List ℕ → Type 0 = λ z. IsThreadOf members z number (y ∷ drop (i + 1) named) thread in
-    let R : List ℕ → Type 0 = λ z. IsThreadOf members z number (drop (i + 1) named) thread in
+    let Q : List ℕ → Type 0 = λ z. IsThreadOf members z number (x ∷ ids_in more) thread in
+    let R : List ℕ → Type 0 = λ z. IsThreadOf members z number (ids_in more) thread in
     let S : List ℕ → Type 0 = λ z. IsStrictlySortedBy nat_cmp (emails_at index z) in
-    let T : List ℕ → Type 0 = λ z. None ≡ first_thread members b y (emails_at index z) in
-    subst P (ap (λ (z : List ℕ). z ∷ drop (i + 1) named) (f ∙ e) ∙ sym (drop_more named i x l))
-    (subst Q g (passes index members b number y (drop (i + 1) named) thread o (subst S is s) (subst T is h) (subst R (sym g) t)))
+    let T : List ℕ → Type 0 = λ z. None ≡ first_thread members b x (emails_at index z) in
+    subst P (sym e) (subst Q g (passes index members b number x (ids_in more) thread o (subst S is s) (subst T is h) (subst R (sym g) t)))
 
 -- where no id is left, the Email founds the Thread of its own number
-pub founds_at_end : (members : Members) (base : List ℕ) (number : ℕ) (named : List (List ℕ)) (i : ℕ) → length named ≤ i → IsThreadOf members base number (drop i named) number
-founds_at_end members base number named i l =
+pub founds_at_end : (members : Members) (base : List ℕ) (number : ℕ) (r : List ℕ) → ids_in r ≡ [] → IsThreadOf members base number (ids_in r) number
+founds_at_end members base number r e =
     let P : List (List ℕ) → Type 0 = λ xs. IsThreadOf members base number xs number in
-    subst P (sym (drop_all i named l)) Founds
+    subst P (sym e) Founds
 
 -- an Email has one Thread
 pub one_thread : (members : Members) (base : List ℕ) (number : ℕ) (ids : List (List ℕ)) (t u : ℕ) → IsThreadOf members base number ids t → IsThreadOf members base number ids u

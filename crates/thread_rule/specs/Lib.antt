@@ -1,5 +1,5 @@
 pub mod Subject
 pub mod BaseSubject
+pub mod Ids
 pub mod Threads
-pub mod NamedOf
 pub mod reading

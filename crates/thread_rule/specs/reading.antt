@@ -2,3 +2,4 @@
 pub mod Keys
 pub mod Index
 pub mod Stripping
+pub mod Once

@@ -31,7 +31,7 @@ pub fn put_in(
         base,
     } = named;
     let digest = base_digest(base.as_slice());
-    add_all(index, &digest, names.as_slice(), email)?;
+    add_all(index, &digest, &names, email)?;
     keep(
         members,
         index,
@@ -73,7 +73,7 @@ fn remove_member(index: &mut KeyIndex, member: &Member, email: u64)
     ensures sets { indexed.SetsAll index.old index.new (indexed.keys_of (Some member.now)) email false }
 {
     let digest = base_digest(member.base.as_slice());
-    remove_all(index, &digest, member.ids.as_slice(), email);
+    remove_all(index, &digest, &member.ids, email);
 }
 
 /// Takes an Email out, if it is there.

@@ -3,8 +3,8 @@ ghost use Rattle.std.specs.Prelude.{◌≡◌, ℕ, List, Bool, true, false, OnO
 ghost use Rattle.thread_rule.specs.reading.Keys.{keys_under};
 ghost use Rattle.thread_rule.specs.reading.Index as indexed;
 
+use crate::ids::{Ids, next_id};
 use crate::key::{BaseDigest, Key, key_after};
-use gate_world::Bytes;
 use std::alloc::AllocError;
 use std::collections::BTreeSet;
 
@@ -15,7 +15,7 @@ pub type KeyIndex = BTreeSet<(Key, u64)>;
 pub fn add_all(
     index: &mut KeyIndex,
     digest: &BaseDigest,
-    named: &[Bytes],
+    named: &Ids,
     email: u64,
 ) -> Result<(), AllocError>
     requires { (key : List ℕ) → indexed.has_entry index.old key email ≡ false }
@@ -32,27 +32,31 @@ pub fn add_all(
 }
 
 /// Takes the Email away at the key of each id under the base subject of this digest. It takes no memory.
-pub fn remove_all(index: &mut KeyIndex, digest: &BaseDigest, named: &[Bytes], email: u64)
+pub fn remove_all(index: &mut KeyIndex, digest: &BaseDigest, named: &Ids, email: u64)
     ensures { indexed.SetsAll index.old index.new (keys_under digest.now named.now) email false }
 {
-    for id in named {
-        let key = key_after(digest, id.as_slice());
+    let mut rest = named.as_text();
+    while let Some((id, more)) = next_id(rest) {
+        let key = key_after(digest, id);
         index.remove(&(key, email));
+        rest = more;
     }
 }
 
 fn add_each(
     index: &mut KeyIndex,
     digest: &BaseDigest,
-    named: &[Bytes],
+    named: &Ids,
     email: u64,
 ) -> Result<(), AllocError>
     ensures ok { OnOk result (indexed.SetsAll index.old index.new (keys_under digest.now named.now) email true) }
     ensures err { OnErr result (indexed.SameApart index.old index.new (keys_under digest.now named.now) email) }
 {
-    for id in named {
-        let key = key_after(digest, id.as_slice());
+    let mut rest = named.as_text();
+    while let Some((id, more)) = next_id(rest) {
+        let key = key_after(digest, id);
         index.insert((key, email))?;
+        rest = more;
     }
     Ok(())
 }

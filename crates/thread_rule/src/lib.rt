@@ -6,7 +6,7 @@ mod base;
 mod subject;
 
 // Emails by what they name.
-mod header;
+mod ids;
 mod member;
 
 // The book.
@@ -18,5 +18,5 @@ mod search;
 
 pub use base::{base_of, base_subject};
 pub use book::ThreadBook;
-pub use header::{named_of, one_named};
+pub use ids::{Ids, next_id, push_id};
 pub use member::{Member, Named};

@@ -1,10 +1,12 @@
 // The Thread of a new Email, by the index.
 ghost use Rattle.std.specs.Prelude.{◌≡◌, ℕ, None, Some};
 ghost use Rattle.std.specs.BTreeSet.{IsOrdered};
+ghost use Rattle.thread_rule.specs.Ids.{ids_in};
 ghost use Rattle.thread_rule.specs.Threads as threads;
 ghost use Rattle.thread_rule.specs.reading.Keys as keys;
 ghost use Rattle.thread_rule.specs.reading.Index as indexed;
 
+use crate::ids::next_id;
 use crate::index::KeyIndex;
 use crate::key::{Key, base_digest, key_after};
 use crate::member::{Member, Named};
@@ -21,12 +23,13 @@ pub fn thread_of(members: &Members, index: &KeyIndex, named: &Named) -> u64
     ensures only { (thread : ℕ) → threads.IsThreadOf members.now.entries named.now.base named.now.email named.now.ids thread → thread ≡ result }
 {
     let digest = base_digest(named.base.as_slice());
-    for id in named.ids.as_slice() {
-        let id = id.as_slice();
+    let mut rest = named.ids.as_text();
+    while let Some((id, more)) = next_id(rest) {
         let key = key_after(&digest, id);
         if let Some(thread) = shared(members, index, &key, id, named.base.as_slice()) {
             return thread;
         }
+        rest = more;
     }
     named.email
 }
@@ -60,20 +63,23 @@ fn thread_if(members: &Members, email: u64, id: &[u8], base: &[u8]) -> Option<u6
 fn thread_where_shared(member: &Member, id: &[u8], base: &[u8]) -> Option<u64>
     ensures { result ≡ indexed.thread_if (Some member.now) base.now id.now None }
 {
-    if is_named(member, id) && same_text(member.base.as_slice(), base) {
+    if has_id(member.ids.as_text(), id) && same_text(member.base.as_slice(), base) {
         Some(member.thread)
     } else {
         None
     }
 }
 
-/// Whether the Email names the id.
-fn is_named(member: &Member, id: &[u8]) -> bool
-    ensures { result ≡ threads.is_among member.now.ids id.now }
+/// Whether an id of the text is this one.
+fn has_id(text: &[u8], id: &[u8]) -> bool
+    ensures { result ≡ threads.is_among (ids_in text.now) id.now }
 {
-    member
-        .ids
-        .as_slice()
-        .iter()
-        .any(|name| name.as_slice() == id)
+    let mut rest = text;
+    while let Some((other, more)) = next_id(rest) {
+        if id == other {
+            return true;
+        }
+        rest = more;
+    }
+    false
 }

@@ -42,7 +42,7 @@ fn new_of(text: &str) -> Command {
 pub fn command_of(alloc: Global, text: &str) -> Result<Option<Command>, AllocError> {
     let (word, rest) = first_word(text);
     match word {
-        "list" => Ok(Some(Command::List)),
+        "list" => Ok(Some(Command::List { special_use: false })),
         "select" => Ok(Some(select_of(alloc, rest)?)),
         "flags" => Ok(Some(Command::FetchFlags)),
         "slice" => Ok(Some(slice_of(rest))),

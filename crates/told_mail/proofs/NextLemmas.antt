@@ -212,7 +212,7 @@ list_mail m rs i = added_mail rs (record m { folders = listed rs m.folders }) (n
 -- ---- an exchange that is told
 
 ok_mail : (m : Mail) (c : Command) (rs : List Response) (selected : Option (List ℕ)) → IsMail m → IsMail (tell_ok m c rs selected)
-ok_mail m command.List rs selected i = list_mail (tell_named m command.List rs selected) rs (named_mail m command.List rs selected i)
+ok_mail m (command.List special_use) rs selected i = list_mail (tell_named m (command.List special_use) rs selected) rs (named_mail m (command.List special_use) rs selected i)
 ok_mail m c rs selected i = named_mail m c (responses_of c rs) (target c selected) i
 
 exchange_mail : (m : Mail) (x : Exchange) → IsMail m → IsMail (tell m x)

@@ -196,9 +196,9 @@ numbers_list m rs =
     numbers_on m left (with_new_folders rs left (new_names m.folders rs)) cut (numbers_added rs left (new_names m.folders rs))
 
 numbers_ok : (m : Mail) (c : Command) (rs : List Response) (selected : Option (List ℕ)) → NumbersGoOn m (tell_ok m c rs selected)
-numbers_ok m command.List rs selected =
-    let told : Mail = tell_named m command.List rs selected in
-    numbers_on m told (tell_list told rs) (numbers_named m command.List rs selected) (numbers_list told rs)
+numbers_ok m (command.List special_use) rs selected =
+    let told : Mail = tell_named m (command.List special_use) rs selected in
+    numbers_on m told (tell_list told rs) (numbers_named m (command.List special_use) rs selected) (numbers_list told rs)
 numbers_ok m c rs selected = numbers_named m c (responses_of c rs) (target c selected)
 
 -- numbers go on as an exchange is told

@@ -305,7 +305,7 @@ spelled_of (command.Select name known) rs sp = spelled_after rs sp
 spelled_of _ rs sp = sp
 
 well_ok : (m : Mail) (c : Command) (rs : List Response) (selected : Option (List ℕ)) → FitsSlice c → AllSpelled rs → IsWellMade m → IsWellMade (tell_ok m c rs selected)
-well_ok m command.List rs selected fits sp w = well_list (tell_named m command.List rs selected) rs sp (well_named m command.List rs selected fits sp w)
+well_ok m (command.List special_use) rs selected fits sp w = well_list (tell_named m (command.List special_use) rs selected) rs sp (well_named m (command.List special_use) rs selected fits sp w)
 well_ok m c rs selected fits sp w = well_named m c (responses_of c rs) (target c selected) fits (spelled_of c rs sp) w
 
 -- telling an exchange leaves mail well-formed, where octets spell its responses and its slice ends at a UID

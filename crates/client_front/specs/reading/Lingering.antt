@@ -1,13 +1,7 @@
 -- Clients whose response is whole, and when they are closed.
-use Rattle.std.specs.Prelude.{◌≡◌, ◌+◌, ℕ, Bool, false, List, [], ◌∷◌, length, nat_le, if◌then◌else◌, Option, Some}
-use Rattle.client_front.specs.Deadlines.{capped}
+use Rattle.std.specs.Prelude.{ℕ, Bool, false, List, [], ◌∷◌, length, nat_le, if◌then◌else◌}
 use Rattle.client_front.specs.declared.lingering.Finished.{Finished}
 use Rattle.client_front.specs.declared.lingering.TheConstants.{MAX_LINGERING_CLIENTS}
-use Rattle.client_front.specs.declared.serving.TheConstants.{DRAIN_MILLISECONDS}
-
--- it is closed `DRAIN_MILLISECONDS` after its response
-abbrev pub IsDue : {S : Type 0} → (Option ℕ → Type 0) → Finished S → Type 0
-IsDue reads client = (now : ℕ) × reads (Some now) × (client.due ≡ capped (now + DRAIN_MILLISECONDS))
 
 abbrev pub is_first_due : {S : Type 0} → ℕ → List (Finished S) → Bool
 is_first_due now [] = false

@@ -17,6 +17,8 @@ fixed_text word.List = codes "list \"\" \"*\"\r\n"
 fixed_text word.ListAtom = codes "list \"\" *\r\n"
 fixed_text word.ListSubscribed = codes "list \"\" \"*\" return (subscribed)\r\n"
 fixed_text word.ListAtomSubscribed = codes "list \"\" * return (subscribed)\r\n"
+fixed_text word.ListSpecialUse = codes "list \"\" \"*\" return (subscribed special-use)\r\n"
+fixed_text word.ListAtomSpecialUse = codes "list \"\" * return (subscribed special-use)\r\n"
 fixed_text word.Select = codes "select "
 fixed_text word.Unselect = codes "unselect\r\n"
 fixed_text word.Fetch = codes "uid fetch "
@@ -60,7 +62,7 @@ fixed_text word.Dec = codes "dec-"
 -- the texts of which one is read at a place
 abbrev pub fixed_texts : Choice → List FixedText
 fixed_texts choice.Commands =
-    word.Capability ∷ word.Login ∷ word.Enable ∷ word.List ∷ word.ListAtom ∷ word.ListSubscribed ∷ word.ListAtomSubscribed ∷ word.Select ∷ word.Unselect
+    word.Capability ∷ word.Login ∷ word.Enable ∷ word.List ∷ word.ListAtom ∷ word.ListSubscribed ∷ word.ListAtomSubscribed ∷ word.ListSpecialUse ∷ word.ListAtomSpecialUse ∷ word.Select ∷ word.Unselect
     ∷ word.Fetch ∷ word.Store ∷ word.Move ∷ word.Expunge ∷ word.Append ∷ word.Create ∷ word.Delete ∷ word.Rename ∷ word.Subscribe ∷ word.Unsubscribe ∷ []
 fixed_texts choice.Items = word.ItemsWithModseq ∷ word.ItemsWithoutModseq ∷ []
 fixed_texts choice.AllItems = word.ItemsWithModseq ∷ word.ItemsWithoutModseq ∷ word.FlagsOnly ∷ []

@@ -4,7 +4,7 @@ use Rattle.std.specs.List.{list_all, filter}
 use Rattle.text_words.specs.Cuts.{front, back}
 use Rattle.text_words.specs.Sequence.{Sequence}
 use Rattle.header_tokens.specs.Tokens.{Spelled}
-use Rattle.header_tokens.specs.Kinds.{has_mark, is_gap}
+use Rattle.header_tokens.specs.Kinds.{has_mark, is_gap, is_word}
 use Rattle.header_addresses.specs.Mailboxes.{is_phrase, is_display_name, is_addr_spec, is_inner_token, behind_route, are_hops, Mailbox}
 use Rattle.header_addresses.specs.AddressLists.{Element, IsElement, Empty, Head, End, Member, is_no_comma, is_no_separator, Grouped, run_of}
 
@@ -96,6 +96,10 @@ element_in ts = element_of (front is_plain_token ts) (back is_plain_token ts)
 -- a word of the class where one is due, or else a dot
 abbrev pub comes_in_turn : (Spelled → Bool) → Bool → Spelled → Bool
 comes_in_turn word due s = if due then word s else has_mark 46 s
+
+-- a dot, or a word that no word stands directly before
+abbrev pub stands_apart : Bool → Spelled → Bool
+stands_apart behind_word s = has_mark 46 s || (is_word s && not behind_word)
 
 -- ---- the lists that elements make
 

@@ -4,7 +4,10 @@ use Rattle.std.specs.Prelude.{option_to_list}
 use Rattle.text_words.specs.Cuts.{front, back}
 use Rattle.text_words.specs.LineEnds.{line_end_len}
 use Rattle.text_words.specs.Octets.{is_blank, hex_value}
-use Rattle.header_words.specs.EncodedWords.{IsFirst}
+use Rattle.header_words.specs.EncodedWords.{Coded, IsFirst, Span, InUtf8, text_of_spans}
+use Rattle.header_words.specs.declared.encoded_word.Edges.{Edges}
+use Rattle.header_words.specs.declared.encoded_word.Word.{Word}
+use Rattle.header_words.specs.declared.words.Spans.{Spans}
 use Rattle.header_words.specs.QuotedPrintable.{Piece, right, ends_line}
 use Rattle.header_words.specs.declared.quoted_printable.PieceAt.{PieceAt}
 
@@ -33,11 +36,11 @@ q_unit_in (c ∷ t) =
     else Some (c, 1)
 
 -- the first encoded word of a text, and where it stands
-pub record FoundAt (reading : List ℕ) (start end : ℕ) (t : List ℕ) : Type 0 where
+pub record FoundAt (at : Edges) (coded : Coded) (start end : ℕ) (t : List ℕ) : Type 0 where
   pub before : List ℕ
   pub word : List ℕ
   pub behind : List ℕ
-  pub first : IsFirst reading before word behind t
+  pub first : IsFirst at coded before word behind t
   pub start_is : start ≡ length before
   pub end_is : end ≡ length before + length word
 
@@ -79,3 +82,12 @@ pub record IsRead (read : Option (Piece × ℕ)) (text rest octets : List ℕ) (
 -- the code read this at the front of a text
 abbrev pub Reads : Option (Piece × ℕ) → List ℕ → PieceAt → Type 0
 Reads read text p = IsRead read text p.rest.now (octets_read p) p.wrong
+
+-- what the code's word spells
+abbrev pub coded_of : Word → Coded
+coded_of w = record { charset = w.charset; octets = w.octets.items }
+
+-- with these spans after what was gathered, the text goes on as with none
+abbrev pub Gathers : Spans → Spans → List Span → Type 0
+Gathers old new more = (spans : List Span) → new.text.items ++ text_of_spans (InUtf8 new.run.items ∷ spans)
+    ≡ old.text.items ++ text_of_spans (InUtf8 old.run.items ∷ (more ++ spans))

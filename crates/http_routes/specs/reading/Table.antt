@@ -24,8 +24,13 @@ download_row =
     path_row (codes "/jmap/download/" ++ (param_token ∷ 47 ∷ param_token ∷ 47 ∷ param_token ∷ []))
     (codes "/jmap/download/{account}/{blob}/{name}") ((16, 23) ∷ (26, 30) ∷ (33, 37) ∷ []) Download
 
+-- the same with an empty name
+abbrev pub nameless_row : List ℕ × RouteOf Kind
+nameless_row =
+    path_row (codes "/jmap/download/" ++ (param_token ∷ 47 ∷ param_token ∷ 47 ∷ [])) (codes "/jmap/download/{account}/{blob}/") ((16, 23) ∷ (26, 30) ∷ []) Download
+
 abbrev pub paths : RowsOf (RouteOf Kind)
-paths = session_row ∷ api_row ∷ download_row ∷ upload_row ∷ []
+paths = session_row ∷ api_row ∷ download_row ∷ nameless_row ∷ upload_row ∷ []
 
 -- of which kind a path is
 abbrev pub kind_at : List ℕ → Option Kind

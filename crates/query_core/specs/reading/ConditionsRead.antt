@@ -15,10 +15,10 @@ is_of_text (record_condition.MinSize size) = false
 is_of_text (record_condition.MaxSize size) = false
 is_of_text (record_condition.HasKeyword keyword) = false
 is_of_text (record_condition.NotKeyword keyword) = false
-is_of_text (record_condition.InField field word) = true
+is_of_text (record_condition.InField field words) = true
 
 -- whether it reads a text or a header
 abbrev pub reads_text : EmailCondition → Bool
 reads_text (Record c) = is_of_text c
-reads_text (Header name word) = true
+reads_text (Header name words) = true
 reads_text (Thread quantity keyword) = false

@@ -28,7 +28,7 @@ module _ {C : Type 0} (P : C → Type 0) where
 
 abbrev pub keyword_asked : EmailCondition → List (List ℕ)
 keyword_asked (Record c) = []
-keyword_asked (Header name word) = []
+keyword_asked (Header name words) = []
 keyword_asked (Thread quantity keyword) = keyword ∷ []
 
 abbrev pub keywords_of_all : List EmailCondition → List (List ℕ)
@@ -59,7 +59,7 @@ HasThreads emails found keyword = IsSomeAnd (threads_in found keyword) (λ t. Ar
 -- those that a condition asks are found
 abbrev pub KnowsThreads : List (ℕ × Email) → KeywordMap → EmailCondition → Type 0
 KnowsThreads emails found (Record c) = Unit {0}
-KnowsThreads emails found (Header name word) = Unit {0}
+KnowsThreads emails found (Header name words) = Unit {0}
 KnowsThreads emails found (Thread quantity keyword) = HasThreads emails found keyword
 
 -- what was found of any keyword is right

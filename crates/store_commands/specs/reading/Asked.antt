@@ -11,7 +11,7 @@ abbrev pub command_asked : Request → Command
 command_asked request.Capability = command.Capability
 command_asked (request.Login user password) = command.Login (credential_of user) (credential_of password)
 command_asked request.Enable = command.Enable
-command_asked request.List = command.List
+command_asked (request.List special_use) = command.List special_use
 command_asked (request.Select name known) = command.Select (astring_in name.now).0 known
 command_asked request.Unselect = command.Unselect
 command_asked request.FetchFlags = command.FetchFlags

@@ -37,10 +37,12 @@ unfoldable pub arguments_at : FixedText → List ℕ → Result (Command × List
 arguments_at word.Capability b = Ok (Capability, b)
 arguments_at word.Enable b = Ok (Enable, b)
 arguments_at word.Unselect b = Ok (Unselect, b)
-arguments_at word.List b = Ok (ListFolders, b)
-arguments_at word.ListAtom b = Ok (ListFolders, b)
-arguments_at word.ListSubscribed b = Ok (ListFolders, b)
-arguments_at word.ListAtomSubscribed b = Ok (ListFolders, b)
+arguments_at word.List b = Ok (ListFolders false, b)
+arguments_at word.ListAtom b = Ok (ListFolders false, b)
+arguments_at word.ListSubscribed b = Ok (ListFolders false, b)
+arguments_at word.ListAtomSubscribed b = Ok (ListFolders false, b)
+arguments_at word.ListSpecialUse b = Ok (ListFolders true, b)
+arguments_at word.ListAtomSpecialUse b = Ok (ListFolders true, b)
 arguments_at k b = message_arguments_at k b
 
 unfoldable pub command_at : List ℕ → Result ((List ℕ × Command) × List ℕ) NoCommand

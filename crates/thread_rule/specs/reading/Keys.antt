@@ -7,9 +7,9 @@ use Rattle.sha2.specs.Sha256.{sha256}
 unfoldable pub base_digest : List ℕ → List ℕ
 base_digest base = sha256 (map to_ascii_lowercase base)
 
--- the key of an id after the digest of a base subject, which has 32 octets: the first 16 of the digest of both
+-- the key of an id after the digest of a base subject, which has 32 octets: the first 8 of the digest of both
 unfoldable pub key_after : List ℕ → List ℕ → List ℕ
-key_after digest id = take 16 (sha256 (digest ++ id))
+key_after digest id = take 8 (sha256 (digest ++ id))
 
 -- the keys of an Email's ids under its base subject
 abbrev pub keys_under : List ℕ → List (List ℕ) → List (List ℕ)

@@ -1,14 +1,13 @@
 use Rattle.std.proofs.Common.{ℕ, List, length, arith}
 use Rattle.mime_tree.specs.declared.part.Part.{Part}
-use Rattle.mime_tree.specs.declared.tree.TheConstants.{MAX_DEPTH}
 use Rattle.mime_tree.specs.Heads.{text_plain}
 use Rattle.mime_tree.specs.Parts.{IsUnder}
 use Rattle.mime_tree.specs.Trees.{IsMessage}
 use Rattle.mime_tree.proofs.UnderLemmas.{Numbered, tree_numbered}
 use Rattle.mime_tree.proofs.laws.one_leaf.Goals as goal
 
-numbered : (b : List ℕ) (p : Part) (h : IsMessage b p) → Numbered (λ q. IsUnder q p) 1 h.0
-numbered b p h = tree_numbered MAX_DEPTH b 0 (length b) text_plain 1 p h.0 h.1
+numbered : (b : List ℕ) (p : Part) (h : IsMessage b p) → Numbered (λ q. IsUnder q p) 1 h.next
+numbered b p h = tree_numbered h.levels b 0 (length b) text_plain 1 p h.next h.tree
 
 pub returns-clause-one : goal.returns-clause-one
 returns-clause-one c = λ b p q r n h u v i j. (numbered b p h).one q r n u v i j

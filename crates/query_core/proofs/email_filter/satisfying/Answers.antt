@@ -3,7 +3,7 @@ use Rattle.std.proofs.lemmas.Result.{IfOk-weaker}
 use Rattle.mail_maps.specs.Serve.{Email}
 use Rattle.mail_conditions.specs.Entries.{emails_at}
 use Rattle.mail_conditions.specs.Records.{field_text}
-use Rattle.mail_conditions.specs.Words.{HasWord}
+use Rattle.mail_conditions.specs.Words.{HasWords}
 use Rattle.mail_conditions.specs.declared.entry.EmailEntry.{EmailEntry}
 use Rattle.mail_conditions.specs.declared.email_condition.RecordCondition.{RecordCondition}
 use Rattle.query_arguments.specs.declared.email_condition.EmailCondition.{EmailCondition}
@@ -17,13 +17,12 @@ returns-in-InField c = λ knows.
     let found = c.in-InField in
     let all = emails_at c.args.emails.now in
     let rows = emails_at c.args.rows.items in
-    IfOk-weaker c.having_word.result _ _
+    IfOk-weaker c.having_words.result _ _
     (λ v keeps.
     subst (λ (asked : EmailCondition). Keeps (λ (e : ℕ × Email). EmailMatches all e.1 asked) rows (emails_at v.items))
-    (sym (c.in-Record.is ∙ ap (λ (r : RecordCondition). Record r) found.is))
-    (subst (λ (word : List ℕ). Keeps (λ (e : ℕ × Email). HasWord word (field_text found.field e.1.immutable.envelope)) rows (emails_at v.items)) c.as_slice.ensures keeps))
-    (subst (λ (es : List EmailEntry). IfOk c.having_word.result (λ v. Keeps (λ (e : ℕ × Email). HasWord c.as_slice.result.now (field_text found.field e.1.immutable.envelope))
-    (emails_at es) (emails_at v.items))) c.deref.ensures.value c.having_word.ensures)
+    (sym (c.in-Record.is ∙ ap (λ (r : RecordCondition). Record r) found.is)) keeps)
+    (subst (λ (es : List EmailEntry). IfOk c.having_words.result (λ v. Keeps (λ (e : ℕ × Email). HasWords found.words (field_text found.field e.1.immutable.envelope))
+    (emails_at es) (emails_at v.items))) c.deref.ensures.value c.having_words.ensures)
 
 pub returns-in-Record : goal.returns-in-Record
 returns-in-Record c = λ knows.

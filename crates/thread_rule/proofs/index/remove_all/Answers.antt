@@ -1,21 +1,16 @@
-use Rattle.std.proofs.Common.{false, List, ℕ, subst, arith, ap, ◌∙◌}
-use Rattle.std.proofs.lemmas.List.{take_all, length-map}
-use Rattle.thread_rule.specs.reading.Index.{SetsAll}
-use Rattle.thread_rule.specs.reading.Keys.{key_after, keys_under}
-use Rattle.thread_rule.proofs.IndexLemmas.{keys_turn, sets_none, sets_one}
+use Rattle.std.proofs.Common.{false}
+use Rattle.thread_rule.proofs.IndexLemmas.{none_set, keys_turn, all_set, sets_one}
 use Rattle.thread_rule.proofs.index.remove_all.Goals as goal
 
 pub loop-id-init : goal.loop-id-init
-loop-id-init c = sets_none c.args.index.now c.args.email false
+loop-id-init c = none_set c.args.index.now c.args.digest.now c.args.named.now c.as_text-rest.result.now c.args.email false c.as_text-rest.ensures
 
 pub loop-id-preserved : goal.loop-id-preserved
 loop-id-preserved c =
-    keys_turn c.args.index.now c.loop-id.index c.remove.new.self c.args.digest.now c.args.named.now c.loop-id.id-index c.id-item.result c.key_after-key.result c.args.email false
-    c.loop-id-test.true c.id-item.is (c.key_after-key.ensures ∙ ap (key_after c.args.digest.now) c.as_slice.ensures) c.loop-id.invariant
+    keys_turn c.args.index.now c.loop-id.index c.remove.new.self c.args.digest.now c.args.named.now c.loop-id.rest.now c.in-Some.id.now c.in-Some.more.now c.key_after-key.result
+    c.args.email false c.loop-id.invariant c.in-Some.ensures.ids c.key_after-key.ensures
     (sets_one c.loop-id.index c.remove.new.self c.key_after-key.result c.args.email false c.remove.ensures.updates)
 
 pub returns : goal.returns
 returns c =
-    let keys = keys_under c.args.digest.now c.args.named.now in
-    let P : List (List ℕ) → Type 0 = λ xs. SetsAll c.args.index.now c.loop-id.index xs c.args.email false in
-    subst P (take_all c.loop-id.id-index keys (omega (arith, length-map c.args.named.now (key_after c.args.digest.now)))) c.loop-id.invariant
+    all_set c.args.index.now c.loop-id.index c.args.digest.now c.args.named.now c.loop-id.rest.now c.args.email false c.loop-id.invariant c.in_default.ensures.ids

@@ -1,7 +1,9 @@
-use Rattle.std.proofs.Common.{false, take}
-use Rattle.thread_rule.specs.reading.Index.{SetsAll}
-use Rattle.thread_rule.specs.reading.Keys.{keys_under}
+use Rattle.std.proofs.Common.{false, length}
+use Rattle.thread_rule.proofs.IndexLemmas.{SetsSoFar}
 use Rattle.thread_rule.proofs.index.remove_all.Given as goal
 
 abbrev pub invariant-loop-id : goal.invariant-loop-id
-invariant-loop-id l = SetsAll l.initial.index l.index (take l.id-index (keys_under l.digest l.named)) l.email false
+invariant-loop-id l = SetsSoFar l.initial.index l.index l.digest l.named l.rest l.email false
+
+abbrev pub decreases-loop-id : goal.decreases-loop-id
+decreases-loop-id l = length l.rest

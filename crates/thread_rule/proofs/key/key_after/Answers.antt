@@ -8,6 +8,6 @@ unfolding key_after
 returns c =
     let fed = ([] ++ c.as_slice.result.now) ++ c.args.id.now in
     c.in-Some.ensures.cases.same
-    ∙ ap (take 16)
+    ∙ ap (take 8)
     (c.finalize-whole.ensures fed (c.update-2.ensures ([] ++ c.as_slice.result.now) (c.update.ensures [] c.new-hasher.ensures))
     ∙ ap (λ (digest : List ℕ). sha256 (digest ++ c.args.id.now)) c.as_slice.ensures)

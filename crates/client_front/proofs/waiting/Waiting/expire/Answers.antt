@@ -1,12 +1,12 @@
-use Rattle.client_front.proofs.Released.{late-leaves, no-late}
+use Rattle.client_front.proofs.Late.{fewer-awaited}
+use Rattle.client_front.specs.Waiting.{NoneLate, OneLate, held}
 use Rattle.client_front.proofs.waiting.Waiting.expire.Goals as goal
 
 pub late-init : goal.late-init
-late-init g c = no-late g.S.ClientStream.shows c.args.now c.args.self.now.idle.items c.args.self.now.asking.items
+late-init g c = NoneLate
 
 pub late-preserved : goal.late-preserved
-late-preserved g c =
-    late-leaves g.S.ClientStream.shows c.args.now c.args.self.now.idle.items c.args.self.now.asking.items c.late.self.idle.items c.next_late.new.self.idle.items
-    c.release.new.self.idle.items c.late.self.asking.items c.next_late.new.self.asking.items c.release.new.self.asking.items c.in-Some.client
-    c.in_ok-release.field-0 c.late.invariant c.in-Some.ensures.some.0 c.in_ok-release.ensures.idle c.in-Some.ensures.asking c.in-Some.ensures.some.1
-    c.in_ok-release.ensures.released
+late-preserved g c = OneLate c.late.invariant c.end_wait.ensures
+
+pub late-smaller : goal.late-smaller
+late-smaller g c = fewer-awaited g.S.ClientStream.shows c.args.now (held c.late.self) (held c.end_wait.new.self) c.end_wait.ensures

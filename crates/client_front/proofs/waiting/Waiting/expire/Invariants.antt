@@ -1,9 +1,9 @@
-use Rattle.std.proofs.Common.{length}
-use Rattle.client_front.specs.reading.Waiting.{LateLeave}
+use Rattle.client_front.proofs.Late.{awaited}
+use Rattle.client_front.specs.Waiting.{LooksAtLateOnes, held}
 use Rattle.client_front.proofs.waiting.Waiting.expire.Given as goal
 
 abbrev pub invariant-late : goal.invariant-late
-invariant-late g l = LateLeave g.S.ClientStream.shows l.now l.fn.self.idle.items l.fn.self.asking.items l.self.idle.items l.self.asking.items
+invariant-late g l = LooksAtLateOnes g.S.ClientStream.shows l.now (held l.fn.self) (held l.self)
 
 abbrev pub decreases-late : goal.decreases-late
-decreases-late g l = length l.self.idle.items
+decreases-late g l = awaited l.self.idle.items

@@ -1,20 +1,23 @@
-use Rattle.std.proofs.Common.{Bool, subst}
-use Rattle.client_front.specs.reading.Waiting.{Releases}
-use Rattle.client_front.proofs.Released.{asker-leaves, room-is-made}
+use Rattle.std.proofs.Common.{rules, true, false}
+use Rattle.client_front.proofs.Places.{oldest-leaves}
+use Rattle.client_front.specs.Waiting.{NoAsker, OneAsker, held}
 use Rattle.client_front.proofs.waiting.Waiting.make_room.Goals as goal
 
-pub returns-then-branch : goal.returns-then-branch
-returns-then-branch g c =
-    let shows = g.S.ClientStream.shows in
-    let so = λ (closed : Bool). Releases shows c.in-Some.client.stream closed c.oldest.self.asking.items c.release.new.self.asking.items in
-    room-is-made shows _ _ c.oldest.self.idle.items c.pop_front.new.self.items c.release.new.self.idle.items c.oldest.self.asking.items
-    c.release.new.self.asking.items c.in-Some.client c.oldest.invariant c.in-Some.ensures.items c.in_ok-release.ensures.idle
-    (subst so c.if-branch.true c.in_ok-release.ensures.released)
+pub oldest-init : goal.oldest-init
+oldest-init g c = NoAsker
 
+-- the client that came first asks
 pub oldest-preserved : goal.oldest-preserved
 oldest-preserved g c =
-    let shows = g.S.ClientStream.shows in
-    let so = λ (closed : Bool). Releases shows c.in-Some.client.stream closed c.oldest.self.asking.items c.release.new.self.asking.items in
-    asker-leaves shows _ _ c.oldest.self.idle.items c.pop_front.new.self.items c.release.new.self.idle.items c.oldest.self.asking.items
-    c.release.new.self.asking.items c.in-Some.client c.oldest.invariant c.in-Some.ensures.items c.in_ok-release.ensures.idle
-    (subst so c.if-branch.false c.in_ok-release.ensures.released)
+    OneAsker c.oldest.invariant
+    (oldest-leaves g.S.ClientStream.shows c.oldest.self.idle.items c.oldest.self.asking.items (held c.leave.new.self) c.look_at.result c.is_whole-asks.result true
+    (search rules) c.look_at.ensures c.is_whole-asks.ensures c.if-not-asks.false c.leave.ensures.idle c.leave.ensures.asking)
+
+-- it is closed
+pub returns-then-not-asks : goal.returns-then-not-asks
+returns-then-not-asks g c = (
+  held c.oldest.self,
+  c.oldest.invariant,
+  oldest-leaves g.S.ClientStream.shows c.oldest.self.idle.items c.oldest.self.asking.items (held c.leave.new.self) c.look_at.result c.is_whole-asks.result false
+      (search rules) c.look_at.ensures c.is_whole-asks.ensures c.if-not-asks.true c.leave.ensures.idle c.leave.ensures.asking,
+)

@@ -1,4 +1,4 @@
-use Rattle.std.proofs.Common.{refl}
+use Rattle.std.proofs.Common.{refl, sym, ap, ◌∙◌}
 use Rattle.gate_world.proofs.Joins.{widen}
 use Rattle.imap_client.specs.declared.round.RoundStage.TheVariants as stage
 use Rattle.imap_client.proofs.Connections.{on_ok}
@@ -9,8 +9,8 @@ pub returns-clause-tape : goal.returns-clause-tape
 returns-clause-tape g c =
     widen _ c.follow-result.ensures.tape (λ x so life stands.
     let f = so life stands in
-    let r = rounded c.args.mirror.now c.follow-result.new.plan.mirror (record { stage = stage.Listing; mirror = c.replace.result }) c.follow-result.new.plan refl
-    c.replace.ensures.value refl f.1 in
+    let r = rounded c.args.mirror.now c.follow-result.new.plan.mirror (record { stage = stage.Listing c.special_use.result; mirror = c.replace.result }) c.follow-result.new.plan
+    (ap stage.Listing (c.special_use.ensures ∙ stands.special_use_is (sym stands.alive ∙ c.requires))) c.replace.ensures.value refl f.1 in
     (f.0, r.0, r.1))
 
 pub returns-clause-alive : goal.returns-clause-alive

@@ -1,0 +1,24 @@
+use Rattle.std.proofs.Common.{ℕ, List, subst, take}
+use Rattle.client_front.proofs.Handed.{look-ends}
+use Rattle.client_front.specs.Accepting.{Asked, state}
+use Rattle.client_front.specs.Waiting.{held}
+use Rattle.client_front.proofs.acceptor.Acceptor+L+C+L+Stream.look.Goals as goal
+
+pub returns-clause-looks : goal.returns-clause-looks
+returns-clause-looks g c = record {
+  keys = take c.in_ok-count.count c.wait.new.room;
+  listener = c.wait.new.self;
+  waited = c.in_ok-count.ensures.waited;
+  now = c.in_ok-now.now;
+  clock = c.milliseconds.new.self;
+  is_now = c.in_ok-now.ensures;
+  came = state c.admit_all.new.self;
+  come = c.admit_all.ensures;
+  after = held c.ask_all.new.self.waiting;
+  asked = subst
+      (λ (keys : List ℕ). Asked g.L.Stream.ClientStream.shows c.in_ok-now.now (held c.admit_all.new.self.waiting) keys (held c.ask_all.new.self.waiting))
+      c.split_at.ensures.front c.ask_all.ensures.asked;
+  expired = c.expire.ensures;
+  closed = look-ends c.admit_all.new.self c.ask_all.new.self c.expire.new.self c.close_due.new.self c.in_ok-now.now c.ask_all.ensures.same
+      c.close_due.ensures;
+}

@@ -1,0 +1,165 @@
+-- How clients come, and which one is handed on.
+use Rattle.std.specs.Prelude.{◌≡◌, ◌<◌, ◌+◌, ◌-◌, ◌^◌, ◌%◌, ◌++◌, ◌⊎◌, ℕ, Bool, true, false, List, [], ◌∷◌, Option, None, Some}
+use Rattle.client_front.specs.Deadlines.{begun, untaken}
+use Rattle.client_front.specs.Scanning.{IsComing, unscanned}
+use Rattle.client_front.specs.Waiting.{Admits, Expires, FindsRoom, Held, IsAsked, MakesRoom, asks, held, newcomer}
+use Rattle.client_front.specs.reading.Lingering.{undue}
+use Rattle.client_front.specs.declared.acceptor.TheConstants.{LOOK_AGAIN_MILLISECONDS, SPARED_CLIENTS}
+use Rattle.client_front.specs.declared.acceptor.Acceptor.{Acceptor}
+use Rattle.client_front.specs.declared.lingering.Finished.{Finished}
+use Rattle.client_front.specs.declared.scan.Coming.{Coming}
+use Rattle.client_front.specs.declared.scan.Coming.TheVariants.{Whole}
+use Rattle.client_front.specs.declared.serving.Serving.{Serving}
+use Rattle.client_front.specs.declared.sockets.Next.{Next}
+use Rattle.client_front.specs.declared.sockets.Next.TheVariants.{Client, Nobody, Refused}
+use Rattle.client_front.specs.declared.waiting.TheConstants.{MAX_HELD_CLIENTS}
+
+-- The listener, the clock, the next client's key, those who wait, and those whose response is whole and that are open yet.
+pub record State (L C S : Type 0) : Type 0 where
+  pub listener : L
+  pub clock : C
+  pub key : ℕ
+  pub held : Held S
+  pub lingering : List (Finished S)
+
+abbrev pub state : {L C S : Type 0} → Acceptor L C S → State L C S
+state acceptor = record {
+  listener = acceptor.listener;
+  clock = acceptor.clock;
+  key = acceptor.next_key;
+  held = held acceptor.waiting;
+  lingering = acceptor.lingering.clients.items;
+}
+
+-- What a stream shows, what a clock reads, what waiting at a listener gives, and who comes to it.
+pub record World (L C S : Type 0) : Type 1 where
+  pub shows : S → ℕ → Option (List ℕ) → Type 0
+  pub reads : C → Option ℕ → C → Type 0
+  pub waits : L → ℕ → Option (List ℕ) → L → Type 0
+  pub comes : L → ℕ → Next S → L → Type 0
+
+abbrev pub world : {L C S : Type 0} → (S → ℕ → Option (List ℕ) → Type 0) → (C → Option ℕ → C → Type 0) → (L → ℕ → Option (List ℕ) → L → Type 0)
+    → (L → ℕ → Next S → L → Type 0) → World L C S
+world shows reads waits comes = record { shows = shows; reads = reads; waits = waits; comes = comes }
+
+abbrev pub next_key : ℕ → ℕ
+next_key key = (key + 1) % (2 ^ 64)
+
+-- room is made, and the clients that are held are these then
+abbrev pub RoomIsMade : {L C S : Type 0} → World L C S → Bool → State L C S → State L C S → Type 0
+RoomIsMade {L} {C} {S} world closed old new =
+    (after : Held S) × MakesRoom world.shows closed old.held after × (new ≡ record old { held = after })
+
+pub data Spared {L C S : Type 0} (world : World L C S) (old : State L C S) : ℕ → State L C S → Type 0 where
+  NoneSpared : Spared world old 0 old
+  OneSpared : {n : ℕ} {mid new : State L C S} → Spared world old n mid → RoomIsMade world true mid new → Spared world old (n + 1) new
+
+-- `SPARED_CLIENTS` clients are closed whose head isn't whole, or all where there are fewer, in order of their coming
+abbrev pub Spares : {L C S : Type 0} → World L C S → State L C S → State L C S → Type 0
+Spares {L} {C} {S} world old new =
+    Spared world old SPARED_CLIENTS new
+    ⊎ ((n : ℕ) × (mid : State L C S) × (n < SPARED_CLIENTS) × Spared world old n mid × RoomIsMade world false mid new)
+
+-- One that has come is held; or it is closed, where there is no room for it, or no memory.
+abbrev pub IsHeld : {L C S : Type 0} → World L C S → ℕ → S → State L C S → State L C S → Type 0
+IsHeld {L} {C} {S} world now stream old new =
+    (after : Held S)
+    × (Admits world.shows (newcomer now old.key stream) old.held after ⊎ FindsRoom world.shows true old.held after)
+    × (new ≡ record old { key = next_key old.key; held = after })
+
+-- the listener gives this, and one that has come is held
+abbrev pub OneComes : {L C S : Type 0} → World L C S → ℕ → State L C S → State L C S → Type 0
+OneComes {L} {C} {S} world now old new =
+    (stream : S) × (listener : L) × world.comes old.listener old.key (Client stream) listener
+    × IsHeld world now stream (record old { listener = listener }) new
+
+pub data Come {L C S : Type 0} (world : World L C S) (now : ℕ) (old : State L C S) : ℕ → State L C S → Type 0 where
+  NoneCame : Come world now old 0 old
+  OneCame : {n : ℕ} {mid new : State L C S} → Come world now old n mid → OneComes world now mid new → Come world now old (n + 1) new
+
+-- the listener gives nobody more; or one can't be accepted, and others are spared
+abbrev pub NoneComes : {L C S : Type 0} → World L C S → State L C S → State L C S → Type 0
+NoneComes {L} world old new =
+    (world.comes old.listener old.key Nobody new.listener × (new ≡ record old { listener = new.listener }))
+    ⊎ ((listener : L) × world.comes old.listener old.key Refused listener × Spares world (record old { listener = listener }) new)
+
+-- those that have come are held, `MAX_HELD_CLIENTS` of them at most
+abbrev pub AllCome : {L C S : Type 0} → World L C S → ℕ → State L C S → State L C S → Type 0
+AllCome {L} {C} {S} world now old new =
+    Come world now old MAX_HELD_CLIENTS new
+    ⊎ ((n : ℕ) × (mid : State L C S) × (n < MAX_HELD_CLIENTS) × Come world now old n mid × NoneComes world mid new)
+
+-- the clients with these keys are looked at, in this order
+pub data Asked {S : Type 0} (shows : S → ℕ → Option (List ℕ) → Type 0) (now : ℕ) (old : Held S) : List ℕ → Held S → Type 0 where
+  NoKey : Asked shows now old [] old
+  OneKey : {keys : List ℕ} {key : ℕ} {mid new : Held S} → Asked shows now old keys mid → IsAsked shows now key mid new
+      → Asked shows now old (keys ++ key ∷ []) new
+
+-- A wait of `LOOK_AGAIN_MILLISECONDS` at most, and a look of the clock after it: those that have come are held, those that have sent
+-- something are looked at, those that are late are looked at, and those whose time after their response is over are closed.
+pub record Looks {L C S : Type 0} (world : World L C S) (old new : State L C S) : Type 0 where
+  pub keys : List ℕ
+  pub listener : L
+  pub waited : world.waits old.listener LOOK_AGAIN_MILLISECONDS (Some keys) listener
+  pub now : ℕ
+  pub clock : C
+  pub is_now : world.reads old.clock (Some now) clock
+  pub came : State L C S
+  pub come : AllCome world now (record old { listener = listener; clock = clock }) came
+  pub after : Held S
+  pub asked : Asked world.shows now came.held keys after
+  pub expired : Expires world.shows now after new.held
+  pub closed : new ≡ record came { held = new.held; lingering = undue now came.lingering }
+
+-- the wait failed, or the look of the clock after it
+abbrev pub LookFails : {L C S : Type 0} → World L C S → State L C S → State L C S → Type 0
+LookFails world old new =
+    (world.waits old.listener LOOK_AGAIN_MILLISECONDS None new.listener × (new ≡ record old { listener = new.listener }))
+    ⊎ ((keys : List ℕ) × world.waits old.listener LOOK_AGAIN_MILLISECONDS (Some keys) new.listener × world.reads old.clock None new.clock
+    × (new ≡ record old { listener = new.listener; clock = new.clock }))
+
+-- the client that asked first, of which a look shows this, waits no longer
+abbrev pub FirstLeaves : {L C S : Type 0} → World L C S → S → Coming → State L C S → State L C S → Type 0
+FirstLeaves {L} {C} {S} world stream it old new =
+    (rest : List S) × (old.held.asking ≡ stream ∷ rest) × IsComing world.shows unscanned stream it
+    × (new ≡ record old { held = record { idle = old.held.idle; asking = rest } })
+
+-- the client that asked first is closed, whose head is not whole any more: it failed
+abbrev pub PassesBy : {L C S : Type 0} → World L C S → State L C S → State L C S → Type 0
+PassesBy {L} {C} {S} world old new = (stream : S) × (it : Coming) × FirstLeaves world stream it old new × (asks it ≡ false)
+
+-- the client that asked first is handed on, whose head is whole, and its request begins at a look of the clock
+pub record HandsOn {L C S : Type 0} (world : World L C S) (old new : State L C S) (serving : Serving S) : Type 0 where
+  pub left : State L C S
+  pub first : FirstLeaves world serving.stream Whole old left
+  pub now : ℕ
+  pub is_now : world.reads left.clock (Some now) new.clock
+  pub after : new ≡ record left { clock = new.clock }
+  pub begins : serving.progress ≡ begun now
+  pub unsent : serving.taking ≡ untaken
+
+-- One turn: the client that asked first is passed by; or nobody asks, and all are looked at.
+abbrev pub TurnsOnce : {L C S : Type 0} → World L C S → State L C S → State L C S → Type 0
+TurnsOnce world old new = PassesBy world old new ⊎ ((old.held.asking ≡ []) × Looks world old new)
+
+-- A turn fails: the clock, where a client would be handed on; or nobody asks, and the look fails.
+abbrev pub TurnFails : {L C S : Type 0} → World L C S → State L C S → State L C S → Type 0
+TurnFails {L} {C} {S} world old new =
+    ((stream : S) × (left : State L C S) × FirstLeaves world stream Whole old left × world.reads left.clock None new.clock
+    × (new ≡ record left { clock = new.clock }))
+    ⊎ ((old.held.asking ≡ []) × LookFails world old new)
+
+-- so many turns
+pub data Turns {L C S : Type 0} (world : World L C S) (old : State L C S) : ℕ → State L C S → Type 0 where
+  NoTurn : Turns world old 0 old
+  OneTurn : {n : ℕ} {mid new : State L C S} → Turns world old n mid → TurnsOnce world mid new → Turns world old (n + 1) new
+
+-- after some turns the client that asked first is handed on
+abbrev pub HandsOnFirst : {L C S : Type 0} → World L C S → State L C S → State L C S → Serving S → Type 0
+HandsOnFirst {L} {C} {S} world old new serving =
+    (n : ℕ) × (mid : State L C S) × Turns world old n mid × HandsOn world mid new serving
+
+-- after some turns one fails; or there were 2^64 - 1
+abbrev pub HandsOnNobody : {L C S : Type 0} → World L C S → State L C S → State L C S → Type 0
+HandsOnNobody {L} {C} {S} world old new =
+    ((n : ℕ) × (mid : State L C S) × Turns world old n mid × TurnFails world mid new) ⊎ Turns world old (2 ^ 64 - 1) new

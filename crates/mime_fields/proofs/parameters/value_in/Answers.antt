@@ -1,0 +1,17 @@
+use Rattle.std.proofs.Common.{length, ap, ◌∙◌, arith}
+use Rattle.mime_fields.proofs.ParameterLemmas.{if_match, no_value, written_value, quoted_value, token_value}
+use Rattle.mime_fields.proofs.parameters.value_in.Goals as goal
+
+pub returns-in_ok-from_vec-in-Quoted : goal.returns-in_ok-from_vec-in-Quoted
+returns-in_ok-from_vec-in-Quoted c =
+    quoted_value c.in-Quoted.text.now c.in_ok-from_vec-in-Quoted.field-0 c.args.raw.now c.in-Quoted.ensures
+    (c.in_ok-from_vec-in-Quoted.ensures ∙ c.in_ok-unquoted-in-Quoted.ensures)
+
+pub returns-in_ok-copy_of-in-Token : goal.returns-in_ok-copy_of-in-Token
+returns-in_ok-copy_of-in-Token c =
+    token_value c.in-Token.text.now c.in_ok-copy_of-in-Token.field-0 c.args.raw.now c.in-Token.ensures c.in_ok-copy_of-in-Token.ensures
+
+pub returns-in-Written : goal.returns-in-Written
+returns-in-Written c =
+    if_match c.written.result (λ e. no_value c.args.raw.now c.in-Written.ensures e)
+    (λ b h. written_value c.args.raw.now b c.in-Written.ensures h.0 (λ z. omega (arith, ap length z, h.1))) c.written.ensures

@@ -1,0 +1,3 @@
+pub mod PhraseLemmas
+pub mod PartLemmas
+pub mod OpenLemmas

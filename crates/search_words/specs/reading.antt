@@ -1,0 +1,3 @@
+-- How the code reads search texts: private clauses and proofs alone speak of it.
+pub mod Parts
+pub mod OpenMarks
