@@ -1,11 +1,8 @@
 -- Texts that are cut between two characters.
 use Rattle.std.proofs.Common.{◌≡◌, ◌∙◌, ◌⊎◌, inl, inr, ℕ, suc, ◌+◌, ◌<◌, ◌≤◌, Bool, true, false, not, List, [], ◌∷◌, ◌++◌, length, take, drop, get_or, refl, sym, ap, subst, arith}
 use Rattle.std.proofs.Common.{length-append, append-nil, drop-cons}
-use Rattle.std.specs.Prelude.{nat_lt, ◌==◌}
-use Rattle.std.specs.Bool.{MatchBool}
 use Rattle.std.proofs.lemmas.List.{length-take-le, take_all, take-append-drop}
-use Rattle.std.proofs.lemmas.Bool.Decides.{nat_tests}
-use Rattle.body_parts.specs.Cuts.{is_continuation, begins_character, is_between_characters, IsFront, IsCut, IsBounded}
+use Rattle.body_parts.specs.Cuts.{is_continuation, begins_character, is_between_characters, IsFront, IsCut}
 
 between_end : (front : List ℕ) → is_between_characters front [] ≡ true
 between_end [] = refl
@@ -73,15 +70,3 @@ cut_before n text at le lt here behind = record {
         by : (length other ≤ at) ⊎ (at < length other) → length other ≤ length (take at text)
         by (inl le) = omega (arith, counted, le)
         by (inr lt) = absurd (longer other f lt)
-
--- ---- a bound
-
-not_below : (n : ℕ) → nat_lt n n ≡ false
-not_below n = grind (arith, nat_tests)
-
--- 0 is no bound
-pub unbounded : (n : ℕ) (text : List ℕ) → n ≡ 0 → IsBounded n text text false
-unbounded n text e = record {
-  front_is = subst (λ (k : ℕ). MatchBool (k == 0) (text ≡ text) (IsCut k text text)) (sym e) refl;
-  truncated_is = sym (not_below (length text));
-}

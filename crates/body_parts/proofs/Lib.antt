@@ -2,6 +2,7 @@ pub mod StepLemmas
 pub mod TextLemmas
 pub mod TagLemmas
 pub mod CutLemmas
+pub mod OpenTagLemmas
 pub mod LeafLemmas
 pub mod ObjectLemmas
 pub mod ValueLemmas

@@ -33,20 +33,20 @@ use Rattle.mime_tree.specs.Bodies.{encoding_by, HasLen, HasOctets}
 use Rattle.mime_tree.specs.BodyLists.{start}
 use Rattle.mime_tree.specs.Heads.{is_text, us_ascii}
 use Rattle.mime_tree.specs.Parts.{children}
-use Rattle.mime_tree.specs.Roles.{leaf_number, is_plain_part}
+use Rattle.mime_tree.specs.Roles.{leaf_number, is_plain_part, is_html}
 use Rattle.mime_tree.specs.SameTrees.{AllSame}
 use Rattle.mime_tree.proofs.OneTree.{one_message}
 use Rattle.mime_tree.proofs.SameWalks.{same_lists}
 use Rattle.body_parts.specs.BodyProperties.{AddsBodyProperties, AreValuesData, IsBodyProperty, IsDataOf, IsPartListData, PutsBodyProperty, Reading}
 use Rattle.body_parts.specs.BodyValues.{has_value, IsValueData, is_listed, is_fetched, PutsValue, value_data}
-use Rattle.body_parts.specs.Cuts.{IsBounded, IsCut}
+use Rattle.body_parts.specs.Cuts.{IsBounded, IsCut, IsShortened, outside_tag}
 use Rattle.body_parts.specs.Languages.{IsLanguage, tags}
 use Rattle.body_parts.specs.Messages.{MessageData}
 use Rattle.body_parts.specs.PartObjects as objects
 use Rattle.body_parts.specs.PartObjects.{AreObjects, HasHeader, IsPropertyData, PutsProperty, with_sub_parts}
 use Rattle.body_parts.specs.Previews.{IsPreview, IsPreviewOf, preview_of}
 use Rattle.body_parts.specs.Steps.{InTurn}
-use Rattle.body_parts.specs.Texts.{charset_in, HasText, with_lf}
+use Rattle.body_parts.specs.Texts.{charset_in, HasText, with_lf, without_apostrophes}
 use Rattle.body_parts.proofs.KinLemmas.{Kin, Like, children_like, kin_of_like, leaves_like, like_lists}
 use Rattle.body_parts.proofs.LeafLemmas.{message_from, walk_inside}
 use Rattle.body_parts.proofs.StepLemmas.{one_turn}
@@ -91,7 +91,7 @@ kin_members m p q (x ∷ asked) a b k h = (h.0, (h.1.0, kin_property m p q x h.1
 
 kin_text : (b : List ℕ) (p q : Part) (t : List ℕ) (x : Bool) → Kin p q → HasText p b t x → HasText q b t x
 kin_text b p q t x k h =
-    let c = ap (λ (n : Option (List ℕ)). charset_of (unwrap_or n us_ascii)) k.charset in
+    let c = ap (λ (n : Option (List ℕ)). charset_of (without_apostrophes (unwrap_or n us_ascii))) k.charset in
     record {
       octets = h.octets;
       misspelled = h.misspelled;
@@ -106,7 +106,7 @@ kin_value most b p q x y k h = record {
   problem = h.problem;
   has_text = kin_text b p q h.text h.problem k h.has_text;
   value = h.value;
-  is_value = h.is_value;
+  is_value = subst (λ (t : List ℕ). IsValueData (is_same_text t (codes "text/html")) most h.text h.problem h.value) k.media h.is_value;
   is = h.is ∙ ap (λ (n : Option ℕ). put (decimal (unwrap_or n 0)) h.value x) k.number;
 }
 
@@ -239,16 +239,18 @@ one_cut n text f g x y =
     let other = y.longest f x.is_front in
     same_front f g x.is_front.rest y.is_front.rest (sym x.is_front.whole ∙ y.is_front.whole) (omega (arith, some, other))
 
-one_front : (n : ℕ) (text f g : List ℕ) (x y : Bool) → IsBounded n text f x → IsBounded n text g y → f ≡ g
-one_front n text f g x y h k = by (n == 0) h.front_is k.front_is
+one_front : (html : Bool) (n : ℕ) (text f g : List ℕ) (x y : Bool) → IsBounded html n text f x → IsBounded html n text g y → f ≡ g
+one_front html n text f g x y h k = by (n == 0) h.front_is k.front_is
   where
-    by : (t : Bool) → MatchBool t (f ≡ text) (IsCut n text f) → MatchBool t (g ≡ text) (IsCut n text g) → f ≡ g
+    by : (t : Bool) → MatchBool t (f ≡ text) (IsShortened html n text f) → MatchBool t (g ≡ text) (IsShortened html n text g) → f ≡ g
     by true a b = a ∙ sym b
-    by false a b = one_cut n text f g a b
+    by false a b =
+        let cut = one_cut n text a.cut b.cut a.is_cut b.is_cut in
+        a.front_is ∙ ap (λ (c : List ℕ). cond (html && nat_lt (length c) (length text)) (outside_tag c) c) cut ∙ sym b.front_is
 
-one_value : (n : ℕ) (text : List ℕ) (problem : Bool) (d e : Data) → IsValueData n text problem d → IsValueData n text problem e → d ≡ e
-one_value n text problem d e g h =
-    let front = one_front n text g.front h.front g.truncated h.truncated g.is_bounded h.is_bounded in
+one_value : (html : Bool) (n : ℕ) (text : List ℕ) (problem : Bool) (d e : Data) → IsValueData html n text problem d → IsValueData html n text problem e → d ≡ e
+one_value html n text problem d e g h =
+    let front = one_front html n text g.front h.front g.truncated h.truncated g.is_bounded h.is_bounded in
     let cut = g.is_bounded.truncated_is ∙ ap (λ (f : List ℕ). nat_lt (length f) (length text)) front ∙ sym h.is_bounded.truncated_is in
     let same : value_data g.front problem g.truncated ≡ value_data h.front problem h.truncated = λ i. value_data (front i) problem (cut i) in
     g.is ∙ same ∙ sym h.is
@@ -256,9 +258,9 @@ one_value n text problem d e g h =
 one_put : (most : ℕ) (b : List ℕ) (p : Part) (x y z : Members) → PutsValue most b p x y → PutsValue most b p x z → y ≡ z
 one_put most b p x y z g h =
     let same = one_text b p g.text h.text g.problem h.problem g.has_text h.has_text in
-    let P : List ℕ → Type 0 = λ t. IsValueData most t h.problem g.value in
-    let Q : Bool → Type 0 = λ t. IsValueData most g.text t g.value in
-    let value = one_value most h.text h.problem g.value h.value (subst P same.0 (subst Q same.1 g.is_value)) h.is_value in
+    let P : List ℕ → Type 0 = λ t. IsValueData (is_html p) most t h.problem g.value in
+    let Q : Bool → Type 0 = λ t. IsValueData (is_html p) most g.text t g.value in
+    let value = one_value (is_html p) most h.text h.problem g.value h.value (subst P same.0 (subst Q same.1 g.is_value)) h.is_value in
     g.is ∙ ap (λ (d : Data). put (decimal (leaf_number p)) d x) value ∙ sym h.is
 
 like_values : (most : ℕ) (b : List ℕ) (ps qs : List Part) (x y : Members) → AllSame Like ps qs → InTurn (PutsValue most b) ps x y → InTurn (PutsValue most b) qs x y

@@ -6,7 +6,7 @@ use Rattle.email_properties.specs.Wanted.{BodyAsked}
 use Rattle.mime_tree.specs.declared.lists.BodyLists.{BodyLists}
 use Rattle.mime_tree.specs.declared.part.Part.{Part}
 use Rattle.mime_tree.specs.Heads.{is_text}
-use Rattle.mime_tree.specs.Roles.{leaf_number, media}
+use Rattle.mime_tree.specs.Roles.{is_html, leaf_number, media}
 use Rattle.json_texts.specs.Texts.{text_data}
 use Rattle.body_parts.specs.Cuts.{IsBounded}
 use Rattle.body_parts.specs.Steps.{InTurn}
@@ -21,11 +21,11 @@ value_data text problem truncated =
     (member (codes "value") (text_data text)
     no_members)))
 
--- an EmailBodyValue of at most this many octets of a text
-pub record IsValueData (most : ℕ) (text : List ℕ) (problem : Bool) (d : Data) : Type 0 where
+-- an EmailBodyValue of at most this many octets of a text, which is HTML or not
+pub record IsValueData (html : Bool) (most : ℕ) (text : List ℕ) (problem : Bool) (d : Data) : Type 0 where
   pub front : List ℕ
   pub truncated : Bool
-  pub is_bounded : IsBounded most text front truncated
+  pub is_bounded : IsBounded html most text front truncated
   pub is : d ≡ value_data front problem truncated
 
 -- the value of a leaf of the octets b is put at its part id
@@ -34,7 +34,7 @@ pub record PutsValue (most : ℕ) (b : List ℕ) (p : Part) (before after : Memb
   pub problem : Bool
   pub has_text : HasText p b text problem
   pub value : Data
-  pub is_value : IsValueData most text problem value
+  pub is_value : IsValueData (is_html p) most text problem value
   pub is : after ≡ put (decimal (leaf_number p)) value before
 
 -- ---- the values that are asked

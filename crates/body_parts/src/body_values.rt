@@ -6,6 +6,7 @@ ghost use Rattle.serde_json.specs.View.{view, members_view};
 ghost use Rattle.email_properties.specs.Wanted.{body_asked};
 ghost use Rattle.mime_tree.specs.declared.part.Part.{Part};
 ghost use Rattle.mime_tree.specs.Parts.{IsWithin};
+ghost use Rattle.mime_tree.specs.Roles as roles;
 ghost use Rattle.body_parts.specs.BodyValues as spec;
 ghost use Rattle.body_parts.specs.BodyProperties.{AreValuesData};
 ghost use Rattle.body_parts.specs.reading.LeafLists.{parts_of, AreAllWithin};
@@ -22,19 +23,26 @@ use mime_tree::{BodyLists, Part};
 use serde_json::{Map, Value, json, put};
 use std::alloc::{AllocError, Global};
 use std::collections::BTreeSet;
+use text_words::same_text;
 
-/// An EmailBodyValue of at most that many octets of a text.
-fn value_of(alloc: Global, text: PartText, most: u64) -> Result<Value, AllocError>
-    ensures { IfOk result (λ v. spec.IsValueData most text.text.items text.problem (view v)) }
+/// An EmailBodyValue of at most that many octets of a text, which is HTML or not.
+fn value_of(alloc: Global, text: PartText, most: u64, html: bool) -> Result<Value, AllocError>
+    ensures { IfOk result (λ v. spec.IsValueData html most text.text.items text.problem (view v)) }
 {
     let PartText { text, problem } = text;
-    let (front, truncated) = bounded(text, most);
+    let (front, truncated) = bounded(text, most, html);
     let value = owned_text_value(alloc, front)?;
     json!(in alloc; {
         "isEncodingProblem": problem,
         "isTruncated": truncated,
         "value": value,
     })
+}
+
+fn is_html(part: &Part) -> bool
+    ensures { result ≡ roles.is_html part.now }
+{
+    same_text(part.media.as_slice(), b"text/html")
 }
 
 /// Puts the value of a text of these octets at its part id.
@@ -49,7 +57,7 @@ fn put_text(
     ensures { OnOk result (spec.PutsValue most octets.now part.now (members_view values.old.entries) (members_view values.new.entries)) }
 {
     let text = text_of(alloc, octets, part)?;
-    let value = value_of(alloc, text, most)?;
+    let value = value_of(alloc, text, most, is_html(part))?;
     let number = part.number.unwrap_or(0);
     let key = format!(in alloc; "{number}")?;
     put(values, alloc, key.as_str(), value)

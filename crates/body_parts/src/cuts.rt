@@ -1,6 +1,11 @@
-// Texts in UTF-8 that are cut between two characters.
-ghost use Rattle.std.specs.Prelude.{◌≡◌, ◌≤◌, length, take};
+// Texts in UTF-8 that are cut between two characters, and not within a tag of HTML.
+ghost use Rattle.std.specs.Prelude.{◌≡◌, ◌≤◌, ◌++◌, false, length, take, drop};
 ghost use Rattle.body_parts.specs.Cuts as cuts;
+
+use memchr::{memchr, memrchr};
+
+/// The most octets of a tag that is left out where a text was cut within it.
+pub const MAX_OPEN_TAG: usize = 1000;
 
 /// Whether the octet stands within a character in UTF-8, after its first one.
 pub(crate) fn is_inner(octet: u8) -> bool
@@ -25,15 +30,66 @@ fn whole_characters(text: &[u8], most: usize) -> usize
     at
 }
 
-/// At most that many octets of the text, in whole characters, where 0 is no bound; and whether octets were cut.
-pub(crate) fn bounded(text: Vec<u8>, most: u64) -> (Vec<u8>, bool)
-    ensures { cuts.IsBounded most text.items result.0.items result.1 }
+/// Where the text goes on behind its last `>`.
+fn after_last_close(text: &[u8]) -> usize
+    ensures within { result ≤ length text.now }
+    ensures place { cuts.before_open_tag text.now ≡ take result text.now ++ cuts.before_open_tag (drop result text.now) }
+    ensures none { cuts.has_close (drop result text.now) ≡ false }
+{
+    match memrchr(b'>', text) {
+        None => 0,
+        Some(at) => at + 1,
+    }
+}
+
+/// Where the first `<` stands behind which no `>` does, or the end of the text.
+fn open_tag(text: &[u8]) -> usize
+    ensures within { result ≤ length text.now }
+    ensures place { take result text.now ≡ cuts.before_open_tag text.now }
+{
+    let closed = after_last_close(text);
+    let (_, rest) = text.split_at(closed);
+    match memchr(b'<', rest) {
+        None => text.len(),
+        Some(at) => closed + at,
+    }
+}
+
+/// Where the text ends without the tag that it would end in, if that has at most `MAX_OPEN_TAG` octets of it.
+fn outside_tag(text: &[u8]) -> usize
+    ensures within { result ≤ length text.now }
+    ensures place { take result text.now ≡ cuts.outside_tag text.now }
+{
+    let at = open_tag(text);
+    if text.len() - at <= MAX_OPEN_TAG {
+        at
+    } else {
+        text.len()
+    }
+}
+
+/// Where the longest front of at most that many octets ends; where octets of HTML are cut, it doesn't end within a tag.
+fn shortened(text: &[u8], most: usize, html: bool) -> usize
+    ensures within { result ≤ length text.now }
+    ensures front { cuts.IsShortened html most text.now (take result text.now) }
+{
+    let whole = whole_characters(text, most);
+    if html && whole < text.len() {
+        return outside_tag(&text[..whole]);
+    }
+    whole
+}
+
+/// At most that many octets of the text, in whole characters and, of HTML, not to within a tag, where 0 is no bound; and whether octets
+/// were cut.
+pub(crate) fn bounded(text: Vec<u8>, most: u64, html: bool) -> (Vec<u8>, bool)
+    ensures { cuts.IsBounded html most text.items result.0.items result.1 }
 {
     if most == 0 {
         return (text, false);
     }
     let whole = text.len();
-    let kept = whole_characters(text.as_slice(), most as usize);
+    let kept = shortened(text.as_slice(), most as usize, html);
     let mut front = text;
     front.truncate(kept);
     (front, kept < whole)

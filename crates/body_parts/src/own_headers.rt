@@ -1,12 +1,12 @@
 // Headers of parts, which are read where a property asks them.
-ghost use Rattle.std.specs.Prelude.{◌≡◌, true, IfOk, slice_range};
-ghost use Rattle.mail_header.specs.Fields.{names_and_raws};
+ghost use Rattle.std.specs.Prelude.{◌≡◌, ◌≤◌, ◌↔◌, true, IfOk, IsTrue, count_by, slice_range};
 ghost use Rattle.mime_tree.specs.declared.part.Part.{out-Part};
 ghost use Rattle.mime_tree.specs.Parts.{IsWithin};
 ghost use Rattle.body_parts.specs.reading.OwnHeaders as headers;
 
 use email_properties::PartProperty;
-use mail_header::{Fields, fields};
+use field_values::{INDEXED_FROM, NamedFields};
+use mail_header::fields;
 use mime_tree::Part;
 use std::alloc::{AllocError, Global};
 
@@ -41,15 +41,31 @@ fn header_on<'a>(octets: &'a [u8], part: &Part, asked: &[PartProperty<'_>]) -> &
     }
 }
 
+/// Whether the property is a field by its name.
+fn is_named(property: &PartProperty<'_>) -> bool
+    ensures { result ≡ headers.is_named property.now }
+{
+    matches!(property, PartProperty::Header(_))
+}
+
+/// Whether so many of these are fields by their names that an index of the fields is made.
+fn needs_index(asked: &[PartProperty<'_>]) -> bool
+    ensures { IsTrue result ↔ (INDEXED_FROM ≤ count_by headers.is_named asked.now) }
+{
+    let named = asked.iter().filter(|property| is_named(*property));
+    named.count() >= INDEXED_FROM
+}
+
 /// The fields of a part's own header, where one of these properties needs them.
 pub(crate) fn own_fields<'a>(
     alloc: Global,
     octets: &'a [u8],
     part: &Part,
     asked: &[PartProperty<'_>],
-) -> Result<Fields<'a>, AllocError>
+) -> Result<NamedFields<'a>, AllocError>
     requires { IsWithin part.now octets.now }
-    ensures { IfOk result (λ f. headers.HasHeaderIf (headers.needs_header asked.now) octets.now part.now (names_and_raws f)) }
+    ensures { IfOk result (λ f. headers.HasHeaderIf (headers.needs_header asked.now) octets.now part.now f) }
 {
-    fields(alloc, header_on(octets, part, asked))
+    let fields = fields(alloc, header_on(octets, part, asked))?;
+    NamedFields::new(alloc, fields, needs_index(asked))
 }

@@ -2,7 +2,6 @@
 ghost use Rattle.std.specs.Prelude.{◌≡◌, ◌∷◌, [], IfOk, OnOk, map};
 ghost use Rattle.serde_json.specs.Data.{no_members, object};
 ghost use Rattle.serde_json.specs.View.{view, members_view};
-ghost use Rattle.mail_header.specs.Fields.{names_and_raws};
 ghost use Rattle.mime_tree.specs.Parts.{IsWithin};
 ghost use Rattle.body_parts.specs.Messages.{message_data};
 ghost use Rattle.body_parts.specs.PartObjects as objects;
@@ -15,7 +14,7 @@ use crate::message::Message;
 use crate::own_headers::own_fields;
 use crate::part_values::property_value;
 use email_properties::{PartProperty, part_key};
-use mail_header::Fields;
+use field_values::NamedFields;
 use mime_tree::Part;
 use serde_json::{Map, Value, put};
 use std::alloc::{AllocError, Global};
@@ -26,11 +25,11 @@ fn put_property(
     alloc: Global,
     message: &Message<'_>,
     part: &Part,
-    fields: &Fields<'_>,
+    fields: &NamedFields<'_>,
     property: &PartProperty<'_>,
 ) -> Result<(), AllocError>
     requires within { IsWithin part.now message.now.octets.now }
-    requires header { HasHeaderIf (is_of_header property.now) message.now.octets.now part.now (names_and_raws fields.now) }
+    requires header { HasHeaderIf (is_of_header property.now) message.now.octets.now part.now fields.now }
     ensures { OnOk result (objects.PutsProperty (message_data message.now) part.now property.now (members_view members.old.entries) (members_view members.new.entries)) }
 {
     let value = property_value(alloc, message, part, fields, property)?;

@@ -2,7 +2,6 @@
 ghost use Rattle.std.specs.Prelude.{◌≡◌, ◌++◌, IfOk};
 ghost use Rattle.std.specs.Option.{option_copied};
 ghost use Rattle.serde_json.specs.View.{view};
-ghost use Rattle.mail_header.specs.Fields.{names_and_raws};
 ghost use Rattle.mime_tree.specs.Parts.{IsWithin};
 ghost use Rattle.json_texts.specs.Texts.{text_data};
 ghost use Rattle.message_blobs.specs.BlobIds.{leaf_text};
@@ -13,9 +12,8 @@ ghost use Rattle.body_parts.specs.reading.OwnHeaders.{HasHeaderIf, is_of_header}
 use crate::languages::language_value;
 use crate::message::Message;
 use email_properties::PartProperty;
-use field_values::{header_property, headers_value};
+use field_values::{NamedFields, header_property, headers_value};
 use json_texts::{optional_text_value, owned_text_value, text_value};
-use mail_header::Fields;
 use message_blobs::LEAF_MARK;
 use mime_tree::{Part, part_len};
 use serde_json::Value;
@@ -71,11 +69,11 @@ pub(crate) fn property_value(
     alloc: Global,
     message: &Message<'_>,
     part: &Part,
-    fields: &Fields<'_>,
+    fields: &NamedFields<'_>,
     property: &PartProperty<'_>,
 ) -> Result<Value, AllocError>
     requires within { IsWithin part.now message.now.octets.now }
-    requires header { HasHeaderIf (is_of_header property.now) message.now.octets.now part.now (names_and_raws fields.now) }
+    requires header { HasHeaderIf (is_of_header property.now) message.now.octets.now part.now fields.now }
     ensures { IfOk result (λ v. objects.IsPropertyData (message_data message.now) part.now property.now (view v)) }
 {
     match property {
@@ -90,7 +88,7 @@ pub(crate) fn property_value(
         PartProperty::Language => language_value(alloc, &part.language),
         PartProperty::Location => optional_text_value(alloc, &part.location),
         PartProperty::SubParts => Ok(Value::Null),
-        PartProperty::Headers => headers_value(alloc, fields),
+        PartProperty::Headers => headers_value(alloc, fields.fields()),
         PartProperty::Header(asked) => header_property(alloc, fields, asked),
     }
 }

@@ -57,13 +57,32 @@ fn charset_of(part: &Part) -> &[u8]
     }
 }
 
+/// Whether an apostrophe stands at each end of a name.
+fn is_in_apostrophes(name: &[u8]) -> bool
+    ensures { result ≡ texts.is_in_apostrophes name.now }
+{
+    name.len() >= 2 && name[0] == b'\'' && name[name.len() - 1] == b'\''
+}
+
+/// The name without one pair of apostrophes round it.
+fn without_apostrophes(name: &[u8]) -> &[u8]
+    ensures { result.now ≡ texts.without_apostrophes name.now }
+{
+    if is_in_apostrophes(name) {
+        &name[1..name.len() - 1]
+    } else {
+        name
+    }
+}
+
 /// The text of a part of these octets, with the ends of its lines as they stand.
 fn decoded(alloc: Global, bytes: &[u8], part: &Part) -> Result<PartText, AllocError>
     requires { IsWithin part.now bytes.now }
     ensures { IfOk result (λ t. HasDecoded part.now bytes.now t.text.items t.problem) }
 {
     let (octets, misspelled) = part_bytes(alloc, bytes, part)?;
-    let (text, undecoded) = decode_charset(alloc, charset_of(part), octets.as_slice())?;
+    let charset = without_apostrophes(charset_of(part));
+    let (text, undecoded) = decode_charset(alloc, charset, octets.as_slice())?;
     Ok(PartText {
         text,
         problem: misspelled || undecoded,

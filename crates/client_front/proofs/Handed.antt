@@ -1,18 +1,19 @@
 -- How a client is handed on, and what a look comes to.
-use Rattle.std.proofs.Common.{◌≡◌, ℕ, List, ◌∷◌, true, refl, sym, ap, subst}
+use Rattle.std.proofs.Common.{◌≡◌, ◌++◌, ℕ, List, [], ◌∷◌, true, inl, inr, refl, sym, ap, subst}
 use Rattle.client_front.specs.Accepting.{FirstLeaves, HandsOn, State, World, state}
-use Rattle.client_front.specs.Deadlines.{begun, untaken}
+use Rattle.client_front.specs.Deadlines.{begun}
 use Rattle.client_front.specs.Scanning.{IsComing, unscanned}
 use Rattle.client_front.specs.Waiting.{Held, asks, held}
-use Rattle.client_front.specs.reading.Lingering.{undue}
+use Rattle.client_streams.specs.Lingering.{GoOn, Lingers, with_room}
+use Rattle.client_streams.specs.Patience.{untaken}
 use Rattle.client_front.specs.declared.acceptor.Acceptor.{Acceptor}
-use Rattle.client_front.specs.declared.lingering.Finished.{Finished}
-use Rattle.client_front.specs.declared.lingering.Lingering.{Lingering}
+use Rattle.client_streams.specs.declared.finished.Finished.{Finished}
+use Rattle.client_streams.specs.declared.lingering.Lingering.{Lingering}
 use Rattle.client_front.specs.declared.scan.Coming.{Coming}
 use Rattle.client_front.specs.declared.scan.Coming.TheVariants.{Nothing, Part, Whole, Never}
 use Rattle.client_front.specs.declared.scan.Scan.{Scan}
 use Rattle.client_front.specs.declared.serving.Serving.{Serving}
-use Rattle.std.specs.Prelude.{Some}
+use Rattle.std.specs.Prelude.{Option, Some, Result, Ok, Err, OnOk, OnErr}
 use Rattle.client_front.specs.declared.waiting.Idle.{Idle}
 use Rattle.client_front.specs.declared.waiting.Waiting.{Waiting}
 
@@ -23,18 +24,29 @@ whole-asks (Part scan) so = cc
 whole-asks Whole so = refl
 whole-asks Never so = cc
 
+-- a client is the last of those that stay open, or there was no memory
+pub one-lingers : {S A E : Type 0} (client : Finished S) (old new : List (Finished S)) (result : Result A E)
+    → OnOk result (new ≡ with_room old ++ client ∷ []) → OnErr result (new ≡ old) → Lingers client old new
+one-lingers client old new (Ok value) ok err = inl ok
+one-lingers client old new (Err error) ok err = inr err
+
 module _ {L C S : Type 0} where
-  -- those who wait, when the late have left and those whose time is over are closed
-  pub look-ends : (came asked : Acceptor L C S) (after : Waiting S) (open_yet : Lingering S) (now : ℕ) → asked ≡ record came { waiting = asked.waiting }
-      → open_yet.clients.items ≡ undue now asked.lingering.clients.items
+  -- those who wait, when the late have left and those whose response is whole have gone on
+  pub look-ends : (came asked : Acceptor L C S) (after : Waiting S) (open_yet : Lingering S) → asked ≡ record came { waiting = asked.waiting }
       → state (record asked { waiting = after; lingering = open_yet })
-      ≡ record { listener = came.listener; clock = came.clock; key = came.next_key; held = held after; lingering = undue now came.lingering.clients.items }
-  look-ends came asked after open_yet now same left =
+      ≡ record { listener = came.listener; clock = came.clock; key = came.next_key; held = held after; lingering = open_yet.clients.items }
+  look-ends came asked after open_yet same =
       let P : Acceptor L C S → Type 0 = λ a. state (record asked { waiting = after; lingering = open_yet })
-      ≡ record { listener = a.listener; clock = a.clock; key = a.next_key; held = held after; lingering = undue now a.lingering.clients.items } in
-      let here : P asked =
-      ap (λ (l : List (Finished S)). record { listener = asked.listener; clock = asked.clock; key = asked.next_key; held = held after; lingering = l }) left in
+      ≡ record { listener = a.listener; clock = a.clock; key = a.next_key; held = held after; lingering = open_yet.clients.items } in
+      let here : P asked = refl in
       subst P same here
+
+  -- those whose response is whole are those that were open when clients came
+  pub look-went-on : (gives : S → ℕ → Option (List ℕ) → S → Type 0) (came asked : Acceptor L C S) (now : ℕ) (open_yet : List (Finished S))
+      → asked ≡ record came { waiting = asked.waiting } → GoOn gives now asked.lingering.clients.items open_yet
+      → GoOn gives now came.lingering.clients.items open_yet
+  look-went-on gives came asked now open_yet same went_on =
+      subst (λ (a : Acceptor L C S). GoOn gives now a.lingering.clients.items open_yet) same went_on
 
   module _ (world : World L C S) where
     -- the client that asked first is taken out
@@ -51,7 +63,8 @@ module _ {L C S : Type 0} where
     -- it is handed on
     pub hands-on : (old left new : State L C S) (stream : S) (serving : Serving S) (now : ℕ)
         → serving ≡ record { stream = stream; progress = begun now; taking = untaken } → FirstLeaves world stream Whole old left
-        → world.reads left.clock (Some now) new.clock → new ≡ record left { clock = new.clock } → HandsOn world old new serving
-    hands-on old left new stream serving now is first looked after =
+        → world.reads left.clock (Some now) new.clock → GoOn world.gives now left.lingering new.lingering
+        → new ≡ record left { clock = new.clock; lingering = new.lingering } → HandsOn world old new serving
+    hands-on old left new stream serving now is first looked went_on after =
         subst (λ (s : Serving S). HandsOn world old new s) (sym is)
-        (record { left = left; first = first; now = now; is_now = looked; after = after; begins = refl; unsent = refl })
+        (record { left = left; first = first; now = now; is_now = looked; went_on = went_on; after = after; begins = refl; unsent = refl })

@@ -31,6 +31,13 @@ module _ {S : Type 0} where
       let taken : length (take at idle) ≡ at = length-take-le at idle (omega arith) in
       λ k e below. let under : k < at = omega (arith, taken) in rw (get_or-take at idle k e under) (earlier k e under)
 
+  -- none before the index is late
+  pub none-late : (now : ℕ) (idle : List (Idle S)) (at : ℕ) → at < length idle
+      → ((k : ℕ) (e : Idle S) → k < at → is_late now (slice_index_or idle k e) ≡ false) → All (λ other. is_late now other ≡ false) (take at idle)
+  none-late now idle at within earlier =
+      let taken : length (take at idle) ≡ at = length-take-le at idle (omega arith) in
+      λ k e below. let under : k < at = omega (arith, taken) in rw (get_or-take at idle k e under) (earlier k e under)
+
   -- the client at an index, those before it and those after it
   abbrev pub place-at : (idle : List (Idle S)) (at : ℕ) (d : Idle S) → at < length idle → Place idle
   place-at idle at d within = record {
@@ -58,16 +65,18 @@ module _ {S : Type 0} where
       ∙ ap (λ (n : ℕ). take at idle ++ now ∷ drop n idle) (add-one at)
 
   module _ (shows : S → ℕ → Option (List ℕ) → Type 0) where
-    -- the client at an index, which is late, was looked at
+    -- the client at an index, the first that is late, was looked at
     pub was-late : (now : ℕ) (idle : List (Idle S)) (asking : List S) (new : Held S) (at : ℕ) (it : Coming) → at < length idle
         → ((d : Idle S) → is_late now (slice_index_or idle at d) ≡ true)
+        → ((k : ℕ) (e : Idle S) → k < at → is_late now (slice_index_or idle k e) ≡ false)
         → ((d : Idle S) → IsComing shows (slice_index_or idle at d).scan (slice_index_or idle at d).stream it)
         → ((d : Idle S) (within : at < length idle) → LateBecomes now (record { idle = idle; asking = asking }) (place-at idle at d within) it new)
         → LooksAtLate shows now (record { idle = idle; asking = asking }) new
-    was-late now [] asking new at it within late shown becomes = absurd (omega (arith, within))
-    was-late now (first ∷ rest) asking new at it within late shown becomes = record {
+    was-late now [] asking new at it within late earlier shown becomes = absurd (omega (arith, within))
+    was-late now (first ∷ rest) asking new at it within late earlier shown becomes = record {
       place = place-at (first ∷ rest) at first within;
       late = late first;
+      earlier = none-late now (first ∷ rest) at within earlier;
       it = it;
       shown = shown first;
       becomes = becomes first within;

@@ -1,12 +1,13 @@
 -- How clients come, and which one is handed on.
 use Rattle.std.specs.Prelude.{◌≡◌, ◌<◌, ◌+◌, ◌-◌, ◌^◌, ◌%◌, ◌++◌, ◌⊎◌, ℕ, Bool, true, false, List, [], ◌∷◌, Option, None, Some}
-use Rattle.client_front.specs.Deadlines.{begun, untaken}
+use Rattle.client_front.specs.Deadlines.{begun}
 use Rattle.client_front.specs.Scanning.{IsComing, unscanned}
 use Rattle.client_front.specs.Waiting.{Admits, Expires, FindsRoom, Held, IsAsked, MakesRoom, asks, held, newcomer}
-use Rattle.client_front.specs.reading.Lingering.{undue}
+use Rattle.client_streams.specs.Lingering.{GoOn}
+use Rattle.client_streams.specs.Patience.{untaken}
 use Rattle.client_front.specs.declared.acceptor.TheConstants.{LOOK_AGAIN_MILLISECONDS, SPARED_CLIENTS}
 use Rattle.client_front.specs.declared.acceptor.Acceptor.{Acceptor}
-use Rattle.client_front.specs.declared.lingering.Finished.{Finished}
+use Rattle.client_streams.specs.declared.finished.Finished.{Finished}
 use Rattle.client_front.specs.declared.scan.Coming.{Coming}
 use Rattle.client_front.specs.declared.scan.Coming.TheVariants.{Whole}
 use Rattle.client_front.specs.declared.serving.Serving.{Serving}
@@ -31,16 +32,17 @@ state acceptor = record {
   lingering = acceptor.lingering.clients.items;
 }
 
--- What a stream shows, what a clock reads, what waiting at a listener gives, and who comes to it.
+-- What a stream shows, what it gives at once, what a clock reads, what waiting at a listener gives, and who comes to it.
 pub record World (L C S : Type 0) : Type 1 where
   pub shows : S → ℕ → Option (List ℕ) → Type 0
+  pub gives : S → ℕ → Option (List ℕ) → S → Type 0
   pub reads : C → Option ℕ → C → Type 0
   pub waits : L → ℕ → Option (List ℕ) → L → Type 0
   pub comes : L → ℕ → Next S → L → Type 0
 
-abbrev pub world : {L C S : Type 0} → (S → ℕ → Option (List ℕ) → Type 0) → (C → Option ℕ → C → Type 0) → (L → ℕ → Option (List ℕ) → L → Type 0)
-    → (L → ℕ → Next S → L → Type 0) → World L C S
-world shows reads waits comes = record { shows = shows; reads = reads; waits = waits; comes = comes }
+abbrev pub world : {L C S : Type 0} → (S → ℕ → Option (List ℕ) → Type 0) → (S → ℕ → Option (List ℕ) → S → Type 0) → (C → Option ℕ → C → Type 0)
+    → (L → ℕ → Option (List ℕ) → L → Type 0) → (L → ℕ → Next S → L → Type 0) → World L C S
+world shows gives reads waits comes = record { shows = shows; gives = gives; reads = reads; waits = waits; comes = comes }
 
 abbrev pub next_key : ℕ → ℕ
 next_key key = (key + 1) % (2 ^ 64)
@@ -96,7 +98,7 @@ pub data Asked {S : Type 0} (shows : S → ℕ → Option (List ℕ) → Type 0)
       → Asked shows now old (keys ++ key ∷ []) new
 
 -- A wait of `LOOK_AGAIN_MILLISECONDS` at most, and a look of the clock after it: those that have come are held, those that have sent
--- something are looked at, those that are late are looked at, and those whose time after their response is over are closed.
+-- something are looked at, those that are late are looked at, and those whose response is whole go on.
 pub record Looks {L C S : Type 0} (world : World L C S) (old new : State L C S) : Type 0 where
   pub keys : List ℕ
   pub listener : L
@@ -109,7 +111,8 @@ pub record Looks {L C S : Type 0} (world : World L C S) (old new : State L C S) 
   pub after : Held S
   pub asked : Asked world.shows now came.held keys after
   pub expired : Expires world.shows now after new.held
-  pub closed : new ≡ record came { held = new.held; lingering = undue now came.lingering }
+  pub went_on : GoOn world.gives now came.lingering new.lingering
+  pub after_all : new ≡ record came { held = new.held; lingering = new.lingering }
 
 -- the wait failed, or the look of the clock after it
 abbrev pub LookFails : {L C S : Type 0} → World L C S → State L C S → State L C S → Type 0
@@ -128,13 +131,15 @@ FirstLeaves {L} {C} {S} world stream it old new =
 abbrev pub PassesBy : {L C S : Type 0} → World L C S → State L C S → State L C S → Type 0
 PassesBy {L} {C} {S} world old new = (stream : S) × (it : Coming) × FirstLeaves world stream it old new × (asks it ≡ false)
 
--- the client that asked first is handed on, whose head is whole, and its request begins at a look of the clock
+-- The client that asked first is handed on, whose head is whole, and its request begins at a look of the clock, at which those whose response
+-- is whole go on.
 pub record HandsOn {L C S : Type 0} (world : World L C S) (old new : State L C S) (serving : Serving S) : Type 0 where
   pub left : State L C S
   pub first : FirstLeaves world serving.stream Whole old left
   pub now : ℕ
   pub is_now : world.reads left.clock (Some now) new.clock
-  pub after : new ≡ record left { clock = new.clock }
+  pub went_on : GoOn world.gives now left.lingering new.lingering
+  pub after : new ≡ record left { clock = new.clock; lingering = new.lingering }
   pub begins : serving.progress ≡ begun now
   pub unsent : serving.taking ≡ untaken
 

@@ -1,7 +1,8 @@
 -- The client that is served: octets that come from it, and that it takes, in time.
 use Rattle.std.specs.Prelude.{◌≡◌, ◌+◌, ◌<◌, ◌≤◌, ◌⊎◌, ℕ, List, length, Option, None, Some}
-use Rattle.client_front.specs.Deadlines.{due, patience, send_limit, taken_more}
+use Rattle.client_front.specs.Deadlines.{due}
 use Rattle.client_front.specs.HeadEnd.{noted}
+use Rattle.client_streams.specs.Patience.{patience, send_limit, taken_more}
 use Rattle.client_front.specs.declared.serving.Serving.{Serving}
 
 -- The request was not late at a look of the clock; its next octets were waited for from then on, no longer than until they were due;

@@ -6,4 +6,3 @@ pub mod Handing
 pub mod HeadEnd
 pub mod Scanning
 pub mod Waiting
-pub mod reading

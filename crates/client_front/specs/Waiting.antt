@@ -1,6 +1,6 @@
 -- Clients that came and are not handed on yet.
 use Rattle.std.specs.Prelude.{◌≡◌, ◌≢◌, ◌<◌, ◌+◌, ◌++◌, ◌⊎◌, ℕ, Bool, true, false, List, [], ◌∷◌, Option, All, length, nat_le, ◌==◌, if◌then◌else◌}
-use Rattle.client_front.specs.Deadlines.{capped}
+use Rattle.client_streams.specs.Patience.{capped}
 use Rattle.client_front.specs.Scanning.{IsComing, unscanned}
 use Rattle.client_front.specs.declared.progress.TheConstants.{HEAD_MILLISECONDS}
 use Rattle.client_front.specs.declared.scan.Scan.{Scan}
@@ -74,10 +74,11 @@ LateBecomes now old place (Part scan) new =
 LateBecomes now old place Whole new = Leaves true old place new
 LateBecomes now old place Never new = Leaves false old place new
 
--- a client that is late is looked at, and this becomes of it
+-- the first client that is late is looked at, and this becomes of it
 pub record LooksAtLate {S : Type 0} (shows : S → ℕ → Option (List ℕ) → Type 0) (now : ℕ) (old new : Held S) : Type 0 where
   pub place : Place old.idle
   pub late : is_late now place.client ≡ true
+  pub earlier : All (λ other. is_late now other ≡ false) place.before
   pub it : Coming
   pub shown : Shows shows place it
   pub becomes : LateBecomes now old place it new
@@ -86,7 +87,7 @@ pub data LooksAtLateOnes {S : Type 0} (shows : S → ℕ → Option (List ℕ) �
   NoneLate : LooksAtLateOnes shows now old old
   OneLate : {mid new : Held S} → LooksAtLateOnes shows now old mid → LooksAtLate shows now mid new → LooksAtLateOnes shows now old new
 
--- those that are late are looked at, one after another, until none is late
+-- those that are late are looked at, one after another in order of their coming, until none is late
 abbrev pub Expires : {S : Type 0} → (S → ℕ → Option (List ℕ) → Type 0) → ℕ → Held S → Held S → Type 0
 Expires shows now old new = LooksAtLateOnes shows now old new × All (λ client. is_late now client ≡ false) new.idle
 

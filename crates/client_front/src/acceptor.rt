@@ -1,16 +1,16 @@
 // How clients come, and which one is handed on.
 ghost use Rattle.std.specs.Prelude.{◌≡◌, ◌≤◌, length, take, true, false, Some, None, [], IfNone, IfSome, OnSome};
 ghost use Rattle.client_front.specs.Accepting.{AllCome, Asked, HandsOn, HandsOnFirst, HandsOnNobody, IsHeld, LookFails, Looks, Spares, TurnFails, TurnsOnce, state, world};
-ghost use Rattle.client_front.specs.Finishing.{FinishesOne};
+ghost use Rattle.client_front.specs.Finishing.{Ends, FinishesOne};
 ghost use Rattle.client_front.specs.Waiting.{held};
 
 use crate::clock::Ticks;
 use crate::holding::is_whole;
-use crate::lingering::Lingering;
 use crate::scan::Scan;
 use crate::serving::Serving;
-use crate::sockets::{ClientListener, Next};
+use crate::sockets::{ClientListener, Next, WAIT_KEYS};
 use crate::waiting::{IDLE_MILLISECONDS, Idle, MAX_HELD_CLIENTS, Waiting};
+use client_streams::Lingering;
 use std::alloc::Global;
 
 /// How many milliseconds a wait for clients takes at most: then those that are late are closed.
@@ -19,9 +19,6 @@ const LOOK_AGAIN_MILLISECONDS: u64 = 1_000;
 /// How many clients whose head isn't whole are closed where one can't be accepted: so many descriptors are free then, for the next
 /// clients and for what the process opens to serve them.
 const SPARED_CLIENTS: usize = 16;
-
-/// How many keys one wait gives at most; further ones come with the next.
-const WAIT_KEYS: usize = 64;
 
 /// A listener, a clock, and the clients that came and aren't served.
 #[derive(Drop)]
@@ -50,7 +47,7 @@ impl<L: ClientListener + Drop, C: Ticks + Drop> Acceptor<L, C, L::Stream> {
 
     /// Closes some of the clients whose head isn't whole, the oldest first.
     fn spare(&mut self)
-        ensures { Spares (world L.Stream.shows C.reads L.waits L.comes) (state self.old) (state self.new) }
+        ensures { Spares (world L.Stream.shows L.Stream.gives C.reads L.waits L.comes) (state self.old) (state self.new) }
     {
         'spared: for spared in 0..SPARED_CLIENTS {
             if !self.waiting.make_room() {
@@ -61,7 +58,7 @@ impl<L: ClientListener + Drop, C: Ticks + Drop> Acceptor<L, C, L::Stream> {
 
     /// Holds a client that is watched under the next key, where there is room and memory for it.
     fn hold(&mut self, stream: L::Stream, now: u64)
-        ensures { IsHeld (world L.Stream.shows C.reads L.waits L.comes) now stream (state self.old) (state self.new) }
+        ensures { IsHeld (world L.Stream.shows L.Stream.gives C.reads L.waits L.comes) now stream (state self.old) (state self.new) }
     {
         let client = Idle {
             key: self.next_key,
@@ -76,7 +73,7 @@ impl<L: ClientListener + Drop, C: Ticks + Drop> Acceptor<L, C, L::Stream> {
     /// Holds the clients that have come. Where one can't be accepted, others are closed, and the next wait comes before those that
     /// are left.
     fn admit_all(&mut self, now: u64)
-        ensures { AllCome (world L.Stream.shows C.reads L.waits L.comes) now (state self.old) (state self.new) }
+        ensures { AllCome (world L.Stream.shows L.Stream.gives C.reads L.waits L.comes) now (state self.old) (state self.new) }
     {
         'clients: for came in 0..MAX_HELD_CLIENTS {
             match self.listener.next_client(self.next_key) {
@@ -100,10 +97,11 @@ impl<L: ClientListener + Drop, C: Ticks + Drop> Acceptor<L, C, L::Stream> {
         }
     }
 
-    /// Waits for clients, holds those that have come, looks at those that have sent something, and closes those that are late.
+    /// Waits for clients, holds those that have come, looks at those that have sent something, and closes those that are late; those
+    /// whose response is whole go on.
     fn look(&mut self) -> Option<()>
-        ensures looks { OnSome result (Looks (world L.Stream.shows C.reads L.waits L.comes) (state self.old) (state self.new)) }
-        ensures fails { IfNone result (LookFails (world L.Stream.shows C.reads L.waits L.comes) (state self.old) (state self.new)) }
+        ensures looks { OnSome result (Looks (world L.Stream.shows L.Stream.gives C.reads L.waits L.comes) (state self.old) (state self.new)) }
+        ensures fails { IfNone result (LookFails (world L.Stream.shows L.Stream.gives C.reads L.waits L.comes) (state self.old) (state self.new)) }
     {
         let mut room = [0u64; WAIT_KEYS];
         let count = self.listener.wait(LOOK_AGAIN_MILLISECONDS, &mut room)?;
@@ -112,16 +110,16 @@ impl<L: ClientListener + Drop, C: Ticks + Drop> Acceptor<L, C, L::Stream> {
         self.admit_all(now);
         self.ask_all(keys, now);
         self.waiting.expire(now);
-        self.lingering.close_due(now);
+        self.lingering.go_on(now);
         Some(())
     }
 
     /// Hands on the client whose head was whole first, or closes it where its head isn't whole any more; where there is none it
-    /// looks at those who wait. None where the listener or the clock fails.
+    /// looks at those who wait. Those whose response is whole go on at either. None where the listener or the clock fails.
     fn turn(&mut self) -> Option<Option<Serving<L::Stream>>>
-        ensures turned { IfSome result (λ turn. IfNone turn (TurnsOnce (world L.Stream.shows C.reads L.waits L.comes) (state self.old) (state self.new))) }
-        ensures handed { IfSome result (λ turn. IfSome turn (HandsOn (world L.Stream.shows C.reads L.waits L.comes) (state self.old) (state self.new))) }
-        ensures fails { IfNone result (TurnFails (world L.Stream.shows C.reads L.waits L.comes) (state self.old) (state self.new)) }
+        ensures turned { IfSome result (λ turn. IfNone turn (TurnsOnce (world L.Stream.shows L.Stream.gives C.reads L.waits L.comes) (state self.old) (state self.new))) }
+        ensures handed { IfSome result (λ turn. IfSome turn (HandsOn (world L.Stream.shows L.Stream.gives C.reads L.waits L.comes) (state self.old) (state self.new))) }
+        ensures fails { IfNone result (TurnFails (world L.Stream.shows L.Stream.gives C.reads L.waits L.comes) (state self.old) (state self.new)) }
     {
         let Some(stream) = self.waiting.next_asking() else {
             self.look()?;
@@ -133,13 +131,14 @@ impl<L: ClientListener + Drop, C: Ticks + Drop> Acceptor<L, C, L::Stream> {
             return Some(None);
         }
         let now = self.clock.milliseconds()?;
+        self.lingering.go_on(now);
         let serving = Serving::new(stream, now);
         Some(Some(serving))
     }
 
-    /// Ends the response to a client. One that still sends stays open for a short time.
+    /// Ends the response to a client. One that has not ended what it sends stays open for a short time. It does not wait.
     pub(crate) fn leave(&mut self, serving: Serving<L::Stream>)
-        ensures { FinishesOne L.Stream.receives C.reads (state self.old) (state self.new) }
+        ensures { FinishesOne L.Stream.ends L.Stream.gives C.reads serving (state self.old) (state self.new) }
     {
         if let Some(client) = serving.finish(&mut self.clock) {
             let _ = self.lingering.add(client);
@@ -148,8 +147,8 @@ impl<L: ClientListener + Drop, C: Ticks + Drop> Acceptor<L, C, L::Stream> {
 
     /// Waits for the next client whose head is whole: the first whose head was. None where the listener or the clock failed.
     pub(crate) fn next(&mut self) -> Option<Serving<L::Stream>>
-        ensures handed { IfSome result (HandsOnFirst (world L.Stream.shows C.reads L.waits L.comes) (state self.old) (state self.new)) }
-        ensures nobody { IfNone result (HandsOnNobody (world L.Stream.shows C.reads L.waits L.comes) (state self.old) (state self.new)) }
+        ensures handed { IfSome result (HandsOnFirst (world L.Stream.shows L.Stream.gives C.reads L.waits L.comes) (state self.old) (state self.new)) }
+        ensures nobody { IfNone result (HandsOnNobody (world L.Stream.shows L.Stream.gives C.reads L.waits L.comes) (state self.old) (state self.new)) }
     {
         'turns: for turn in 0..u64::MAX {
             let turned = self.turn()?;
@@ -159,5 +158,19 @@ impl<L: ClientListener + Drop, C: Ticks + Drop> Acceptor<L, C, L::Stream> {
             }
         }
         None
+    }
+
+    /// Looks at the clients until none is open whose response is whole, or the listener or the clock fails.
+    pub(crate) fn end(&mut self)
+        ensures { Ends (world L.Stream.shows L.Stream.gives C.reads L.waits L.comes) (state self.old) (state self.new) }
+    {
+        'looks: for looked in 0..u64::MAX {
+            if self.lingering.is_empty() {
+                return;
+            }
+            let Some(()) = self.look() else {
+                return;
+            };
+        }
     }
 }

@@ -1,7 +1,7 @@
 // The front: one client is served at a time, the others wait.
 ghost use Rattle.std.specs.Prelude.{◌≡◌, ◌<◌, ◌≤◌, [], length, take, IsNone, IfNone, IfSome, OnSome};
 ghost use Rattle.client_front.specs.Accepting.{HandsOnFirst, HandsOnNobody, state, world};
-ghost use Rattle.client_front.specs.Finishing.{Finishes};
+ghost use Rattle.client_front.specs.Finishing.{Ends, Finishes};
 ghost use Rattle.client_front.specs.Handing.{BothSo, IfServed, NoneOrBothSo, ReceivesInTime, ReceivesNothing, SendsInTime, SendsNothing};
 
 use crate::acceptor::Acceptor;
@@ -32,8 +32,8 @@ impl<L: ClientListener + Drop, C: Ticks + Drop> ClientFront<L, C> {
     /// Waits for the next client whose head is whole, and hands it on: the first whose head was. What was served before is
     /// closed. None where the listener or the clock failed.
     pub fn accept(&mut self) -> Option<()>
-        ensures handed { OnSome result (IfServed (HandsOnFirst (world L.Stream.shows C.reads L.waits L.comes) (state self.old.acceptor) (state self.new.acceptor)) self.new.current) }
-        ensures nobody { IfNone result (HandsOnNobody (world L.Stream.shows C.reads L.waits L.comes) (state self.old.acceptor) (state self.new.acceptor)) }
+        ensures handed { OnSome result (IfServed (HandsOnFirst (world L.Stream.shows L.Stream.gives C.reads L.waits L.comes) (state self.old.acceptor) (state self.new.acceptor)) self.new.current) }
+        ensures nobody { IfNone result (HandsOnNobody (world L.Stream.shows L.Stream.gives C.reads L.waits L.comes) (state self.old.acceptor) (state self.new.acceptor)) }
         ensures none { IfNone result (IsNone self.new.current) }
     {
         self.current = None;
@@ -69,13 +69,24 @@ impl<L: ClientListener + Drop, C: Ticks + Drop> ClientFront<L, C> {
         }
     }
 
-    /// Ends the response to the client that is served, and closes it, or leaves it open for a short time where it still sends.
+    /// Ends the response to the client that is served, and closes it, or leaves it open for a short time where it has not ended what it
+    /// sends. It does not wait.
     pub fn finish(&mut self)
-        ensures finishes { Finishes L.Stream.receives C.reads self.old.current (state self.old.acceptor) (state self.new.acceptor) }
+        ensures finishes { Finishes L.Stream.ends L.Stream.gives C.reads self.old.current (state self.old.acceptor) (state self.new.acceptor) }
         ensures none { IsNone self.new.current }
     {
         if let Some(serving) = self.current.take() {
             self.acceptor.leave(serving);
         }
+    }
+
+    /// Closes the client that is served, and waits until none is open whose response is whole: each has ended what it sends, or its time
+    /// is over. For the end of a program, which would close them.
+    pub fn end(&mut self)
+        ensures ends { Ends (world L.Stream.shows L.Stream.gives C.reads L.waits L.comes) (state self.old.acceptor) (state self.new.acceptor) }
+        ensures none { IsNone self.new.current }
+    {
+        self.current = None;
+        self.acceptor.end();
     }
 }

@@ -7,8 +7,8 @@ ghost use Rattle.client_front.specs.Waiting.{Admits, Expires, FindsRoom, IsAsked
 
 use crate::progress::HEAD_MILLISECONDS;
 use crate::scan::{Coming, Scan};
-use crate::sockets::ClientStream;
 use crate::waiting::{Idle, MAX_HELD_CLIENTS, Waiting};
+use client_streams::ClientStream;
 use std::alloc::AllocError;
 
 fn stream_of<S: Drop>(client: Idle<S>) -> S
@@ -73,7 +73,8 @@ impl<S: Drop> Waiting<S> {
 
     /// Where the first idle client stands that is late.
     fn place_of_late(&self, now: u64) -> Option<usize>
-        ensures some { IfSome result (λ at. (at < length self.now.idle.items) × ((d : Idle S) → spec.is_late now (slice_index_or self.now.idle.items at d) ≡ true)) }
+        ensures some { IfSome result (λ at. (at < length self.now.idle.items) × ((d : Idle S) → spec.is_late now (slice_index_or self.now.idle.items at d) ≡ true)
+            × ((k : ℕ) (d : Idle S) → k < at → spec.is_late now (slice_index_or self.now.idle.items k d) ≡ false)) }
         ensures none { IfNone result (All (λ client. spec.is_late now client ≡ false) self.now.idle.items) }
     {
         for at in 0..self.idle.len() {
@@ -186,11 +187,12 @@ impl<S: ClientStream> Waiting<S> {
         }
     }
 
-    /// Looks at the idle client there, which is late: it asks where its head is whole by now, stays where its first octets are seen only
+    /// Looks at the idle client there, the first that is late: it asks where its head is whole by now, stays where its first octets are seen only
     /// now, and is closed else.
     fn end_wait(&mut self, at: usize, now: u64)
         requires within { at < length self.old.idle.items }
         requires late { (d : Idle S) → spec.is_late now (slice_index_or self.old.idle.items at d) ≡ true }
+        requires earlier { (k : ℕ) (d : Idle S) → k < at → spec.is_late now (slice_index_or self.old.idle.items k d) ≡ false }
         ensures { LooksAtLate S.shows now (held self.old) (held self.new) }
     {
         match self.look_at(at) {
@@ -207,7 +209,7 @@ impl<S: ClientStream> Waiting<S> {
         }
     }
 
-    /// Looks at the idle clients that are late: none is late then.
+    /// Looks at the idle clients that are late, in order of their coming: none is late then.
     pub(crate) fn expire(&mut self, now: u64)
         ensures { Expires S.shows now (held self.old) (held self.new) }
     {

@@ -5,7 +5,6 @@
 // What is asked of a host.
 mod clock;
 mod sockets;
-mod streams;
 mod toolchain;
 
 // Where a head begins, and where it ends.
@@ -17,25 +16,23 @@ mod holding;
 mod scan;
 mod waiting;
 
-// The client that is served, and its deadlines; then it lingers.
-mod lingering;
-mod pace;
+// The client that is served, and its deadlines.
 mod progress;
 mod serving;
-mod taking;
 
 // All of them.
 mod acceptor;
 mod front;
 
+pub use client_streams::{
+    ClientStream, DRAIN_MILLISECONDS, MAX_DRAIN_OCTETS, MAX_LINGERING_CLIENTS,
+    MIN_OCTETS_PER_MILLISECOND, PATIENCE_MILLISECONDS, STALL_MILLISECONDS, TcpClient, read_once,
+    write_once,
+};
 pub use clock::Ticks;
 pub use front::ClientFront;
-pub use lingering::MAX_LINGERING_CLIENTS;
-pub use pace::{MIN_OCTETS_PER_MILLISECOND, PATIENCE_MILLISECONDS, STALL_MILLISECONDS};
 pub use progress::HEAD_MILLISECONDS;
 pub use scan::MAX_HEAD_OCTETS;
-pub use serving::{DRAIN_MILLISECONDS, MAX_DRAIN_OCTETS};
-pub use sockets::{ClientListener, ClientStream, Next};
-pub use streams::{read_once, write_once};
-pub use toolchain::{TcpClient, TcpClients};
+pub use sockets::{ClientListener, Next};
+pub use toolchain::TcpClients;
 pub use waiting::{IDLE_MILLISECONDS, MAX_HELD_CLIENTS};

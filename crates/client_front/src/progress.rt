@@ -4,7 +4,7 @@ ghost use Rattle.client_front.specs.Deadlines as spec;
 ghost use Rattle.client_front.specs.HeadEnd as head;
 
 use crate::octets::{CR, LF};
-use crate::pace::Pace;
+use client_streams::Pace;
 
 /// How many milliseconds a head may take.
 pub const HEAD_MILLISECONDS: u64 = 10_000;

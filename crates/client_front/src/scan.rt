@@ -5,7 +5,7 @@ ghost use Rattle.client_front.specs.Scanning.{IsComing};
 
 use crate::first_octet::can_begin;
 use crate::progress::{Stage, is_body, stage_after};
-use crate::sockets::ClientStream;
+use client_streams::ClientStream;
 
 /// After how many octets without a head's end its client waits no longer: it is handed on, and its head is too large.
 pub const MAX_HEAD_OCTETS: usize = 16_384;

@@ -1,24 +1,13 @@
 // The client that is served.
-ghost use Rattle.std.specs.Prelude.{◌≡◌, ◌<◌, ◌≤◌, ◌+◌, length, take, IfSome, IfNone};
-ghost use Rattle.client_front.specs.Deadlines.{begun, untaken};
-ghost use Rattle.client_front.specs.Finishing.{Drains, DropsNothing, DropsPiece, IsClosed, StaysOpen};
+ghost use Rattle.std.specs.Prelude.{◌≡◌, ◌<◌, ◌≤◌, length, take, true, IfSome, IfNone};
+ghost use Rattle.client_front.specs.Deadlines.{begun};
+ghost use Rattle.client_front.specs.Finishing.{EndsResponse, IsClosed};
 ghost use Rattle.client_front.specs.Handing.{ReceivesInTime, ReceivesNothing, SendsInTime, SendsNothing};
+ghost use Rattle.client_streams.specs.Patience.{untaken};
 
 use crate::clock::Ticks;
-use crate::lingering::Finished;
-use crate::pace::left;
 use crate::progress::Progress;
-use crate::sockets::ClientStream;
-use crate::taking::Taking;
-
-/// How many octets are read and dropped at most after the last of the response.
-pub const MAX_DRAIN_OCTETS: usize = 1_048_576;
-
-/// How many milliseconds that takes at most; a client that sends more is closed then.
-pub const DRAIN_MILLISECONDS: u64 = 2_000;
-
-/// How many octets one read of that asks for.
-const DRAIN_PIECE_OCTETS: usize = 8_192;
+use client_streams::{ClientStream, Finished, Taking, left};
 
 /// A client that is served: its stream, how far its request has come, and how it takes what it is sent.
 #[derive(Drop)]
@@ -66,52 +55,19 @@ impl<S: ClientStream> Serving<S> {
         Some(count)
     }
 
-    /// Ends the response, and drops what still comes. A client that sends more than is dropped is given back: closed at once,
-    /// it might lose the response before it has read it.
+    /// Ends the response, and drops what has come since. A client of which more may come is given back: closed at once, it might lose
+    /// the response before it has read it. It does not wait.
     pub(crate) fn finish<C: Ticks>(mut self, clock: &mut C) -> Option<Finished<S>>
-        ensures open { IfSome result (StaysOpen S.receives C.reads clock.old clock.new) }
-        ensures closed { IfNone result (IsClosed S.receives C.reads clock.old clock.new) }
+        ensures open { IfSome result (EndsResponse S.ends S.gives C.reads true self.stream clock.old clock.new) }
+        ensures closed { IfNone result (IsClosed S.ends S.gives C.reads self.stream clock.old clock.new) }
     {
         self.stream.end_writing();
         let now = clock.milliseconds()?;
-        let due = now.saturating_add(DRAIN_MILLISECONDS);
-        if drain(&mut self.stream, clock, due) < MAX_DRAIN_OCTETS {
-            return None;
+        let mut client = Finished::new(self.stream, now);
+        if client.drop_all() {
+            Some(client)
+        } else {
+            None
         }
-        Some(Finished {
-            due,
-            stream: self.stream,
-        })
     }
-}
-
-/// Reads and drops what comes until then: how many octets.
-fn drain<S: ClientStream, C: Ticks>(stream: &mut S, clock: &mut C, due: u64) -> usize
-    ensures { Drains S.receives C.reads due result (record { clock = clock.old; stream = stream.old }) (record { clock = clock.new; stream = stream.new }) }
-{
-    let mut dropped = 0;
-    while dropped < MAX_DRAIN_OCTETS {
-        let Some(count) = drain_piece(stream, clock, due, MAX_DRAIN_OCTETS - dropped) else {
-            return dropped;
-        };
-        dropped += count;
-    }
-    dropped
-}
-
-/// Reads and drops one piece of at most `most` octets: how many. None where nothing more comes, or not in time.
-fn drain_piece<S: ClientStream, C: Ticks>(
-    stream: &mut S,
-    clock: &mut C,
-    due: u64,
-    most: usize,
-) -> Option<usize>
-    ensures bound { IfSome result (λ n. n ≤ most) }
-    ensures some { IfSome result (λ n. DropsPiece S.receives C.reads due n (record { clock = clock.old; stream = stream.old }) (record { clock = clock.new; stream = stream.new })) }
-    ensures none { IfNone result (DropsNothing S.receives C.reads due (record { clock = clock.old; stream = stream.old }) (record { clock = clock.new; stream = stream.new })) }
-{
-    let limit = left(due, clock.milliseconds()?)?;
-    let mut room = [0u8; DRAIN_PIECE_OCTETS];
-    let count = stream.receive(&mut room[..most.min(DRAIN_PIECE_OCTETS)], limit)?;
-    if count == 0 { None } else { Some(count) }
 }

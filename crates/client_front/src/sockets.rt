@@ -1,39 +1,10 @@
-// What the front asks of a host's listener and of a client's stream.
-ghost use Rattle.std.specs.Prelude.{ℕ, List, ◌<◌, ◌≤◌, Option, length, take, option_map, IfSome};
+// What the front asks of a host's listener.
+ghost use Rattle.std.specs.Prelude.{ℕ, List, ◌≤◌, Option, length, take, option_map, IfSome};
 
-/// A client's stream. Times are milliseconds. What a call may come to is a relation that each implementation names, and of which a
-/// caller knows nothing else: where it changes the stream, between the stream before it and after it.
-pub trait ClientStream: Drop {
-    /// What a look for at most so many octets may show: these, none of them yet, or None where the client ended or failed.
-    ghost shows: { Self → ℕ → Option (List ℕ) → Type 0 };
+use client_streams::ClientStream;
 
-    /// The octets that a wait of at most so long may give, and those that the client may have taken after one.
-    ghost receives: { Self → ℕ → Option (List ℕ) → Self → Type 0 };
-
-    ghost sends: { Self → ℕ → Option (List ℕ) → Self → Type 0 };
-
-    /// Puts the octets that have come and aren't received yet at the front of `into`, as many as there is room for; they are
-    /// received all the same. How many, 0 where none has come yet. None where the client ended its input and all is received,
-    /// or the stream failed. It does not wait.
-    fn peek(&self, into: &mut [u8]) -> Option<usize>
-        ensures bound { IfSome result (λ n. n ≤ length into.new) }
-        ensures shown { shows self.now (length into.old) (option_map (λ n. take n into.new) result) };
-
-    /// Waits for octets of the client, at most so long, and puts them at the front of `into`: how many, and 0 where the
-    /// client ended its input. None where none came in time or the stream failed.
-    fn receive(&mut self, into: &mut [u8], limit: u64) -> Option<usize>
-        ensures bound { IfSome result (λ n. n ≤ length into.new) }
-        ensures received { receives self.old limit (option_map (λ n. take n into.new) result) self.new };
-
-    /// Gives the client some of the octets, from their front, and waits for it at most so long: how many it took, at least
-    /// 1. None where it took none in time or the stream failed.
-    fn send(&mut self, from: &[u8], limit: u64) -> Option<usize>
-        ensures bound { IfSome result (λ n. (0 < n) × (n ≤ length from.now)) }
-        ensures taken { sends self.old limit (option_map (λ n. take n from.now) result) self.new };
-
-    /// Tells the client that nothing more is sent.
-    fn end_writing(&mut self);
-}
+/// How many keys one wait of the toolchain's listener gives at most; further ones come with the next.
+pub(crate) const WAIT_KEYS: usize = 64;
 
 /// What comes of asking a listener for a client.
 #[derive(Drop)]

@@ -1,93 +1,19 @@
 // The toolchain's sockets, and readiness over them.
-ghost use Rattle.std.specs.Prelude.{◌<◌, ◌≤◌, length, take, IfSome};
-ghost use Rattle.std.specs.Io.KnownBytes.{Appends, Consumes};
-
-use crate::sockets::{ClientListener, ClientStream, Next};
-use crate::streams::{read_once, write_once};
+use crate::sockets::{ClientListener, Next, WAIT_KEYS};
+use client_streams::TcpClient;
 use mio::unix::SourceFd;
 use mio::{Events, Interest, Poll, Token};
 use std::alloc::Global;
-use std::io::{ErrorKind, Read, Write};
-use std::net::{Net, OpenStream, Shutdown, TcpListener, TcpStream};
+use std::io::ErrorKind;
+use std::net::{Net, TcpListener, TcpStream};
 use std::os::fd::AsRawFd;
 use std::time::Duration;
-
-/// How many events one wait gives at most.
-const MAX_EVENTS: usize = 64;
 
 /// How many clients that can't be accepted are passed over for the next that can, in one call; after as many it refuses.
 const MAX_FAILED_CLIENTS: usize = 64;
 
 /// What the listener itself is watched under.
 const LISTENER: usize = usize::MAX;
-
-/// A client's stream over TCP.
-#[derive(Drop)]
-pub struct TcpClient {
-    stream: TcpStream,
-}
-
-impl ClientStream for TcpClient {
-    ghost use Rattle.std.specs.Prelude.{⊤};
-
-    ghost shows = { λ _ _ _. ⊤ };
-
-    ghost receives = { λ _ _ _ _. ⊤ };
-
-    ghost sends = { λ _ _ _ _. ⊤ };
-
-    fn peek(&self, into: &mut [u8]) -> Option<usize> {
-        match self.stream.peek(into) {
-            Ok(0) => None,
-            Ok(count) => Some(count),
-            Err(error) if error.kind() == ErrorKind::WouldBlock => Some(0),
-            Err(error) if error.kind() == ErrorKind::Interrupted => Some(0),
-            Err(_) => None,
-        }
-    }
-
-    fn receive(&mut self, into: &mut [u8], limit: u64) -> Option<usize> {
-        receive_over(&mut self.stream, into, limit)
-    }
-
-    fn send(&mut self, from: &[u8], limit: u64) -> Option<usize> {
-        send_over(&mut self.stream, from, limit)
-    }
-
-    fn end_writing(&mut self) {
-        let _ = self.stream.shutdown(Shutdown::Write);
-    }
-}
-
-/// One read of a stream that waits at most `limit` milliseconds.
-fn receive_over<S: Read + OpenStream>(stream: &mut S, into: &mut [u8], limit: u64) -> Option<usize>
-    ensures bound { IfSome result (λ n. n ≤ length into.new) }
-    ensures octets { IfSome result (λ n. Consumes (S.remaining stream.old) (S.remaining stream.new) (take n into.new)) }
-{
-    stream.set_nonblocking(false).ok()?;
-    stream
-        .set_read_timeout(Some(Duration::from_millis(limit)))
-        .ok()?;
-    match read_once(stream, into) {
-        Ok(count) => Some(count),
-        Err(_) => None,
-    }
-}
-
-/// One write of a stream that waits at most `limit` milliseconds and takes an octet at least.
-fn send_over<S: Write + OpenStream>(stream: &mut S, from: &[u8], limit: u64) -> Option<usize>
-    ensures bound { IfSome result (λ n. (0 < n) × (n ≤ length from.now)) }
-    ensures octets { IfSome result (λ n. Appends (S.contents stream.old) (S.contents stream.new) (take n from.now)) }
-{
-    stream.set_nonblocking(false).ok()?;
-    stream
-        .set_write_timeout(Some(Duration::from_millis(limit)))
-        .ok()?;
-    match write_once(stream, from) {
-        Ok(0) | Err(_) => None,
-        Ok(count) => Some(count),
-    }
-}
 
 /// A listener over TCP that watches the clients it has accepted.
 #[derive(Drop)]
@@ -114,7 +40,7 @@ impl TcpClients {
                 Interest::READABLE,
             )
             .ok()?;
-        let events = Events::with_capacity(alloc, MAX_EVENTS).ok()?;
+        let events = Events::with_capacity(alloc, WAIT_KEYS).ok()?;
         Some(TcpClients {
             listener,
             poll,
@@ -133,7 +59,7 @@ impl TcpClients {
                 Interest::READABLE,
             )
             .ok()?;
-        Some(TcpClient { stream })
+        Some(TcpClient::new(stream))
     }
 
     /// The port that it listens at.

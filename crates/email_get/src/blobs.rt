@@ -1,8 +1,9 @@
 // The octets that a blob id names.
-ghost use Rattle.std.specs.Prelude.{◌≡◌, IfOk};
+ghost use Rattle.std.specs.Prelude.{◌≡◌, ℕ, List, IfOk, MatchOption};
 ghost use Rattle.std.specs.Option.{option_copied};
 ghost use Rattle.email_bodies.specs.declared.error.BodyError.TheVariants.{Memory};
 ghost use Rattle.message_blobs.specs.BlobIds.{root_view};
+ghost use Rattle.message_blobs.specs.NestedLeaves.{NamesOctets};
 ghost use Rattle.email_get.specs.Asked as spec;
 ghost use Rattle.email_get.specs.Asked.{AsksAndMeets};
 ghost use Rattle.email_get.specs.Blobs.{FindsRoot, FindsOctets, FindsBlob};
@@ -12,7 +13,7 @@ use email_bodies::{BodyError, BodySource, MessagePlace};
 use gate_world::Bytes;
 use mail_maps::EmailRow;
 use mail_state::MailState;
-use message_blobs::{BlobId, Root, leaf_octets, read_blob_id};
+use message_blobs::{BlobId, ReadBlob, Root, read_blob_id};
 use std::alloc::{AllocError, Global};
 
 /// The octets of an upload, shared.
@@ -56,13 +57,47 @@ fn root_octets<W, B: BodySource<W>>(
     }
 }
 
-/// The octets of a blob.
+/// These octets, as they were read last where those were the same.
+fn blob_of(last: Option<ReadBlob>, octets: Bytes) -> ReadBlob
+    ensures { result ≡ octets }
+{
+    match last {
+        None => ReadBlob::new(octets),
+        Some(blob) => {
+            if blob.is_of(&octets) {
+                blob
+            } else {
+                ReadBlob::new(octets)
+            }
+        }
+    }
+}
+
+/// The octets that the numbers of leaves name in these, which are what was read last then.
+fn leaf_of(
+    alloc: Global,
+    last: &mut Option<ReadBlob>,
+    octets: Bytes,
+    leaves: &[u64],
+) -> Result<Option<Bytes>, AllocError>
+    ensures { IfOk result (λ found. MatchOption found
+        ((s : List ℕ) → NamesOctets leaves.now octets s → ⊥)
+        (λ s. NamesOctets leaves.now octets s)) }
+{
+    let mut blob = blob_of(last.take(), octets);
+    let found = blob.leaf_octets(alloc, leaves)?;
+    *last = Some(blob);
+    Ok(found)
+}
+
+/// The octets of a blob. What was read of the last one serves where this one begins in the same octets.
 pub(crate) fn blob_octets<W, B: BodySource<W>>(
     alloc: Global,
     state: &MailState,
     blobs: &BlobStore,
     bodies: &mut B,
     world: &mut W,
+    last: &mut Option<ReadBlob>,
     id: &BlobId<'_>,
 ) -> Result<Option<Bytes>, BodyError>
     ensures { AsksAndMeets B.answers B.lacks (bodies.old, world.old) (bodies.new, world.new) Memory (λ o. o) result
@@ -70,7 +105,7 @@ pub(crate) fn blob_octets<W, B: BodySource<W>>(
 {
     match root_octets(state, blobs, bodies, world, id.root)? {
         None => Ok(None),
-        Some(octets) => Ok(leaf_octets(alloc, &octets, id.leaves.as_slice())?),
+        Some(octets) => Ok(leaf_of(alloc, last, octets, id.leaves.as_slice())?),
     }
 }
 
@@ -89,6 +124,9 @@ pub fn find_blob<W, B: BodySource<W>>(
 {
     match read_blob_id(id) {
         None => Ok(None),
-        Some(id) => blob_octets(alloc, state, blobs, bodies, world, &id),
+        Some(id) => {
+            let mut last = None;
+            blob_octets(alloc, state, blobs, bodies, world, &mut last, &id)
+        }
     }
 }

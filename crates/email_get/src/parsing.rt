@@ -28,7 +28,7 @@ use jmap_methods::{
     ACCOUNT_ID, MethodError, check_account, check_count, distinct, text_at, texts_or_null,
 };
 use mail_state::MailState;
-use message_blobs::{BlobId, MAX_LEAVES, read_blob_id};
+use message_blobs::{BlobId, MAX_LEAVES, ReadBlob, read_blob_id};
 use serde_json::{Map, Value, json, put};
 use std::alloc::{AllocError, Global};
 
@@ -100,13 +100,14 @@ fn message_value(
     parsed_value(alloc, Some(id.as_bytes()), &message, wanted)
 }
 
-/// The message that a blob is as an object, where the blob is found.
+/// The message that a blob is as an object, where the blob is found. What was read of the last one serves as in `blob_octets`.
 fn parsed_blob<W, B: BodySource<W>>(
     alloc: Global,
     state: &MailState,
     blobs: &BlobStore,
     bodies: &mut B,
     world: &mut W,
+    last: &mut Option<ReadBlob>,
     wanted: &EmailWanted<'_>,
     id: &str,
 ) -> Result<Option<Value>, MethodError>
@@ -118,7 +119,7 @@ fn parsed_blob<W, B: BodySource<W>>(
     let Some(blob) = read_blob_id(id.as_bytes()) else {
         return Ok(None);
     };
-    match blob_octets(alloc, state, blobs, bodies, world, &blob) {
+    match blob_octets(alloc, state, blobs, bodies, world, last, &blob) {
         Err(error) => Err(error_of(error)),
         Ok(None) => Ok(None),
         Ok(Some(octets)) => Ok(Some(message_value(alloc, wanted, &blob, id, &octets)?)),
@@ -154,7 +155,7 @@ fn add_shown(
     Ok(())
 }
 
-/// The blobs with these ids, one after another.
+/// The blobs with these ids, one after another. Those that stand in one message cost one reading of it where they follow one another.
 fn show_blobs<W, B: BodySource<W>>(
     alloc: Global,
     state: &MailState,
@@ -174,8 +175,9 @@ fn show_blobs<W, B: BodySource<W>>(
         parsed: Map::new(alloc),
         missing: Vec::new(alloc),
     };
+    let mut last = None;
     for id in ids {
-        let found = parsed_blob(alloc, state, blobs, bodies, world, wanted, *id)?;
+        let found = parsed_blob(alloc, state, blobs, bodies, world, &mut last, wanted, *id)?;
         add_shown(&mut shown, alloc, *id, found)?;
     }
     Ok(shown)
@@ -218,8 +220,9 @@ fn answer_of(alloc: Global, shown: Shown) -> Result<Value, AllocError>
 
 /// Email/parse (RFC 8621 section 4.9): the messages that the blobs are, each blob once, with the properties asked, and the ids of blobs
 /// that there are none of. Any octets are a message. `InvalidArguments`, `AccountNotFound` and `RequestTooLarge` come in this order, the
-/// last for more than `MAX_OBJECTS_IN_GET` ids. Bodies are asked as by `find_blob`, for each blob anew, in the order asked, and let go
-/// before the next one is asked; `ServerUnavailable` comes where one doesn't come, and no further one is asked.
+/// last for more than `MAX_OBJECTS_IN_GET` ids. Bodies are asked as by `find_blob`, for each blob anew, in the order asked;
+/// `ServerUnavailable` comes where one doesn't come, and no further one is asked. Of the blobs before, the octets in which the last one begins
+/// are held, and the message in them that was read last.
 pub fn email_parse<W, B: BodySource<W>>(
     alloc: Global,
     state: &MailState,

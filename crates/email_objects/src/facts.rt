@@ -7,9 +7,10 @@ ghost use Rattle.email_objects.specs.EmailObjects.{AreFields};
 ghost use Rattle.email_objects.specs.Facts as spec;
 ghost use Rattle.email_objects.specs.reading.Views.{facts_data};
 
-use crate::header_needs::needs_header;
+use crate::header_needs::{needs_header, needs_index};
 use body_parts::Message;
 use email_properties::EmailProperty;
+use field_values::NamedFields;
 use mail_header::{Fields, fields};
 use mail_maps::EmailRow;
 use std::alloc::{AllocError, Global};
@@ -24,7 +25,7 @@ pub(crate) struct Facts<'a> {
     /// Octets of the whole message.
     pub size: u64,
     /// Those of the header; none where no property of the header is asked.
-    pub fields: Fields<'a>,
+    pub fields: NamedFields<'a>,
 }
 
 /// The fields of the header at the front of the octets, which is read where one of the properties needs it.
@@ -42,6 +43,18 @@ fn fields_asked<'a>(
     }
 }
 
+/// The same, with an index of them where many properties ask fields by their names.
+fn named_fields<'a>(
+    alloc: Global,
+    header: &'a [u8],
+    properties: &[EmailProperty<'_>],
+) -> Result<NamedFields<'a>, AllocError>
+    ensures { IfOk result (λ f. AreFields properties.now header.now f) }
+{
+    let fields = fields_asked(alloc, header, properties)?;
+    NamedFields::new(alloc, fields, needs_index(properties))
+}
+
 /// What is told of an Email whose message has this blob id.
 pub(crate) fn row_facts<'a>(
     alloc: Global,
@@ -50,10 +63,10 @@ pub(crate) fn row_facts<'a>(
     properties: &[EmailProperty<'_>],
 ) -> Result<Facts<'a>, AllocError>
     requires { blob_id.now ≡ spec.row_blob_id row.now }
-    ensures facts { IfOk result (λ e. facts_data e ≡ spec.row_facts row.now (names_and_raws e.fields)) }
-    ensures fields { IfOk result (λ e. AreFields properties.now row.now.header (names_and_raws e.fields)) }
+    ensures facts { IfOk result (λ e. facts_data e ≡ spec.row_facts row.now e.fields) }
+    ensures fields { IfOk result (λ e. AreFields properties.now row.now.header e.fields) }
 {
-    let fields = fields_asked(alloc, row.header.as_slice(), properties)?;
+    let fields = named_fields(alloc, row.header.as_slice(), properties)?;
     Ok(Facts {
         row: Some(row),
         blob_id: Some(blob_id),
@@ -69,10 +82,10 @@ pub(crate) fn message_facts<'a>(
     message: &Message<'a>,
     properties: &[EmailProperty<'_>],
 ) -> Result<Facts<'a>, AllocError>
-    ensures facts { IfOk result (λ e. facts_data e ≡ spec.message_facts (option_copied blob_id.entry) (message_data message.now) (names_and_raws e.fields)) }
-    ensures fields { IfOk result (λ e. AreFields properties.now message.now.octets.now (names_and_raws e.fields)) }
+    ensures facts { IfOk result (λ e. facts_data e ≡ spec.message_facts (option_copied blob_id.entry) (message_data message.now) e.fields) }
+    ensures fields { IfOk result (λ e. AreFields properties.now message.now.octets.now e.fields) }
 {
-    let fields = fields_asked(alloc, message.octets, properties)?;
+    let fields = named_fields(alloc, message.octets, properties)?;
     Ok(Facts {
         row: None,
         blob_id,

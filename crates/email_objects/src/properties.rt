@@ -49,9 +49,9 @@ fn property_value(
         EmailProperty::Keywords => Some(keywords(alloc, facts.row)),
         EmailProperty::Size => Some(Ok(Value::from(facts.size))),
         EmailProperty::ReceivedAt => Some(received_at(alloc, facts.row)),
-        EmailProperty::Headers => Some(headers_value(alloc, &facts.fields)),
+        EmailProperty::Headers => Some(headers_value(alloc, facts.fields.fields())),
         EmailProperty::Header(asked) => Some(header_property(alloc, &facts.fields, asked)),
-        _ => convenience_value(alloc, &facts.fields, property),
+        _ => convenience_value(alloc, facts.fields.fields(), property),
     }
 }
 

@@ -7,7 +7,7 @@ use Rattle.email_properties.specs.declared.header_form.HeaderForm.TheVariants.{R
 use Rattle.header_words.proofs.WordLemmas.{one_text}
 use Rattle.header_addresses.specs.declared.address.Address.{Address}
 use Rattle.header_addresses.specs.declared.address.Group.{Group}
-use Rattle.header_addresses.proofs.FormLemmas.{one_addresses, one_groups}
+use Rattle.loose_addresses.proofs.LooseLemmas.{one_loose_addresses, one_loose_groups}
 use Rattle.header_dates.specs.declared.date.Moment.{Moment}
 use Rattle.header_dates.proofs.DateLemmas.{one_date}
 use Rattle.mail_header.specs.Bracketed.{IsNamesForm}
@@ -72,8 +72,8 @@ one_moment_data (Some m) (Some n) d e same p q =
 pub one_form_data : (form : HeaderForm) (raw : List ℕ) (d e : Data) → IsFormData form raw d → IsFormData form raw e → d ≡ e
 one_form_data Raw raw d e p q = p ∙ sym q
 one_form_data Text raw d e p q = p.2 ∙ ap text_data (one_text false _ p.0 q.0 p.1 q.1) ∙ sym q.2
-one_form_data Addresses raw d e p q = p.2 ∙ ap addresses_data (one_addresses raw p.0 q.0 p.1 q.1) ∙ sym q.2
-one_form_data GroupedAddresses raw d e p q = p.2 ∙ ap groups_data (one_groups raw p.0 q.0 p.1 q.1) ∙ sym q.2
+one_form_data Addresses raw d e p q = p.2 ∙ ap addresses_data (one_loose_addresses raw p.0 q.0 p.1 q.1) ∙ sym q.2
+one_form_data GroupedAddresses raw d e p q = p.2 ∙ ap groups_data (one_loose_groups raw p.0 q.0 p.1 q.1) ∙ sym q.2
 one_form_data MessageIds raw d e p q = p.2 ∙ ap names_data (one_read raw p.0 q.0 p.1 q.1) ∙ sym q.2
 one_form_data Date raw d e p q = one_moment_data p.0 q.0 d e (one_date raw p.0 q.0 p.1 q.1) p.2 q.2
 one_form_data Urls raw d e p q = p.2 ∙ ap names_data (one_read raw p.0 q.0 p.1 q.1) ∙ sym q.2

@@ -1,3 +1,4 @@
 pub mod MomentLemmas
 pub mod FormLemmas
 pub mod PropertyLemmas
+pub mod IndexLemmas

@@ -1,23 +1,23 @@
 -- The properties that fields give: one after another, without fractions, each once.
 use Rattle.std.proofs.Common.{◌≡◌, ◌∙◌, ℕ, ◌+◌, ◌<◌, Bool, true, false, cond, ◌||◌, refl, sym, ap, subst, List, [], ◌∷◌, ◌++◌, length, take, get_or, map, Option, Some, None}
-use Rattle.std.proofs.Common.{append-nil}
-use Rattle.std.specs.Prelude.{MatchOption, slice_get, option_to_list}
+use Rattle.std.proofs.Common.{append-nil, arith, Bor, suc, ◌-◌}
+use Rattle.std.specs.Prelude.{MatchOption, slice_get, option_to_list, unwrap_or}
 use Rattle.std.specs.Bool.{MatchBool}
 use Rattle.std.specs.List.{AllZip, cons_option}
 use Rattle.std.specs.Option.{option_and_then}
-use Rattle.std.proofs.lemmas.List.{take_more, map-append}
+use Rattle.std.proofs.lemmas.List.{take_more, map-append, map_more}
 use Rattle.std.proofs.lemmas.List.Elements.{filter_map-append}
 use Rattle.std.proofs.lemmas.Option.{slice_get-get_or}
 use Rattle.serde_json.specs.Data.{Data, null, array}
 use Rattle.serde_json.specs.View.{items_of}
 use Rattle.serde_json.specs.Written.{has_float, items_have_float}
 use Rattle.text_words.specs.Octets.{is_same_text}
-use Rattle.mail_header.specs.Fields.{NameAndRaw, last_named}
+use Rattle.mail_header.specs.Fields.{NameAndRaw, last_named, later_or}
 use Rattle.email_properties.specs.HeaderAsked.{HeaderAsked}
 use Rattle.email_properties.specs.declared.header_form.HeaderForm.{HeaderForm}
 use Rattle.field_values.specs.Forms.{IsFormData}
 use Rattle.field_values.specs.HeaderProperties.{IsLastData, raw_named, raws_named, IsListData, IsHeaderPropertyData, header_data, headers_data}
-use Rattle.field_values.specs.reading.Gathering.{raw_at, AddsData}
+use Rattle.field_values.specs.reading.Gathering.{raw_at, last_raw}
 use Rattle.json_texts.proofs.WholeLemmas.{items_whole}
 use Rattle.field_values.proofs.FormLemmas.{form_whole, one_form_data as one_form}
 
@@ -33,23 +33,70 @@ field_is s n r p q =
     let pair : Some p.0 ≡ Some (n, r) = λ i. Some (name i, raw i) in
     p.1 ∙ pair
 
--- no field adds no data
-pub adds_none : (form : HeaderForm) (name : List ℕ) (fs : List NameAndRaw) (at : ℕ) (ds : List Data) → slice_get fs at ≡ None → AddsData form (raw_at name fs at) ds ds
-adds_none form name fs at ds e = subst (λ (o : Option NameAndRaw). AddsData form (option_and_then (raw_named name) o) ds ds) (sym e) refl
+-- ---- raw values
 
--- a field of another name adds no data
-pub adds_no_other : (form : HeaderForm) (name : List ℕ) (fs : List NameAndRaw) (at : ℕ) (f : NameAndRaw) (ds : List Data) → slice_get fs at ≡ Some f
-    → is_same_text f.0 name ≡ false → AddsData form (raw_at name fs at) ds ds
-adds_no_other form name fs at f ds e other =
-    subst (λ (o : Option NameAndRaw). AddsData form (option_and_then (raw_named name) o) ds ds) (sym e)
-    (subst (λ (b : Bool). AddsData form (cond b (Some f.1) None) ds ds) (sym other) refl)
+-- the raw value of a field at a place
+raw_here : (name : List ℕ) (fs : List NameAndRaw) (at : ℕ) (o : Option NameAndRaw) → slice_get fs at ≡ o
+    → option_to_list (raw_at name fs at) ≡ option_to_list (option_and_then (raw_named name) o)
+raw_here name fs at o e = ap (λ (o : Option NameAndRaw). option_to_list (option_and_then (raw_named name) o)) e
 
--- a field of the name adds its data
-pub adds_named : (form : HeaderForm) (name : List ℕ) (fs : List NameAndRaw) (at : ℕ) (f : NameAndRaw) (before after : List Data) (d : Data) → slice_get fs at ≡ Some f
-    → is_same_text f.0 name ≡ true → IsFormData form f.1 d → after ≡ before ++ d ∷ [] → AddsData form (raw_at name fs at) before after
-adds_named form name fs at f before after d e same h is =
-    subst (λ (o : Option NameAndRaw). AddsData form (option_and_then (raw_named name) o) before after) (sym e)
-    (subst (λ (b : Bool). AddsData form (cond b (Some f.1) None) before after) (sym same) (d, h, is))
+-- where there is no field there is no raw value
+pub no_raw : (name : List ℕ) (fs : List NameAndRaw) (at : ℕ) (raws : List (List ℕ)) → slice_get fs at ≡ None → raws ≡ raws ++ option_to_list (raw_at name fs at)
+no_raw name fs at raws e = sym (ap (λ (l : List (List ℕ)). raws ++ l) (raw_here name fs at None e) ∙ append-nil raws)
+
+-- nor where the field has another name
+pub no_raw_of_other : (name : List ℕ) (fs : List NameAndRaw) (at : ℕ) (f : NameAndRaw) (raws : List (List ℕ)) → slice_get fs at ≡ Some f → is_same_text f.0 name ≡ false
+    → raws ≡ raws ++ option_to_list (raw_at name fs at)
+no_raw_of_other name fs at f raws e other =
+    let none : option_to_list (raw_named name f) ≡ [] = ap (λ (b : Bool). option_to_list (cond b (Some f.1) None)) other in
+    sym (ap (λ (l : List (List ℕ)). raws ++ l) (raw_here name fs at (Some f) e ∙ none) ∙ append-nil raws)
+
+-- a field of the name has its own
+pub raw_of_named : (name : List ℕ) (fs : List NameAndRaw) (at : ℕ) (f : NameAndRaw) (raws : List (List ℕ)) → slice_get fs at ≡ Some f → is_same_text f.0 name ≡ true
+    → raws ++ f.1 ∷ [] ≡ raws ++ option_to_list (raw_at name fs at)
+raw_of_named name fs at f raws e same =
+    let one : option_to_list (raw_named name f) ≡ f.1 ∷ [] = ap (λ (b : Bool). option_to_list (cond b (Some f.1) None)) same in
+    sym (ap (λ (l : List (List ℕ)). raws ++ l) (raw_here name fs at (Some f) e ∙ one))
+
+-- the raw values of a name up to a place, and of the field there
+pub raws_more : (name : List ℕ) (fs : List NameAndRaw) (at : ℕ) → at < length fs
+    → raws_named name (take (at + 1) fs) ≡ raws_named name (take at fs) ++ option_to_list (raw_at name fs at)
+raws_more name fs at lt =
+    let f : NameAndRaw = get_or fs at ([], []) in
+    ap (raws_named name) (take_more fs at ([], []) lt) ∙ filter_map-append (raw_named name) (take at fs) (f ∷ [])
+    ∙ ap (λ (l : List (List ℕ)). raws_named name (take at fs) ++ l) (listed (raw_named name f) ∙ sym (raw_here name fs at (Some f) (slice_get-get_or fs at ([], []) lt)))
+  where
+    listed : (o : Option (List ℕ)) → cons_option o [] ≡ option_to_list o
+    listed None = refl
+    listed (Some r) = refl
+
+-- the last field of a name has the last of these
+pub last_is : (name : List ℕ) (fs : List NameAndRaw) → last_named name fs ≡ last_raw (raws_named name fs)
+last_is name [] = refl
+last_is name (f ∷ fs) = ap (λ (o : Option (List ℕ)). later_or o (is_same_text f.0 name) f.1) (last_is name fs) ∙ by (is_same_text f.0 name) (raws_named name fs)
+  where
+    by : (same : Bool) (rs : List (List ℕ)) → later_or (last_raw rs) same f.1 ≡ last_raw (cons_option (cond same (Some f.1) None) rs)
+    by true [] = refl
+    by true (r ∷ rs) = refl
+    by false [] = refl
+    by false (r ∷ rs) = refl
+
+-- of raw values that are lent the last stands at the end of their list
+pub last_lent : (raws : List (Bor (List ℕ)))
+    → MatchOption (slice_get raws (length raws - 1)) (last_raw (map (λ (r : Bor (List ℕ)). r.now) raws) ≡ None) (λ r. last_raw (map (λ (r : Bor (List ℕ)). r.now) raws) ≡ Some r.now)
+last_lent [] = refl
+last_lent (x ∷ xs) =
+    let at_end = end_of x xs in
+    let last = last_raw (map (λ (r : Bor (List ℕ)). r.now) (x ∷ xs)) in
+    subst (λ (o : Option (Bor (List ℕ))). MatchOption o (last ≡ None) (λ r. last ≡ Some r.now)) (sym at_end.1) at_end.2
+  where
+    end_of : (x : Bor (List ℕ)) (xs : List (Bor (List ℕ)))
+        → (y : Bor (List ℕ)) × (slice_get (x ∷ xs) (length (x ∷ xs) - 1) ≡ Some y) × (last_raw (map (λ (r : Bor (List ℕ)). r.now) (x ∷ xs)) ≡ Some y.now)
+    end_of x [] = (x, refl, refl)
+    end_of x (z ∷ zs) =
+        let later = end_of z zs in
+        let next : length (x ∷ z ∷ zs) - 1 ≡ suc (length (z ∷ zs) - 1) = omega arith in
+        (later.0, ap (λ (n : ℕ). slice_get (x ∷ z ∷ zs) n) next ∙ later.1, ap (λ (o : Option (List ℕ)). Some (unwrap_or o x.now)) later.2)
 
 -- ---- a list gains one more
 
@@ -59,21 +106,15 @@ zip_push R [] (z ∷ ys) x y h r = absurd h
 zip_push R (z ∷ xs) [] x y h r = absurd h
 zip_push R (z ∷ xs) (w ∷ ys) x y h r = (h.0, zip_push R xs ys x y h.1 r)
 
-added : (form : HeaderForm) (o : Option (List ℕ)) (rs : List (List ℕ)) (before after : List Data) → AddsData form o before after → AllZip (IsFormData form) rs before
-    → AllZip (IsFormData form) (rs ++ cons_option o []) after
-added form None rs before after e h = subst (λ (u : List (List ℕ)). AllZip (IsFormData form) u after) (sym (append-nil rs)) (subst (AllZip (IsFormData form) rs) (sym e) h)
-added form (Some r) rs before after a h = subst (AllZip (IsFormData form) (rs ++ r ∷ [])) (sym a.2) (zip_push (IsFormData form) rs before r a.0 h a.1)
-
--- the data of the fields of a name up to a place, and of the one there
-pub values_more : (form : HeaderForm) (name : List ℕ) (fs : List NameAndRaw) (at : ℕ) (before after : List Data) → at < length fs
-    → AllZip (IsFormData form) (raws_named name (take at fs)) before → AddsData form (raw_at name fs at) before after
-    → AllZip (IsFormData form) (raws_named name (take (at + 1) fs)) after
-values_more form name fs at before after lt h adds =
-    let f : NameAndRaw = get_or fs at ([], []) in
-    let more : raws_named name (take (at + 1) fs) ≡ raws_named name (take at fs) ++ cons_option (raw_named name f) [] =
-    ap (raws_named name) (take_more fs at ([], []) lt) ∙ filter_map-append (raw_named name) (take at fs) (f ∷ []) in
-    let here = subst (λ (o : Option NameAndRaw). AddsData form (option_and_then (raw_named name) o) before after) (slice_get-get_or fs at ([], []) lt) adds in
-    subst (λ (u : List (List ℕ)). AllZip (IsFormData form) u after) (sym more) (added form (raw_named name f) (raws_named name (take at fs)) before after here h)
+-- the data of raw values up to a place, and of the one there
+pub values_more : (form : HeaderForm) (raws : List (Bor (List ℕ))) (at : ℕ) (x : Bor (List ℕ)) (before after : List Data) (d : Data) → at < length raws
+    → AllZip (IsFormData form) (map (λ (r : Bor (List ℕ)). r.now) (take at raws)) before → IsFormData form (get_or raws at x).now d → after ≡ before ++ d ∷ []
+    → AllZip (IsFormData form) (map (λ (r : Bor (List ℕ)). r.now) (take (at + 1) raws)) after
+values_more form raws at x before after d lt h is e =
+    let now : Bor (List ℕ) → List ℕ = λ r. r.now in
+    subst (λ (u : List (List ℕ)). AllZip (IsFormData form) u after) (sym (map_more now raws at x lt))
+    (subst (AllZip (IsFormData form) (map now (take at raws) ++ (get_or raws at x).now ∷ [])) (sym e)
+    (zip_push (IsFormData form) (map now (take at raws)) before (get_or raws at x).now d h is))
 
 -- no field adds no EmailHeader, and a field its own
 pub no_header : (fs : List NameAndRaw) (at : ℕ) (ds : List Data) → slice_get fs at ≡ None → ds ≡ ds ++ map header_data (option_to_list (slice_get fs at))

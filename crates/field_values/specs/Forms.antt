@@ -6,11 +6,11 @@ use Rattle.email_properties.specs.declared.header_form.HeaderForm.{HeaderForm}
 use Rattle.email_properties.specs.declared.header_form.HeaderForm.TheVariants as form
 use Rattle.header_addresses.specs.declared.address.Address.{Address}
 use Rattle.header_addresses.specs.declared.address.Group.{Group}
-use Rattle.header_addresses.specs.Names.{IsAddressesForm, IsGroupsForm}
 use Rattle.header_dates.specs.declared.date.Moment.{Moment}
 use Rattle.header_dates.specs.Dates.{IsDateForm}
 use Rattle.mail_header.specs.Bracketed.{IsNamesForm}
 use Rattle.mail_header.specs.RawForms.{raw_form, IsTextForm}
+use Rattle.loose_addresses.specs.LooseForms.{IsLooseAddressesForm, IsLooseGroupsForm}
 use Rattle.json_texts.specs.Texts.{text_data, optional_text, text_list}
 use Rattle.field_values.specs.MomentText.{IsMomentText}
 
@@ -48,8 +48,8 @@ IsMomentData (Some m) d = (text : List ℕ) × IsMomentText m text × (d ≡ str
 abbrev pub IsFormData : HeaderForm → List ℕ → Data → Type 0
 IsFormData form.Raw raw d = d ≡ text_data (raw_form raw)
 IsFormData form.Text raw d = (text : List ℕ) × IsTextForm text raw × (d ≡ text_data text)
-IsFormData form.Addresses raw d = (read : Option (List Address)) × IsAddressesForm raw read × (d ≡ addresses_data read)
-IsFormData form.GroupedAddresses raw d = (read : Option (List Group)) × IsGroupsForm raw read × (d ≡ groups_data read)
+IsFormData form.Addresses raw d = (read : Option (List Address)) × IsLooseAddressesForm raw read × (d ≡ addresses_data read)
+IsFormData form.GroupedAddresses raw d = (read : Option (List Group)) × IsLooseGroupsForm raw read × (d ≡ groups_data read)
 IsFormData form.MessageIds raw d = (read : Option (List (List ℕ))) × IsNamesForm read raw × (d ≡ names_data read)
 IsFormData form.Date raw d = (read : Option Moment) × IsDateForm raw read × IsMomentData read d
 IsFormData form.Urls raw d = (read : Option (List (List ℕ))) × IsNamesForm read raw × (d ≡ names_data read)

@@ -7,9 +7,10 @@ ghost use Rattle.field_values.specs.Forms as spec;
 use crate::moment_text::moment_text;
 use email_properties::HeaderForm;
 use gate_world::{Bytes, Names};
-use header_addresses::{Address, Group, as_addresses, as_groups};
+use header_addresses::{Address, Group};
 use header_dates::as_date;
 use json_texts::{optional_text_value, owned_text_value, text_value};
+use loose_addresses::{as_loose_addresses, as_loose_groups};
 use mail_header::{as_message_ids, as_raw, as_text, as_urls};
 use serde_json::{Value, json};
 use std::alloc::{AllocError, Global};
@@ -90,7 +91,7 @@ fn decoded_value(alloc: Global, raw: &[u8]) -> Result<Value, AllocError>
 fn addresses_value(alloc: Global, raw: &[u8]) -> Result<Value, AllocError>
     ensures { IfOk result (λ value. spec.IsFormData HeaderForm.Addresses raw.now (view value)) }
 {
-    match as_addresses(alloc, raw)? {
+    match as_loose_addresses(alloc, raw)? {
         None => Ok(Value::Null),
         Some(found) => address_list(alloc, found.as_slice()),
     }
@@ -99,7 +100,7 @@ fn addresses_value(alloc: Global, raw: &[u8]) -> Result<Value, AllocError>
 fn groups_value(alloc: Global, raw: &[u8]) -> Result<Value, AllocError>
     ensures { IfOk result (λ value. spec.IsFormData HeaderForm.GroupedAddresses raw.now (view value)) }
 {
-    match as_groups(alloc, raw)? {
+    match as_loose_groups(alloc, raw)? {
         None => Ok(Value::Null),
         Some(found) => Ok(Value::Array(group_values(alloc, found.as_slice())?)),
     }

@@ -6,6 +6,11 @@ pub mod forms;
 mod moment_text;
 mod utc_dates;
 
+// Fields by their names.
+mod field_index;
+pub mod named_fields;
+mod raw_values;
+
 // Properties.
 pub mod conveniences;
 pub mod properties;
@@ -15,5 +20,6 @@ pub mod laws;
 
 pub use conveniences::convenience;
 pub use forms::form_value;
+pub use named_fields::{INDEXED_FROM, NamedFields};
 pub use properties::{header_property, headers_value, last_value};
 pub use utc_dates::utc_value;

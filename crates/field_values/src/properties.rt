@@ -1,19 +1,18 @@
 // The properties that a header gives of an Email or a body part.
 ghost use Rattle.std.specs.Prelude.{◌≡◌, ◌++◌, None, Some, IfOk, OnOk, MatchOption, map, slice_get, option_to_list};
-ghost use Rattle.std.specs.List.{AllZip};
 ghost use Rattle.serde_json.specs.View.{view};
 ghost use Rattle.mail_header.specs.Fields.{field_view, names_and_raws};
-ghost use Rattle.field_values.specs.Forms.{IsFormData};
 ghost use Rattle.field_values.specs.HeaderProperties as spec;
 ghost use Rattle.field_values.specs.reading.Gathering as reading;
 
 use crate::forms::form_value;
+use crate::named_fields::NamedFields;
+use crate::raw_values::field_at;
 use email_properties::{HeaderForm, HeaderProperty};
 use json_texts::text_value;
 use mail_header::{Field, Fields};
 use serde_json::{Value, json};
 use std::alloc::{AllocError, Global};
-use text_words::same_text;
 
 /// The data of the last field of this name in a form; null where there is no such field.
 pub fn last_value(
@@ -30,81 +29,36 @@ pub fn last_value(
     }
 }
 
-/// The field at this place, from 0 on.
-fn field_at<'a>(fields: &Fields<'a>, at: usize) -> Option<Field<'a>>
-    ensures { MatchOption result (slice_get (names_and_raws fields.now) at ≡ None) (λ f. slice_get (names_and_raws fields.now) at ≡ Some (field_view f)) }
-{
-    let name = fields.name(at)?;
-    let raw = fields.raw(at)?;
-    Some(Field { name, raw })
-}
-
-/// Adds the data of the field at this place in a form, where it has this name.
-fn push_named(
-    values: &mut Vec<Value>,
-    alloc: Global,
-    fields: &Fields<'_>,
-    at: usize,
-    name: &[u8],
-    form: HeaderForm,
-) -> Result<(), AllocError>
-    ensures { OnOk result (reading.AddsData form (reading.raw_at name.now (names_and_raws fields.now) at) (map view values.old.items) (map view values.new.items)) }
-{
-    let Some(field) = field_at(fields, at) else {
-        return Ok(());
-    };
-    if !same_text(field.name, name) {
-        return Ok(());
-    }
-    values.push(form_value(alloc, form, field.raw)?)?;
-    Ok(())
-}
-
-/// The data of each field of this name in a form.
-fn values_named(
-    alloc: Global,
-    fields: &Fields<'_>,
-    name: &[u8],
-    form: HeaderForm,
-) -> Result<Vec<Value>, AllocError>
-    ensures { IfOk result (λ values. AllZip (IsFormData form) (spec.raws_named name.now (names_and_raws fields.now)) (map view values.items)) }
-{
-    let mut values = Vec::new(alloc);
-    for at in 0..fields.len() {
-        push_named(&mut values, alloc, fields, at, name, form)?;
-    }
-    Ok(values)
-}
-
-/// An array of the data of each field of this name in a form, in their order.
-fn list_value(
-    alloc: Global,
-    fields: &Fields<'_>,
-    name: &[u8],
-    form: HeaderForm,
-) -> Result<Value, AllocError>
-    ensures { IfOk result (λ value. spec.IsListData form name.now (names_and_raws fields.now) (view value)) }
-{
-    Ok(Value::Array(values_named(alloc, fields, name, form)?))
-}
-
 /// The data of a property `header:{name}` (RFC 8621 section 4.1.3). With `:all` it is an array with the data of each field of the
 /// name, in their order, where one that can't be read in the form is null; else it is that of the last field of the name, and null
-/// where there is none. Names are compared without regard to case.
+/// where there is none. Names are compared without regard to case. Where the fields have an index it costs one look-up beside what is
+/// read; properties whose names are equal but for case find the same list of raw values there.
 pub fn header_property(
     alloc: Global,
-    fields: &Fields<'_>,
+    fields: &NamedFields<'_>,
     property: &HeaderProperty<'_>,
 ) -> Result<Value, AllocError>
-    ensures { IfOk result (λ value. spec.IsHeaderPropertyData property.now (names_and_raws fields.now) (view value)) }
+    ensures { IfOk result (λ value. spec.IsHeaderPropertyData property.now fields.now (view value)) }
 {
     let name = property.name();
     let form = property.form();
     if property.all() {
         list_value(alloc, fields, name, form)
     } else {
-        last_value(alloc, fields, name, form)
+        fields.last_value(alloc, name, form)
     }
+}
+
+/// An array of the data of each field of this name in a form, in their order.
+fn list_value(
+    alloc: Global,
+    fields: &NamedFields<'_>,
+    name: &[u8],
+    form: HeaderForm,
+) -> Result<Value, AllocError>
+    ensures { IfOk result (λ value. spec.IsListData form name.now fields.now (view value)) }
+{
+    Ok(Value::Array(fields.values(alloc, name, form)?))
 }
 
 fn header_value(alloc: Global, field: Field<'_>) -> Result<Value, AllocError>

@@ -16,10 +16,10 @@ use Rattle.jmap_methods.specs.Outcome.{Agrees}
 use Rattle.jmap_methods.specs.declared.using.Using.{Using}
 use Rattle.jmap_methods.specs.declared.method_error.MethodError.{MethodError}
 use Rattle.jmap_methods.specs.declared.method_error.MethodError.TheVariants.{Memory}
-use Rattle.jmap_core.specs.References.{resolved_arguments}
-use Rattle.jmap_core.specs.Request.{CallData, call_data}
+use Rattle.result_references.specs.References.{resolved_arguments}
+use Rattle.result_references.specs.Call.{CallData, call_data}
 use Rattle.jmap_core.specs.Response.{IsWhole}
-use Rattle.jmap_core.specs.declared.call.Call.{Call}
+use Rattle.result_references.specs.declared.call.Call.{Call}
 use Rattle.gate_calls.specs.declared.mail.Over.{Over}
 use Rattle.gate_calls.specs.declared.method.Method.{Method}
 use Rattle.gate_calls.specs.declared.method.Method.TheVariants.{CoreEcho, MailboxGet, MailboxChanges, MailboxQuery, MailboxQueryChanges, ThreadGet}

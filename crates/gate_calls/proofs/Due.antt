@@ -9,7 +9,7 @@ use Rattle.email_get.specs.EmailParse.{RepliesEmailParse}
 use Rattle.email_get.proofs.Due.{due_get, due_parse}
 use Rattle.jmap_methods.specs.declared.using.Using.{Using}
 use Rattle.jmap_methods.specs.declared.method_error.MethodError.{MethodError}
-use Rattle.jmap_core.specs.Request.{CallData}
+use Rattle.result_references.specs.Call.{CallData}
 use Rattle.mail_state.specs.History.{MailHistory}
 use Rattle.query_changes.specs.Replies.{RepliesEmailQueryChanges, RepliesMailboxQueryChanges}
 use Rattle.query_core.specs.Answers.{RepliesEmailQuery, RepliesMailboxQuery}

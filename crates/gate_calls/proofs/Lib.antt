@@ -2,3 +2,4 @@ pub mod Meaning
 pub mod Due
 pub mod Calling
 pub mod OneAnswer
+pub mod Orders

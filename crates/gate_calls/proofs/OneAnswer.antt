@@ -18,7 +18,7 @@ use Rattle.gate_calls.specs.declared.method.Method.TheVariants.{CoreEcho, Mailbo
 use Rattle.gate_calls.specs.declared.method.Method.TheVariants.{ThreadChanges, EmailGet, EmailChanges, EmailQuery, EmailQueryChanges, EmailParse}
 use Rattle.jmap_methods.specs.declared.using.Using.{Using}
 use Rattle.jmap_methods.specs.declared.method_error.MethodError.{MethodError}
-use Rattle.jmap_core.specs.Request.{CallData}
+use Rattle.result_references.specs.Call.{CallData}
 use Rattle.query_changes.specs.Replies.{RepliesEmailQueryChanges, RepliesMailboxQueryChanges}
 use Rattle.query_core.specs.Answers.{RepliesEmailQuery, RepliesMailboxQuery}
 use Rattle.read_methods.specs.Changes.{AnswersChanges, Further, no_further, updated_properties}

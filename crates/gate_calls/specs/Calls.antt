@@ -8,8 +8,8 @@ use Rattle.gate_calls.specs.MethodNames.{method_asked, needs_mail_by}
 use Rattle.gate_calls.specs.declared.method.Method.{Method}
 use Rattle.jmap_methods.specs.declared.using.Using.{Using}
 use Rattle.jmap_methods.specs.declared.method_error.MethodError.{MethodError}
-use Rattle.jmap_core.specs.References.{resolved_arguments}
-use Rattle.jmap_core.specs.Request.{CallData}
+use Rattle.result_references.specs.References.{resolved_arguments}
+use Rattle.result_references.specs.Call.{CallData}
 use Rattle.gate_calls.specs.Mailings.{MailAndUploads}
 use Rattle.gate_calls.specs.Methods.{RepliesTo}
 

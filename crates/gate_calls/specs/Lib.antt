@@ -7,3 +7,4 @@ pub mod Calls
 pub mod Asking
 pub mod Places
 pub mod reading
+pub mod SortOptions

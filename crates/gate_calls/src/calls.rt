@@ -5,7 +5,7 @@ ghost use Rattle.serde_json.specs.Written.{has_float};
 ghost use Rattle.email_get.specs.Asked.{AsksAndMeets, FailsAfter};
 ghost use Rattle.jmap_methods.specs.declared.using.Using.{Using as using_type};
 ghost use Rattle.jmap_methods.specs.declared.method_error.MethodError.TheVariants.{Memory};
-ghost use Rattle.jmap_core.specs.Request.{call_data};
+ghost use Rattle.result_references.specs.Call.{call_data};
 ghost use Rattle.jmap_core.specs.Response.{IsWhole};
 ghost use Rattle.gate_calls.specs.Asking.{AsksAndMakes};
 ghost use Rattle.gate_calls.specs.Mailings.{AreOf, MailAndUploads};
@@ -18,8 +18,8 @@ use crate::method::{Method, method_named};
 use crate::methods::reply;
 use email_bodies::BodySource;
 use gate_world::Text;
-use jmap_core::{Call, resolve};
 use jmap_methods::{MethodError, Using, error_arguments};
+use result_references::{Call, resolve};
 use serde_json::Value;
 use std::alloc::{AllocError, Global};
 

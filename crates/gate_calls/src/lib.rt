@@ -14,7 +14,7 @@ mod needs;
 mod laws;
 
 pub use calls::responses_to;
-pub use laws::one_list_of_responses;
+pub use laws::{one_list_of_responses, orders_offered_are_taken};
 pub use mail::{Mail, Over};
 pub use method::{Method, method_named, name_needs_mail};
 pub use needs::needs_mail;

@@ -2,11 +2,11 @@
 ghost use Rattle.std.specs.Prelude.{◌≡◌, map};
 ghost use Rattle.std.specs.List.{list_any};
 ghost use Rattle.gate_calls.specs.MethodNames.{needs_mail_by};
-ghost use Rattle.jmap_core.specs.Request.{call_data};
+ghost use Rattle.result_references.specs.Call.{call_data};
 ghost use Rattle.gate_calls.specs.Calls.{needs_mail};
 
 use crate::method::name_needs_mail;
-use jmap_core::Call;
+use result_references::Call;
 
 fn any_needs_mail(calls: &[Call]) -> bool
     ensures { result ≡ list_any (λ call. needs_mail_by call.name) calls.now }

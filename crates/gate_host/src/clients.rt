@@ -30,8 +30,10 @@ pub trait Clients: Drop {
 
     ghost sends_nothing: { Self → Self → Type 0 };
 
-    /// What a call of `finish` changes.
+    /// What a call of `finish` changes, and one of `end`.
     ghost finishes: { Self → Self → Type 0 };
+
+    ghost ends: { Self → Self → Type 0 };
 
     /// Waits for the next client. False where no client will come.
     fn accept(&mut self) -> Result<bool, Failed>
@@ -65,5 +67,10 @@ pub trait Clients: Drop {
     /// The answer to this client is whole.
     fn finish(&mut self)
         ensures finishes { finishes self.old self.new }
+        ensures faults { client_faults self.new ≡ client_faults self.old };
+
+    /// No client is accepted any more: waits for those whose answer is whole and that have not read it yet, for a short time.
+    fn end(&mut self)
+        ensures ends { ends self.old self.new }
         ensures faults { client_faults self.new ≡ client_faults self.old };
 }

@@ -48,25 +48,29 @@ impl<L: ClientListener + Drop, C: Ticks + Drop> Clients for ListenerFront<L, C> 
 
     ghost use Rattle.std.specs.Prelude.{◌≡◌, true, IsNone, MatchResult};
     ghost use Rattle.client_front.specs.Accepting.{HandsOnFirst, HandsOnNobody, state, world};
-    ghost use Rattle.client_front.specs.Finishing.{Finishes};
+    ghost use Rattle.client_front.specs.Finishing.{Ends, Finishes};
     ghost use Rattle.client_front.specs.Handing.{BothSo, IfServed, NoneOrBothSo, ReceivesInTime, ReceivesNothing, SendsInTime, SendsNothing};
 
     // The client is the first whose head was whole; where none is given there is no listener, or it or the clock failed.
     ghost accepts = { λ old result new. MatchResult result
-        (λ came. (came ≡ true) × BothSo (λ before after. IfServed (HandsOnFirst (world L.Stream.shows C.reads L.waits L.comes) (state before.acceptor) (state after.acceptor)) after.current) old.clients new.clients)
-        (λ _. NoneOrBothSo (λ before after. HandsOnNobody (world L.Stream.shows C.reads L.waits L.comes) (state before.acceptor) (state after.acceptor) × IsNone after.current) old.clients new.clients) };
+        (λ came. (came ≡ true) × BothSo (λ before after. IfServed (HandsOnFirst (world L.Stream.shows L.Stream.gives C.reads L.waits L.comes) (state before.acceptor) (state after.acceptor)) after.current) old.clients new.clients)
+        (λ _. NoneOrBothSo (λ before after. HandsOnNobody (world L.Stream.shows L.Stream.gives C.reads L.waits L.comes) (state before.acceptor) (state after.acceptor) × IsNone after.current) old.clients new.clients) };
 
-    // The octets are just those that came for the client that is served, or that it took, in time.
-    ghost receives = { λ old octets new. BothSo (λ before after. BothSo (ReceivesInTime L.Stream.receives C.reads octets before.acceptor.clock after.acceptor.clock) before.current after.current) old.clients new.clients };
+    // The octets are just those that came for the client that is served, or that it took, in time. The listener and those who wait stay as they
+    // are.
+    ghost receives = { λ old octets new. BothSo (λ before after. BothSo (ReceivesInTime L.Stream.receives C.reads octets before.acceptor.clock after.acceptor.clock) before.current after.current × (after.acceptor ≡ record before.acceptor { clock = after.acceptor.clock })) old.clients new.clients };
 
-    ghost sends = { λ old octets new. BothSo (λ before after. BothSo (SendsInTime L.Stream.sends C.reads octets before.acceptor.clock after.acceptor.clock) before.current after.current) old.clients new.clients };
+    ghost sends = { λ old octets new. BothSo (λ before after. BothSo (SendsInTime L.Stream.sends C.reads octets before.acceptor.clock after.acceptor.clock) before.current after.current × (after.acceptor ≡ record before.acceptor { clock = after.acceptor.clock })) old.clients new.clients };
 
-    ghost receives_nothing = { λ old new. NoneOrBothSo (λ before after. NoneOrBothSo (ReceivesNothing L.Stream.receives C.reads before.acceptor.clock after.acceptor.clock) before.current after.current) old.clients new.clients };
+    ghost receives_nothing = { λ old new. NoneOrBothSo (λ before after. NoneOrBothSo (ReceivesNothing L.Stream.receives C.reads before.acceptor.clock after.acceptor.clock) before.current after.current × (after.acceptor ≡ record before.acceptor { clock = after.acceptor.clock })) old.clients new.clients };
 
-    ghost sends_nothing = { λ old new. NoneOrBothSo (λ before after. NoneOrBothSo (SendsNothing L.Stream.sends C.reads before.acceptor.clock after.acceptor.clock) before.current after.current) old.clients new.clients };
+    ghost sends_nothing = { λ old new. NoneOrBothSo (λ before after. NoneOrBothSo (SendsNothing L.Stream.sends C.reads before.acceptor.clock after.acceptor.clock) before.current after.current × (after.acceptor ≡ record before.acceptor { clock = after.acceptor.clock })) old.clients new.clients };
 
     // Who waits, the listener and the next key stay as they are, and nobody is served.
-    ghost finishes = { λ old new. NoneOrBothSo (λ before after. Finishes L.Stream.receives C.reads before.current (state before.acceptor) (state after.acceptor) × IsNone after.current) old.clients new.clients };
+    ghost finishes = { λ old new. NoneOrBothSo (λ before after. Finishes L.Stream.ends L.Stream.gives C.reads before.current (state before.acceptor) (state after.acceptor) × IsNone after.current) old.clients new.clients };
+
+    // Clients are looked at until none is open whose response is whole, or the listener or the clock failed.
+    ghost ends = { λ old new. NoneOrBothSo (λ before after. Ends (world L.Stream.shows L.Stream.gives C.reads L.waits L.comes) (state before.acceptor) (state after.acceptor) × IsNone after.current) old.clients new.clients };
 
     fn accept(&mut self) -> Result<bool, Failed> {
         let accepted = match &mut self.clients {
@@ -104,6 +108,13 @@ impl<L: ClientListener + Drop, C: Ticks + Drop> Clients for ListenerFront<L, C> 
     fn finish(&mut self) {
         if let Some(clients) = &mut self.clients {
             clients.finish();
+        }
+    }
+
+    fn end(&mut self) {
+        match &mut self.clients {
+            Some(clients) => clients.end(),
+            None => {}
         }
     }
 }

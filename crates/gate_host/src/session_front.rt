@@ -156,6 +156,8 @@ impl<L: SessionListener + Drop> Clients for SessionFront<L> {
 
     ghost sends_nothing = { λ old new. new ≡ record old { current = new.current; faults = one_more old.faults } };
 
+    ghost ends = { λ old new. new ≡ old };
+
     ghost finishes = { λ old new. ClosedBy L.closes old.listener old.current × (new ≡ record old { current = None }) };
 
     fn accept(&mut self) -> Result<bool, Failed> {
@@ -176,4 +178,6 @@ impl<L: SessionListener + Drop> Clients for SessionFront<L> {
     fn finish(&mut self) {
         self.close_client();
     }
+
+    fn end(&mut self) {}
 }

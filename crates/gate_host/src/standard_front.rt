@@ -107,6 +107,8 @@ impl<I: Read + Drop, O: Write + Drop> Clients for StandardFront<I, O> {
 
     ghost finishes = { λ old new. new ≡ old };
 
+    ghost ends = { λ old new. new ≡ old };
+
     fn accept(&mut self) -> Result<bool, Failed> {
         Ok(self.next_client())
     }
@@ -120,4 +122,6 @@ impl<I: Read + Drop, O: Write + Drop> Clients for StandardFront<I, O> {
     }
 
     fn finish(&mut self) {}
+
+    fn end(&mut self) {}
 }

@@ -11,7 +11,8 @@ use Rattle.email_bodies.specs.declared.source.MessagePlace.{MessagePlace}
 use Rattle.email_get.specs.Asked.{AsksAnd, FailsAfter}
 use Rattle.email_get.specs.Blobs.{FindsBlob, OctetsFound}
 use Rattle.email_get.proofs.Due.{due_blob}
-use Rattle.jmap_core.specs.Request.{CallData, RequestData}
+use Rattle.jmap_core.specs.Request.{RequestData}
+use Rattle.result_references.specs.Call.{CallData}
 use Rattle.jmap_methods.specs.declared.method_error.MethodError.{MethodError}
 use Rattle.gate_calls.specs.declared.mail.Mail.TheVariants as code
 use Rattle.gate_calls.specs.declared.mail.Over.{Over}

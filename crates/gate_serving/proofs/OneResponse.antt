@@ -3,7 +3,7 @@ use Rattle.std.proofs.Common.{◌≡◌, ◌++◌, ℕ, List, [], Option, Ok, Er
 use Rattle.email_bodies.specs.Asking.{BodyAsk}
 use Rattle.email_get.specs.Blobs.{FindsBlob, OctetsFound}
 use Rattle.jmap_methods.specs.declared.using.Using.{Using}
-use Rattle.jmap_core.specs.Request.{CallData}
+use Rattle.result_references.specs.Call.{CallData}
 use Rattle.mail_maps.specs.Rows.{Rows}
 use Rattle.gate_calls.specs.Calls.{AnswersCalls}
 use Rattle.gate_calls.specs.Mailings.{Mailing, MailAndUploads}

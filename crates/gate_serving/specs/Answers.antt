@@ -7,7 +7,8 @@ use Rattle.blob_store.specs.declared.store.TheConstants.{MAX_KEPT_OCTETS}
 use Rattle.http_door.specs.Responses.{http_response, json_media, problem_media, download_media}
 use Rattle.http_service.specs.Refusals.{refusal_status}
 use Rattle.jmap_core.specs.Problem.{text_of_problem, status_of as problem_status}
-use Rattle.jmap_core.specs.Request.{CallData, RequestData}
+use Rattle.jmap_core.specs.Request.{RequestData}
+use Rattle.result_references.specs.Call.{CallData}
 use Rattle.jmap_core.specs.Response.{response_data}
 use Rattle.jmap_core.specs.Session.{session_data, session_state_text}
 use Rattle.gate_calls.specs.Calls.{AnswersCalls, FirstCallsAsk}

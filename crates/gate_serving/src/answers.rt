@@ -5,7 +5,8 @@ ghost use Rattle.serde_json.specs.View.{view};
 ghost use Rattle.serde_json.specs.Written.{compact_text};
 ghost use Rattle.blob_store.specs.Uploads.{blob_id as id_of};
 ghost use Rattle.jmap_core.specs.Problem.{text_of_problem, status_of as status_of_problem};
-ghost use Rattle.jmap_core.specs.Request.{CallData, call_data, request_data};
+ghost use Rattle.jmap_core.specs.Request.{request_data};
+ghost use Rattle.result_references.specs.Call.{CallData, call_data};
 ghost use Rattle.jmap_core.specs.Response.{IsWhole};
 ghost use Rattle.jmap_core.specs.Session.{session_data};
 ghost use Rattle.email_get.specs.Asked.{FailsAfter};
@@ -28,11 +29,12 @@ use http::StatusCode;
 use http_door::{MAX_REQUEST_OCTETS, download_media, json_media, problem_media};
 use http_service::Refusal;
 use jmap_core::{
-    Call, LimitName, MAX_SIZE_REQUEST, MAX_SIZE_UPLOAD, Request, RequestError, problem_text,
+    LimitName, MAX_SIZE_REQUEST, MAX_SIZE_UPLOAD, Request, RequestError, problem_text,
     response_text, session_object, session_state,
 };
 use jmap_methods::ACCOUNT_ID;
 use mail_state::MailState;
+use result_references::Call;
 use serde_json::{Value, json};
 use std::alloc::{AllocError, Global};
 

@@ -13,7 +13,7 @@ use Rattle.mail_header.specs.WhiteEnd.{some_text}
 use Rattle.header_addresses.specs.Names.{IsGroup, members_in, IsAddressesForm, IsGroupsForm, NoGroups, Groups}
 use Rattle.header_addresses.proofs.AddresseeLemmas.{one_list}
 
-zip_one : {A B : Type 0} (R : A → B → Type 0) → ((x : A) (y z : B) → R x y → R x z → y ≡ z) → (xs : List A) (ys zs : List B) → AllZip R xs ys → AllZip R xs zs → ys ≡ zs
+pub zip_one : {A B : Type 0} (R : A → B → Type 0) → ((x : A) (y z : B) → R x y → R x z → y ≡ z) → (xs : List A) (ys zs : List B) → AllZip R xs ys → AllZip R xs zs → ys ≡ zs
 zip_one R f [] [] [] g h = refl
 zip_one R f [] [] (z ∷ zs) g h = absurd h
 zip_one R f [] (y ∷ ys) zs g h = absurd g
@@ -31,7 +31,7 @@ one_name m _ _ (OfPhrase s e g) (NoPhrase y f h) = absurd cc
 one_name m _ _ (NoPhrase x e g) (OfPhrase t f h) = absurd cc
 one_name m _ _ (NoPhrase x e g) (NoPhrase y f h) = one_comment_name _ x y g h
 
-one_address : (m : Mailbox) (a b : Address) → IsAddress m a → IsAddress m b → a ≡ b
+pub one_address : (m : Mailbox) (a b : Address) → IsAddress m a → IsAddress m b → a ≡ b
 one_address m a b g h =
     ap (λ (u : Option (List ℕ)). record { name = u; email = a.email }) (one_name m a.name b.name g.name h.name)
     ∙ ap (λ (u : List ℕ). record { name = b.name; email = u }) (g.email ∙ sym h.email)

@@ -4,3 +4,4 @@ pub mod ElementLemmas
 pub mod AddresseeLemmas
 pub mod GroupLemmas
 pub mod FormLemmas
+pub mod PartLemmas

@@ -1,4 +1,5 @@
 pub mod Mailboxes
 pub mod AddressLists
 pub mod Names
+pub mod Parts
 pub mod reading

@@ -191,7 +191,7 @@ fn groups(alloc: Global, elements: &[Element<'_, '_>]) -> Result<Vec<Group>, All
 }
 
 /// The elements without the empty places, where they are a list of one or more addresses.
-fn list_of<'a, 'b>(
+pub(crate) fn list_of<'a, 'b>(
     alloc: Global,
     tokens: &'b [Token<'a>],
 ) -> Result<Option<Vec<Element<'a, 'b>>>, AllocError>

@@ -4,3 +4,4 @@ pub mod BracketReading
 pub mod OneToken
 pub mod LeadingLemmas
 pub mod LexemeLemmas
+pub mod ClosingLemmas

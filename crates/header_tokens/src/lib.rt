@@ -6,6 +6,9 @@ pub mod kinds;
 pub mod token;
 pub mod tokens;
 
+// Brackets that are closed.
+pub mod closings;
+
 // Lexemes, and what words spell.
 pub mod lexemes;
 pub mod words;

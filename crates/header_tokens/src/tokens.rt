@@ -1,5 +1,6 @@
 // The tokens of a raw value (RFC 5322 section 3.2).
 ghost use Rattle.std.specs.Prelude.{false, None, ◌≡◌, ◌≢◌, ◌<◌, ◌≤◌, ◌+◌, ◌++◌, ℕ, List, IfOk, MatchOption, IfSome, IfNone, length};
+ghost use Rattle.header_tokens.specs.Closings.{IsLiteral};
 ghost use Rattle.header_tokens.specs.Tokens as tokens;
 ghost use Rattle.header_tokens.specs.reading.TokenReading as reading;
 ghost use Rattle.header_tokens.specs.TokenView.{token_view, tokens_view};
@@ -161,6 +162,13 @@ pub fn quoted_at(text: &[u8]) -> Option<(&[u8], &[u8])>
     ensures { MatchOption result ((x y : List ℕ) → tokens.IsQuoted x → text.now ≢ x ++ y) (λ r. tokens.IsQuoted r.0.now × (text.now ≡ r.0.now ++ r.1.now)) }
 {
     bracketed_at(text, b'"', NONE, b'"')
+}
+
+/// The domain literal at the front, and what follows it, where the text begins with one that is closed.
+pub fn literal_at(text: &[u8]) -> Option<(&[u8], &[u8])>
+    ensures { MatchOption result ((x y : List ℕ) → IsLiteral x → text.now ≢ x ++ y) (λ r. IsLiteral r.0.now × (text.now ≡ r.0.now ++ r.1.now)) }
+{
+    bracketed_at(text, b'[', NONE, b']')
 }
 
 /// The token at the front, and how many octets it has.

@@ -30,8 +30,8 @@ impl Ticks for SteppingClock {
 }
 
 /// A client that is seen so often to have sent nothing, then so often to have sent a part of a head, and a whole one from then on. It
-/// sends this many octets in pieces of at most so many; the first of each piece is an octet of the head, or `.` past it. It takes one
-/// octet a turn.
+/// sends this many octets in pieces of at most so many, and ends then; the first of each piece is an octet of the head, or `.` past it.
+/// With pieces of 0 it sends none and does not end. It takes one octet a turn.
 #[derive(Drop)]
 pub(crate) struct ScriptedClient {
     silent: u64,
@@ -53,6 +53,10 @@ impl ClientStream for ScriptedClient {
 
     ghost sends = { λ _ _ _ _. ⊤ };
 
+    ghost gives = { λ _ _ _ _. ⊤ };
+
+    ghost ends = { λ _ _. ⊤ };
+
     fn peek(&self, into: &mut [u8]) -> Option<usize> {
         let looks = self.looks.get();
         self.looks.set(looks.saturating_add(1));
@@ -72,6 +76,13 @@ impl ClientStream for ScriptedClient {
         let count = left.min(self.piece).min(into.len() as u64);
         self.given = self.given.saturating_add(count);
         Some(count as usize)
+    }
+
+    fn receive_now(&mut self, into: &mut [u8]) -> Option<usize> {
+        match self.receive(into, 0) {
+            Some(0) if self.given >= self.octets => None,
+            got => got,
+        }
     }
 
     fn send(&mut self, from: &[u8], _limit: u64) -> Option<usize> {

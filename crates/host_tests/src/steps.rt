@@ -68,6 +68,7 @@ impl<C: Clients> Scenario<C> {
             "recv" | "take" | "read" => self.receive(step, out),
             "send" => write!(out, ":{:?}", self.world.send(step.octets)),
             "finish" => Ok(self.world.finish()),
+            "quit" => Ok(self.world.front.end()),
             "dial" => write!(out, ":{:?}", self.world.dial()),
             "write" => write!(out, ":{:?}", self.world.write(step.octets)),
             "hang" => Ok(self.world.hang_up()),

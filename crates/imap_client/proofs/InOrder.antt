@@ -14,12 +14,12 @@ use Rattle.imap_syntax.specs.declared.response.Status.TheVariants as status
 use Rattle.told_folder.specs.declared.exchange.Exchange.{Exchange}
 use Rattle.imap_exchange.specs.declared.link_end.LinkEnd.{LinkEnd}
 use Rattle.imap_exchange.specs.Exchanges.{IsTaken, IsDuePart, continuations, pieces_due}
-use Rattle.imap_exchange.specs.Answering.{HangsUp}
+use Rattle.imap_exchange.specs.Answering.{HangsUp, is_some_taken}
 use Rattle.imap_client.specs.declared.plan.Due.{Due}
 use Rattle.imap_client.specs.declared.plan.Due.TheVariants as due
 use Rattle.imap_client.specs.LinkLife.{LinkLife, ClientState, next_number}
 use Rattle.imap_client.specs.Calls.{CompletesExchange, Breaks}
-use Rattle.imap_client.specs.Plans.{Planned, Ran, Begun, Then, IsEnd, Finished, Failed, Broken, Gone, Wanting, Follows}
+use Rattle.imap_client.specs.Plans.{Planned, Ran, Begun, Then, IsEnd, Finished, Failed, Broken, Gone, Wanting, Follows, ends_torn}
 use Rattle.imap_client.specs.Sent.{due_texts, next_text}
 use Rattle.imap_client.proofs.Finishing.{spoken_takes}
 use Rattle.imap_client.proofs.OneRun.{ran_number}
@@ -146,3 +146,22 @@ commands_are_sent_in_order plan life left xs client result events f =
     let so = joined_by f.after.goes_on (plan xs) (next_number life + length xs) (flat_map store_took_in f.so_far) (flat_map store_took_in f.last)
     (due_texts (next_number life) xs) (ran_takes f.ran) ended in
     (so.0, ap (λ (l : List ℕ). l ++ so.0) took_is ∙ so.1)
+
+-- ---- a command that is torn
+
+-- where nothing was taken
+untaken : (events : List Event) → flat_map store_took_in events ≡ [] → false ≡ is_some_taken (flat_map store_took_in events)
+untaken events none = ap is_some_taken (sym none)
+
+end_torn : {now : Due} {after left : LinkLife} {result : Result (Unit {0}) LinkEnd} {last : List Event} (e : IsEnd now after left result last)
+    → ends_torn e ≡ is_some_taken (flat_map store_took_in last)
+end_torn {last = last} (Finished is ok none same) = untaken last (ap (λ (l : List Event). flat_map store_took_in l) none)
+end_torn {after = after} {last = last} (Failed why is failed hangs same) = untaken last (hangs_takes after.goes_on last hangs)
+end_torn (Broken command e is failed b) = ap (λ (l : LinkLife). is_some_taken l.part) b.after_is ∙ ap is_some_taken (sym (spoken_takes b.speaks))
+end_torn {last = last} (Gone command is over lost none same) = untaken last (ap (λ (l : List Event). flat_map store_took_in l) none)
+end_torn {after = after} {last = last} (Wanting memory hangs same) = untaken last (hangs_takes after.goes_on last hangs)
+
+-- a plan ends with a torn command exactly where octets were taken after its exchanges
+pub torn_commands_were_taken : (plan : Planned) (life left : LinkLife) (xs : List Exchange) (client : ClientState) (result : Result (Unit {0}) LinkEnd) (events : List Event)
+    (follows : Follows plan life left xs client result events) → ends_torn follows.ends ≡ is_some_taken (flat_map store_took_in follows.last)
+torn_commands_were_taken plan life left xs client result events follows = end_torn follows.ends

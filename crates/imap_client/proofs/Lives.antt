@@ -20,7 +20,7 @@ use Rattle.imap_client.specs.LinkLife.{with_exchange}
 use Rattle.imap_client.specs.Capabilities.{special_use_after}
 use Rattle.imap_exchange.specs.Answering.{selected_by, end_unless}
 use Rattle.imap_exchange.specs.Answering.{Converses, answer_of, IsOf, HangsUp}
-use Rattle.imap_client.specs.Calls.{IsExchanged}
+use Rattle.imap_client.specs.Calls.{IsExchanged, is_torn}
 use Rattle.imap_exchange.proofs.Verdicts.{Begins-more, Passes-more}
 
 -- further octets after a tagged line
@@ -107,21 +107,21 @@ pub selected_of : (life : LinkLife) → life.goes_on ≡ true → selected life 
 selected_of life is = rw is refl
 
 -- the exchange by the life's own words
-goes_ok : {es : List Event} (life : LinkLife) → life.goes_on ≡ true → (command : Command) (x : Exchange) (n : ℕ) (before after : Octets) (up : Bool) (client : ClientState)
+goes_ok : {es : List Event} (life : LinkLife) → life.goes_on ≡ true → (command : Command) (x : Exchange) (n : ℕ) (before after : Octets) (up taken : Bool) (client : ClientState)
     (folder : Option (List ℕ)) → n ≡ next_number life → before ≡ unread life → folder ≡ selected life → x.command ≡ command → x.selected ≡ folder → Converses (tag_of n)
-    (command_pieces command n) before after up (Ok (record { responses = x.responses; status = x.status; code = x.code })) es
+    (command_pieces command n) before after up taken (Ok (record { responses = x.responses; status = x.status; code = x.code })) es
     → ((gave took : List ℕ) → IsExchange (next_number life) x after.octets (life.rest ++ gave) took → after.given ≡ length life.gave + length gave → Stands client
-    (with_exchange life gave took x after.octets up)) → (left : LinkLife) × IsExchanged life command left client (Ok x) es
-goes_ok {es} life on command x n before after up client folder n_is before_is folder_is command_is selected_is so stands =
-    let there : Converses (tag_of (next_number life)) (command_pieces command (next_number life)) (unread life) after up
+    (with_exchange life gave took x after.octets up)) → (left : LinkLife) × IsExchanged life command left client (Ok x) es × (false ≡ is_torn (Ok x) left)
+goes_ok {es} life on command x n before after up taken client folder n_is before_is folder_is command_is selected_is so stands =
+    let there : Converses (tag_of (next_number life)) (command_pieces command (next_number life)) (unread life) after up taken
     (Ok (record { responses = x.responses; status = x.status; code = x.code })) es =
-    subst (λ (u : Octets). Converses (tag_of (next_number life)) (command_pieces command (next_number life)) u after up
+    subst (λ (u : Octets). Converses (tag_of (next_number life)) (command_pieces command (next_number life)) u after up taken
     (Ok (record { responses = x.responses; status = x.status; code = x.code })) es) before_is
-    (subst (λ (k : ℕ). Converses (tag_of k) (command_pieces command k) before after up (Ok (record { responses = x.responses; status = x.status; code = x.code })) es) n_is
+    (subst (λ (k : ℕ). Converses (tag_of k) (command_pieces command k) before after up taken (Ok (record { responses = x.responses; status = x.status; code = x.code })) es) n_is
     so) in
     let verdict : VerdictOf (next_number life) x.command (life.rest ++ there.speaks.gave) (Done x.responses x.status x.code after.octets) =
     subst (λ (c : Command). VerdictOf (next_number life) c (life.rest ++ there.speaks.gave) (Done x.responses x.status x.code after.octets)) (sym command_is) there.comes.0 in
-    let taken : IsTaken (command_pieces x.command (next_number life)) x.responses x.status there.speaks.took =
+    let part : IsTaken (command_pieces x.command (next_number life)) x.responses x.status there.speaks.took =
     subst (λ (c : Command). IsTaken (command_pieces c (next_number life)) x.responses x.status there.speaks.took) (sym command_is) there.comes.1 in (
       with_exchange life there.speaks.gave there.speaks.took x after.octets up,
       record {
@@ -137,17 +137,19 @@ goes_ok {es} life on command x n before after up client folder n_is before_is fo
           refused = there.comes.3;
           all_taken = there.comes.4;
         };
-        stands = stands there.speaks.gave there.speaks.took (record { verdict = verdict; taken = taken }) there.comes.2;
+        stands = stands there.speaks.gave there.speaks.took (record { verdict = verdict; taken = part }) there.comes.2;
       },
+      refl,
     )
 
 -- the life goes on
-pub goes_on : {es : List Event} (life : LinkLife) (command : Command) (x : Exchange) (now folder : Option (List ℕ)) (special : Bool) (n : ℕ) (alive up : Bool)
-    (before after : Octets) → alive ≡ true → up ≡ true → Stands (place_of alive before n folder special) life → IsOf command folder x now → Converses (tag_of n) (command_pieces command n) before after up
+pub goes_on : {es : List Event} (life : LinkLife) (command : Command) (x : Exchange) (now folder : Option (List ℕ)) (special : Bool) (n : ℕ) (alive up taken : Bool)
+    (before after : Octets) → alive ≡ true → up ≡ true → Stands (place_of alive before n folder special) life → IsOf command folder x now → Converses (tag_of n) (command_pieces command n) before after up taken
     (answer_of (Ok (x, now))) es → (left : LinkLife) × IsExchanged life command left (place_of alive after (n + 1) now (special_use_after special x)) (Ok x) es
-goes_on life command x now folder special n alive up before after is_alive is_up stands of so =
+    × (false ≡ is_torn (Ok x) left)
+goes_on life command x now folder special n alive up taken before after is_alive is_up stands of so =
     let on : life.goes_on ≡ true = sym stands.alive ∙ is_alive in
-    goes_ok life on command x n before after up (place_of alive after (n + 1) now (special_use_after special x)) folder (stands.number_is on)
+    goes_ok life on command x n before after up taken (place_of alive after (n + 1) now (special_use_after special x)) folder (stands.number_is on)
     (stands.unread_is on) stands.selected_is of.command_is of.selected_is so (λ gave took here given.
     let next = with_exchange life gave took x after.octets up in
     record {
@@ -165,23 +167,23 @@ goes_on life command x now folder special n alive up before after is_alive is_up
     selected_after_by same same' = (λ i. selected_by (sym same i) x.status (same' i))
 
 -- the store refused while the link failed
-pub goes_down : {es : List Event} (life : LinkLife) (command : Command) (x : Exchange) (now folder : Option (List ℕ)) (special : Bool) (n : ℕ) (alive up : Bool)
-    (before after : Octets) → alive ≡ true → up ≡ false → Stands (place_of alive before n folder special) life → IsOf command folder x now → Converses (tag_of n) (command_pieces command n) before after up
-    (answer_of (Ok (x, now))) es → (left : LinkLife) × IsExchanged life command left fresh (Ok x) es
-goes_down life command x now folder special n alive up before after is_alive is_down stands of so =
+pub goes_down : {es : List Event} (life : LinkLife) (command : Command) (x : Exchange) (now folder : Option (List ℕ)) (special : Bool) (n : ℕ) (alive up taken : Bool)
+    (before after : Octets) → alive ≡ true → up ≡ false → Stands (place_of alive before n folder special) life → IsOf command folder x now → Converses (tag_of n) (command_pieces command n) before after up taken
+    (answer_of (Ok (x, now))) es → (left : LinkLife) × IsExchanged life command left fresh (Ok x) es × (false ≡ is_torn (Ok x) left)
+goes_down life command x now folder special n alive up taken before after is_alive is_down stands of so =
     let on : life.goes_on ≡ true = sym stands.alive ∙ is_alive in
-    goes_ok life on command x n before after up fresh folder (stands.number_is on) (stands.unread_is on) stands.selected_is of.command_is of.selected_is so
+    goes_ok life on command x n before after up taken fresh folder (stands.number_is on) (stands.unread_is on) stands.selected_is of.command_is of.selected_is so
     (λ gave took here given. stands_ended (with_exchange life gave took x after.octets up) is_down (life_more life gave took after.octets x up on stands.spelled here))
 
 -- the exchange isn't completed
-pub goes_not : {xs : List Event} (ys : List Event) (life : LinkLife) (command : Command) (e : LinkEnd) (folder : Option (List ℕ)) (special : Bool) (n : ℕ) (alive up : Bool)
-    (before after : Octets) → alive ≡ true → Stands (place_of alive before n folder special) life → Converses (tag_of n) (command_pieces command n) before after up (Err e) xs → HangsUp up ys → (left : LinkLife)
-    × IsExchanged life command left fresh (Err e) (xs ++ ys)
-goes_not {xs} ys life command e folder special n alive up before after is_alive stands so hangs =
+pub goes_not : {xs : List Event} (ys : List Event) (life : LinkLife) (command : Command) (e : LinkEnd) (folder : Option (List ℕ)) (special : Bool) (n : ℕ) (alive up taken : Bool)
+    (before after : Octets) → alive ≡ true → Stands (place_of alive before n folder special) life → Converses (tag_of n) (command_pieces command n) before after up taken (Err e) xs → HangsUp up ys
+    → (left : LinkLife) × IsExchanged life command left fresh (Err e) (xs ++ ys) × (taken ≡ is_torn (Err e) left)
+goes_not {xs} ys life command e folder special n alive up taken before after is_alive stands so hangs =
     let on : life.goes_on ≡ true = sym stands.alive ∙ is_alive in
-    let there : Converses (tag_of (next_number life)) (command_pieces command (next_number life)) (unread life) after up (Err e) xs =
-    subst (λ (u : Octets). Converses (tag_of (next_number life)) (command_pieces command (next_number life)) u after up (Err e) xs) (stands.unread_is on)
-    (subst (λ (k : ℕ). Converses (tag_of k) (command_pieces command k) before after up (Err e) xs) (stands.number_is on) so) in (
+    let there : Converses (tag_of (next_number life)) (command_pieces command (next_number life)) (unread life) after up taken (Err e) xs =
+    subst (λ (u : Octets). Converses (tag_of (next_number life)) (command_pieces command (next_number life)) u after up taken (Err e) xs) (stands.unread_is on)
+    (subst (λ (k : ℕ). Converses (tag_of k) (command_pieces command k) before after up taken (Err e) xs) (stands.number_is on) so) in (
       with_part life there.speaks.gave there.speaks.took,
       record {
         ends = record {
@@ -200,6 +202,7 @@ goes_not {xs} ys life command e folder special n alive up before after is_alive 
         };
         stands = stands_ended (with_part life there.speaks.gave there.speaks.took) refl (life_part life there.speaks.gave there.speaks.took stands.spelled);
       },
+      there.taken_is,
     )
   where
     ended_by : (up : Bool) (talk : List Event) → xs ≡ talk ++ end_unless up → HangsUp up ys → xs ++ ys ≡ talk ++ LinkEnded ∷ []

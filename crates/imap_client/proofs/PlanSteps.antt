@@ -15,9 +15,9 @@ use Rattle.imap_client.specs.declared.plan.Due.TheVariants as due
 use Rattle.imap_client.specs.declared.plan.Refusal.{Refusal}
 use Rattle.imap_client.specs.Refusals.{refusal_end}
 use Rattle.imap_client.specs.LinkLife.{LinkLife, ClientState, Stands, fresh, hung_up}
-use Rattle.imap_client.specs.Calls.{IsExchanged}
+use Rattle.imap_client.specs.Calls.{IsExchanged, is_torn}
 use Rattle.imap_client.specs.Plans.{Planned, StopsAtRefusal, NextExchange, Ran, Begun, Then, HearsAll, HeardNone, HeardMore, Finished, Failed, Broken, Gone, Wanting, Follows}
-use Rattle.imap_client.specs.Plans.{FollowsTo}
+use Rattle.imap_client.specs.Plans.{FollowsTo, ends_torn}
 use Rattle.imap_client.proofs.Lives.{stands_ended, life_hung}
 
 -- what is planned now is the plan after these exchanges
@@ -37,6 +37,11 @@ after_more {plan} {now} {next} {heard} x so step = record { same = λ more. step
 pub due_after : {plan now : Planned} {heard : List Exchange} → IsAfter plan heard now → now [] ≡ plan heard
 due_after {plan} {now} {heard} so = so.same [] ∙ ap plan (append-nil heard)
 
+-- what an exchange comes to, in whatever life the client stands, and whether its command is torn
+abbrev pub Exchanged : ClientState → Command → ClientState → Result Exchange LinkEnd → Bool → List Event → Type 0
+Exchanged client command next result torn es =
+    (life : LinkLife) → Stands client life → (left : LinkLife) × IsExchanged life command left next result es × (torn ≡ is_torn result left)
+
 -- so far these exchanges were completed
 pub record Going (plan : Planned) (life : LinkLife) (heard : List Exchange) (client : ClientState) (events : List Event) : Type 0 where
   pub after : LinkLife
@@ -49,9 +54,9 @@ going_none plan life client stands = record { after = life; ran = Begun; stands 
 
 -- one exchange more
 pub going_more : {plan : Planned} {life : LinkLife} {heard : List Exchange} {client : ClientState} {xs : List Event} (ys : List Event) (command : Command) (x : Exchange)
-    (next : ClientState) → plan heard ≡ due.Send command → Going plan life heard client xs
-    → ((mid : LinkLife) → Stands client mid → (left : LinkLife) × IsExchanged mid command left next (Ok x) ys) → Going plan life (heard ++ x ∷ []) next (xs ++ ys)
-going_more ys command x next is so goes =
+    (next : ClientState) (torn : Bool) → plan heard ≡ due.Send command → Going plan life heard client xs → Exchanged client command next (Ok x) torn ys
+    → Going plan life (heard ++ x ∷ []) next (xs ++ ys)
+going_more ys command x next torn is so goes =
     let went = goes so.after so.stands in
     let more : NextExchange _ _ = record { before = so.after; command = command; exchange = x; after = went.0; events = ys; asked = is; completes = went.1.ends } in
     record { after = went.0; ran = Then more so.ran; stands = went.1.stands }
@@ -80,8 +85,9 @@ done_alive {plan} {heard} {alive} stops is down = done_alive_by plan heard alive
 -- ---- its end
 
 -- the life that is left, and what is said of it
-abbrev pub Left : Planned → LinkLife → List Exchange → ClientState → Result (Unit {0}) LinkEnd → List Event → Type 0
-Left plan life heard client result events = (left : LinkLife) × Follows plan life left heard client result events
+abbrev pub Left : Planned → LinkLife → List Exchange → ClientState → Result (Unit {0}) LinkEnd → Bool → List Event → Type 0
+Left plan life heard client result torn events =
+    (left : LinkLife) × (follows : Follows plan life left heard client result events) × (torn ≡ ends_torn follows.ends)
 
 -- the life is ended where it goes on
 hung : {client : ClientState} {life : LinkLife} (ys : List Event) → Stands client life → HangsUp client.alive ys → HangsUp life.goes_on ys
@@ -92,17 +98,17 @@ stands_hung {client} {life} next none stands = subst (λ (c : ClientState). Stan
 
 -- where the command that is due isn't completed, the plan ends with the error of its exchange
 pub broken : {plan : Planned} {life : LinkLife} {heard : List Exchange} {client : ClientState} {xs : List Event} (ys : List Event) (command : Command) (e : LinkEnd)
-    (next : ClientState) → plan heard ≡ due.Send command → Going plan life heard client xs
-    → ((mid : LinkLife) → Stands client mid → (left : LinkLife) × IsExchanged mid command left next (Err e) ys) → Left plan life heard next (Err e) (xs ++ ys)
-broken {xs = xs} ys command e next is so goes =
+    (next : ClientState) (torn : Bool) → plan heard ≡ due.Send command → Going plan life heard client xs → Exchanged client command next (Err e) torn ys
+    → Left plan life heard next (Err e) torn (xs ++ ys)
+broken {xs = xs} ys command e next torn is so goes =
     let went = goes so.after so.stands in
-    (went.0, record { after = so.after; so_far = xs; last = ys; ran = so.ran; ends = Broken command e is refl went.1.ends; whole = refl; stands = went.1.stands })
+    (went.0, record { after = so.after; so_far = xs; last = ys; ran = so.ran; ends = Broken command e is refl went.1.ends; whole = refl; stands = went.1.stands }, went.2)
 
 -- where the plan fails and the link is hung up, it ends with the refusal's error
-pub refused : {plan : Planned} {life : LinkLife} {heard : List Exchange} {client : ClientState} {xs : List Event} (ys : List Event) (why : Refusal) (next : ClientState)
-    → plan heard ≡ due.Fails why → next ≡ fresh → Going plan life heard client xs
-    → HangsUp client.alive ys → Left plan life heard next (Err (refusal_end why)) (xs ++ ys)
-refused {xs = xs} ys why next is none so hangs = (
+pub refused : {plan : Planned} {life : LinkLife} {heard : List Exchange} {client : ClientState} {xs : List Event} (ys : List Event) (why : Refusal) (next : ClientState) (torn : Bool)
+    → torn ≡ false → plan heard ≡ due.Fails why → next ≡ fresh → Going plan life heard client xs
+    → HangsUp client.alive ys → Left plan life heard next (Err (refusal_end why)) torn (xs ++ ys)
+refused {xs = xs} ys why next torn whole is none so hangs = (
   hung_up so.after,
   record {
     after = so.after;
@@ -113,12 +119,13 @@ refused {xs = xs} ys why next is none so hangs = (
     whole = refl;
     stands = stands_hung next none so.stands;
   },
+  whole,
 )
 
 -- where memory runs out and the link is hung up, the plan ends with out of memory
-pub wanting : {plan : Planned} {life : LinkLife} {heard : List Exchange} {client : ClientState} {xs : List Event} (ys : List Event) (next : ClientState) → next ≡ fresh
-    → Going plan life heard client xs → HangsUp client.alive ys → Left plan life heard next (Err end.Memory) (xs ++ ys)
-wanting {xs = xs} ys next none so hangs = (
+pub wanting : {plan : Planned} {life : LinkLife} {heard : List Exchange} {client : ClientState} {xs : List Event} (ys : List Event) (next : ClientState) (torn : Bool)
+    → torn ≡ false → next ≡ fresh → Going plan life heard client xs → HangsUp client.alive ys → Left plan life heard next (Err end.Memory) torn (xs ++ ys)
+wanting {xs = xs} ys next torn whole none so hangs = (
   hung_up so.after,
   record {
     after = so.after;
@@ -129,13 +136,14 @@ wanting {xs = xs} ys next none so hangs = (
     whole = refl;
     stands = stands_hung next none so.stands;
   },
+  whole,
 )
 
 -- where a command is due and the client isn't alive, the plan ends with a lost link
 pub gone : {plan : Planned} {life : LinkLife} {heard : List Exchange} {client : ClientState} {xs : List Event} (ys : List Event) (command : Command) (next : ClientState)
-    → plan heard ≡ due.Send command → next ≡ fresh → client.alive ≡ false → Going plan life heard client xs
-    → HangsUp client.alive ys → Left plan life heard next (Err end.Lost) (xs ++ ys)
-gone {xs = xs} ys command next is none dead so hangs =
+    (torn : Bool) → torn ≡ false → plan heard ≡ due.Send command → next ≡ fresh → client.alive ≡ false → Going plan life heard client xs
+    → HangsUp client.alive ys → Left plan life heard next (Err end.Lost) torn (xs ++ ys)
+gone {xs = xs} ys command next torn whole is none dead so hangs =
     let over = sym so.stands.alive ∙ dead in (
       so.after,
       record {
@@ -147,20 +155,21 @@ gone {xs = xs} ys command next is none dead so hangs =
         whole = refl;
         stands = subst (λ (c : ClientState). Stands c so.after) (sym none) (stands_ended so.after over so.stands.spelled);
       },
+      whole,
     )
 
 -- where all is done, the plan ends in Ok
-pub finished : {plan : Planned} {life : LinkLife} {heard : List Exchange} {client : ClientState} {xs : List Event} → plan heard ≡ due.Done → Going plan life heard client xs
-    → Left plan life heard client (Ok tt) xs
-finished {xs = xs} is so =
-    (so.after, record { after = so.after; so_far = xs; last = []; ran = so.ran; ends = Finished is refl refl refl; whole = sym (append-nil xs); stands = so.stands })
+pub finished : {plan : Planned} {life : LinkLife} {heard : List Exchange} {client : ClientState} {xs : List Event} (torn : Bool) → torn ≡ false
+    → plan heard ≡ due.Done → Going plan life heard client xs → Left plan life heard client (Ok tt) torn xs
+finished {xs = xs} torn whole is so =
+    (so.after, record { after = so.after; so_far = xs; last = []; ran = so.ran; ends = Finished is refl refl refl; whole = sym (append-nil xs); stands = so.stands }, whole)
 
 -- with the plan's own state
 pub told_to : {S : Type 0} {plan : S → Planned} {hears : S → Exchange → S → Type 0} {before after : S} {life : LinkLife} {heard : List Exchange} {client : ClientState}
-    {result : Result (Unit {0}) LinkEnd} {es : List Event}
-    → (result ≢ Err end.Memory → HearsAll hears before heard after) → Left (plan before) life heard client result es → (left : LinkLife)
-    × FollowsTo plan hears before after life left client result es
-told_to {heard = heard} told (left, follows) = (left, record { exchanges = heard; follows = follows; heard = told })
+    {result : Result (Unit {0}) LinkEnd} {torn : Bool} {es : List Event}
+    → (result ≢ Err end.Memory → HearsAll hears before heard after) → Left (plan before) life heard client result torn es → (left : LinkLife)
+    × (to : FollowsTo plan hears before after life left client result es) × (torn ≡ ends_torn to.follows.ends)
+told_to {heard = heard} told (left, follows, torn_is) = (left, record { exchanges = heard; follows = follows; heard = told }, torn_is)
 
 -- ---- a plan that is followed
 
@@ -174,8 +183,9 @@ pub record Course {S : Type 0} (plan : S → Planned) (hears : S → Exchange �
   pub tape : Adds before after (λ es. (life : LinkLife) → Stands begun life → Going (plan first) life heard client es)
 
 -- how it ended
-abbrev pub EndsTo : {S : Type 0} → (S → Planned) → (S → Exchange → S → Type 0) → S → S → ClientState → ClientState → Result (Unit {0}) LinkEnd → List Event → Type 0
-EndsTo plan hears first last begun client result es = (life : LinkLife) → Stands begun life → (left : LinkLife) × FollowsTo plan hears first last life left client result es
+abbrev pub EndsTo : {S : Type 0} → (S → Planned) → (S → Exchange → S → Type 0) → S → S → ClientState → ClientState → Result (Unit {0}) LinkEnd → Bool → List Event → Type 0
+EndsTo plan hears first last begun client result torn es = (life : LinkLife) → Stands begun life → (left : LinkLife)
+    × (to : FollowsTo plan hears first last life left client result es) × (torn ≡ ends_torn to.follows.ends)
 
 -- at the start of a plan that is followed no exchange is heard
 pub course_none : {S : Type 0} (plan : S → Planned) (hears : S → Exchange → S → Type 0) (first : S) (client : ClientState) (at : Option (List Event)) → client.alive ≡ true
@@ -196,71 +206,68 @@ due_of now_due c is = sym (is ∙ due_after c.after_is)
 
 -- one exchange more
 pub course_more : {S : Type 0} {plan : S → Planned} {hears : S → Exchange → S → Type 0} {first now : S} {begun client : ClientState} {before after last : Option (List Event)}
-    (next : S) (command : Command) (x : Exchange) (later_client : ClientState) → due.Send command ≡ plan now []
-    → Course plan hears first now begun client before after → Adds after last
-    (λ es. (life : LinkLife) → Stands client life → (left : LinkLife) × IsExchanged life command left later_client (Ok x) es)
+    (next : S) (command : Command) (x : Exchange) (later_client : ClientState) (torn : Bool) → due.Send command ≡ plan now []
+    → Course plan hears first now begun client before after → Adds after last (Exchanged client command later_client (Ok x) torn)
     → (x.status ≡ status.Ok → later_client.alive ≡ true) → ((xs : List Exchange) → plan next xs ≡ plan now (x ∷ xs)) → hears now x next
     → Course plan hears first next begun later_client before last
-course_more {plan = plan} {first = first} {client = client} next command x later_client is c adds alive steps hear =
+course_more {plan = plan} {first = first} {client = client} next command x later_client torn is c adds alive steps hear =
     let due_is = due_of (due.Send command) c is in
     record {
       heard = c.heard ++ x ∷ [];
       after_is = after_more x c.after_is steps;
       told = HeardMore x c.told hear;
       refused = λ dead. record { before = c.heard; command = command; last = x; is = refl; due_is = due_is; refused = λ ok. absurd (cc (dead, alive ok)) };
-      tape = join _ c.tape adds (λ xs ys so goes life stands. going_more ys command x later_client due_is (so life stands) goes);
+      tape = join _ c.tape adds (λ xs ys so goes life stands. going_more ys command x later_client torn due_is (so life stands) goes);
     }
 
 -- the command isn't completed
 pub course_broken : {S : Type 0} {plan : S → Planned} {hears : S → Exchange → S → Type 0} {first now : S} {begun client : ClientState} {before after last : Option (List Event)}
-    (command : Command) (e : LinkEnd) (later_client : ClientState) → due.Send command ≡ plan now []
-    → Course plan hears first now begun client before after → Adds after last
-    (λ es. (life : LinkLife) → Stands client life → (left : LinkLife) × IsExchanged life command left later_client (Err e) es)
-    → Adds before last (EndsTo plan hears first now begun later_client (Err e))
-course_broken command e later_client is c adds =
-    join _ c.tape adds (λ xs ys so goes life stands. told_to (λ _. c.told) (broken ys command e later_client (due_of (due.Send command) c is) (so life stands) goes))
+    (command : Command) (e : LinkEnd) (later_client : ClientState) (torn : Bool) → due.Send command ≡ plan now []
+    → Course plan hears first now begun client before after → Adds after last (Exchanged client command later_client (Err e) torn)
+    → Adds before last (EndsTo plan hears first now begun later_client (Err e) torn)
+course_broken command e later_client torn is c adds =
+    join _ c.tape adds (λ xs ys so goes life stands. told_to (λ _. c.told) (broken ys command e later_client torn (due_of (due.Send command) c is) (so life stands) goes))
 
 -- the life ended before
 pub course_gone : {S : Type 0} {plan : S → Planned} {hears : S → Exchange → S → Type 0} {first now : S} {begun client : ClientState} {before after last : Option (List Event)}
-    (command : Command) (later_client : ClientState) → due.Send command ≡ plan now [] → later_client ≡ fresh
+    (command : Command) (later_client : ClientState) (torn : Bool) → torn ≡ false → due.Send command ≡ plan now [] → later_client ≡ fresh
     → client.alive ≡ false → Course plan hears first now begun client before after → Adds after last (HangsUp client.alive) → Adds before last
-    (EndsTo plan hears first now begun later_client (Err end.Lost))
-course_gone command later_client is ended dead c adds =
-    join _ c.tape adds (λ xs ys so hangs life stands. told_to (λ _. c.told) (gone ys command later_client (due_of (due.Send command) c is) ended dead (so life stands) hangs))
+    (EndsTo plan hears first now begun later_client (Err end.Lost) torn)
+course_gone command later_client torn whole is ended dead c adds =
+    join _ c.tape adds (λ xs ys so hangs life stands. told_to (λ _. c.told) (gone ys command later_client torn whole (due_of (due.Send command) c is) ended dead (so life stands) hangs))
 
 -- the plan fails
 pub course_fails : {S : Type 0} {plan : S → Planned} {hears : S → Exchange → S → Type 0} {first now : S} {begun client : ClientState} {before after last : Option (List Event)}
-    (why : Refusal) (later_client : ClientState) → due.Fails why ≡ plan now [] → later_client ≡ fresh
+    (why : Refusal) (later_client : ClientState) (torn : Bool) → torn ≡ false → due.Fails why ≡ plan now [] → later_client ≡ fresh
     → Course plan hears first now begun client before after → Adds after last (HangsUp client.alive) → Adds before last
-    (EndsTo plan hears first now begun later_client (Err (refusal_end why)))
-course_fails why later_client is ended c adds =
-    join _ c.tape adds (λ xs ys so hangs life stands. told_to (λ _. c.told) (refused ys why later_client (due_of (due.Fails why) c is) ended (so life stands) hangs))
+    (EndsTo plan hears first now begun later_client (Err (refusal_end why)) torn)
+course_fails why later_client torn whole is ended c adds =
+    join _ c.tape adds (λ xs ys so hangs life stands. told_to (λ _. c.told) (refused ys why later_client torn whole (due_of (due.Fails why) c is) ended (so life stands) hangs))
 
 -- out of memory, whatever the plan's state is later_client
 pub course_wants : {S : Type 0} {plan : S → Planned} {hears : S → Exchange → S → Type 0} {first now : S} {begun client : ClientState} {before after last : Option (List Event)}
-    (state : S) (later_client : ClientState) → later_client ≡ fresh
+    (state : S) (later_client : ClientState) (torn : Bool) → torn ≡ false → later_client ≡ fresh
     → Course plan hears first now begun client before after → Adds after last (HangsUp client.alive) → Adds before last
-    (EndsTo plan hears first state begun later_client (Err end.Memory))
-course_wants state later_client ended c adds =
-    join _ c.tape adds (λ xs ys so hangs life stands. told_to (λ other. absurd (other refl)) (wanting ys later_client ended (so life stands) hangs))
+    (EndsTo plan hears first state begun later_client (Err end.Memory) torn)
+course_wants state later_client torn whole ended c adds =
+    join _ c.tape adds (λ xs ys so hangs life stands. told_to (λ other. absurd (other refl)) (wanting ys later_client torn whole ended (so life stands) hangs))
 
 -- out of memory once an exchange was completed
 pub course_wants_more : {S : Type 0} {plan : S → Planned} {hears : S → Exchange → S → Type 0} {first now : S} {begun client mid : ClientState}
-    {before after later last : Option (List Event)} (state : S) (command : Command) (x : Exchange) (later_client : ClientState) → due.Send command ≡ plan now []
-    → later_client ≡ fresh
-    → Course plan hears first now begun client before after → Adds after later
-    (λ es. (life : LinkLife) → Stands client life → (left : LinkLife) × IsExchanged life command left mid (Ok x) es) → Adds later last (HangsUp mid.alive)
-    → Adds before last (EndsTo plan hears first state begun later_client (Err end.Memory))
-course_wants_more {plan = plan} {first = first} {begun = begun} {mid = mid} state command x later_client is ended c adds hangs =
+    {before after later last : Option (List Event)} (state : S) (command : Command) (x : Exchange) (later_client : ClientState) (torn : Bool)
+    → torn ≡ false → due.Send command ≡ plan now [] → later_client ≡ fresh → Course plan hears first now begun client before after
+    → Adds after later (Exchanged client command mid (Ok x) torn) → Adds later last (HangsUp mid.alive)
+    → Adds before last (EndsTo plan hears first state begun later_client (Err end.Memory) torn)
+course_wants_more {plan = plan} {first = first} {begun = begun} {mid = mid} state command x later_client torn whole is ended c adds hangs =
     let gone_on = join (λ es. (life : LinkLife) → Stands begun life → Going (plan first) life (c.heard ++ x ∷ []) mid es) c.tape adds
-    (λ xs ys so goes life stands. going_more ys command x mid (due_of (due.Send command) c is) (so life stands) goes) in
-    join _ gone_on hangs (λ xs ys so hung life stands. told_to (λ other. absurd (other refl)) (wanting ys later_client ended (so life stands) hung))
+    (λ xs ys so goes life stands. going_more ys command x mid torn (due_of (due.Send command) c is) (so life stands) goes) in
+    join _ gone_on hangs (λ xs ys so hung life stands. told_to (λ other. absurd (other refl)) (wanting ys later_client torn whole ended (so life stands) hung))
 
 -- all is done
 pub course_done : {S : Type 0} {plan : S → Planned} {hears : S → Exchange → S → Type 0} {first now : S} {begun client : ClientState} {before after : Option (List Event)}
-    → due.Done ≡ plan now []
-    → Course plan hears first now begun client before after → Adds before after (EndsTo plan hears first now begun client (Ok tt))
-course_done is c = widen _ c.tape (λ xs so life stands. told_to (λ _. c.told) (finished (due_of due.Done c is) (so life stands)))
+    (torn : Bool) → torn ≡ false → due.Done ≡ plan now [] → Course plan hears first now begun client before after
+    → Adds before after (EndsTo plan hears first now begun client (Ok tt) torn)
+course_done torn whole is c = widen _ c.tape (λ xs so life stands. told_to (λ _. c.told) (finished torn whole (due_of due.Done c is) (so life stands)))
 
 -- once all is done of a plan that stops at refusals, the client that followed it is alive
 pub course_alive : {S : Type 0} {plan : S → Planned} {hears : S → Exchange → S → Type 0} {first now : S} {begun client : ClientState} {before after : Option (List Event)}

@@ -1,5 +1,5 @@
 -- What an exchange adds to a life.
-use Rattle.std.specs.Prelude.{◌≡◌, ◌≢◌, ◌++◌, true, false, List, ℕ, Result, Ok, Err}
+use Rattle.std.specs.Prelude.{◌≡◌, ◌≢◌, ◌++◌, Bool, true, false, List, ℕ, Result, Ok, Err}
 use Rattle.gate_world.specs.declared.event.Event.{Event}
 use Rattle.imap_syntax.specs.declared.response.Status.TheVariants as status
 use Rattle.imap_syntax.specs.declared.command.Command.{Command}
@@ -7,7 +7,7 @@ use Rattle.imap_syntax.specs.Commands.{command_pieces, joined_pieces, tag_of}
 use Rattle.told_folder.specs.declared.exchange.Exchange.{Exchange}
 use Rattle.imap_exchange.specs.declared.link_end.LinkEnd.{LinkEnd}
 use Rattle.imap_exchange.specs.Exchanges.{Done, VerdictOf, IsTaken, pieces_due}
-use Rattle.imap_exchange.specs.Answering.{Speaks, IsCause}
+use Rattle.imap_exchange.specs.Answering.{Speaks, IsCause, is_some_taken}
 use Rattle.imap_client.specs.LinkLife.{LinkLife, ClientState, Stands, next_number, selected, unread, with_exchange, with_part}
 
 -- The life went on, the exchange of its next number is completed, and after it the life is this one. Where the link failed meanwhile
@@ -42,3 +42,8 @@ pub record IsExchanged (life : LinkLife) (command : Command) (left : LinkLife) (
     (events : List Event) : Type 0 where
   pub ends : ExchangeEnds life command left result events
   pub stands : Stands client left
+
+-- whether the store took octets of a command whose exchange isn't completed
+abbrev pub is_torn : Result Exchange LinkEnd → LinkLife → Bool
+is_torn (Ok x) left = false
+is_torn (Err e) left = is_some_taken left.part

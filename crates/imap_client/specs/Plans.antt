@@ -1,12 +1,12 @@
 -- What is asked of a store in order, by what it answered so far.
-use Rattle.std.specs.Prelude.{◌≡◌, ◌≢◌, ◌++◌, false, List, [], ◌∷◌, Result, Ok, Err}
+use Rattle.std.specs.Prelude.{◌≡◌, ◌≢◌, ◌++◌, Bool, false, List, [], ◌∷◌, Result, Ok, Err}
 use Rattle.gate_world.specs.declared.event.Event.{Event}
 use Rattle.imap_syntax.specs.declared.command.Command.{Command}
 use Rattle.imap_syntax.specs.declared.response.Status.TheVariants as status
 use Rattle.told_folder.specs.declared.exchange.Exchange.{Exchange}
 use Rattle.imap_exchange.specs.declared.link_end.LinkEnd.{LinkEnd}
 use Rattle.imap_exchange.specs.declared.link_end.LinkEnd.TheVariants as end
-use Rattle.imap_exchange.specs.Answering.{HangsUp}
+use Rattle.imap_exchange.specs.Answering.{HangsUp, is_some_taken}
 use Rattle.imap_client.specs.declared.plan.Due.{Due}
 use Rattle.imap_client.specs.declared.plan.Due.TheVariants as due
 use Rattle.imap_client.specs.declared.plan.Refusal.{Refusal}
@@ -58,6 +58,12 @@ pub data IsEnd (now : Due) (life left : LinkLife) (result : Result (Unit {0}) Li
       → IsEnd now life left result events
   -- out of memory
   Wanting : result ≡ Err end.Memory → HangsUp life.goes_on events → left ≡ hung_up life → IsEnd now life left result events
+
+-- Whether the command that was due isn't completed, and the store took octets of it. What a life took in part that had ended before
+-- doesn't count.
+abbrev pub ends_torn : {now : Due} {life left : LinkLife} {result : Result (Unit {0}) LinkEnd} {events : List Event} → IsEnd now life left result events → Bool
+ends_torn {left = left} (Broken command e asked is breaks) = is_some_taken left.part
+ends_torn _ = false
 
 -- The plan was followed in this life: what was taken are the commands of these completed exchanges, and of the one that was
 -- due then at most a part.

@@ -7,7 +7,7 @@ ghost use Rattle.imap_syntax.specs.declared.response.Status.TheVariants as statu
 ghost use Rattle.imap_exchange.specs.Received.{nothing_given, room_left};
 ghost use Rattle.imap_exchange.specs.Answering.{HangsUp};
 ghost use Rattle.imap_client.specs.LinkLife.{LinkLife, Stands, fresh, begun_with, life_left};
-ghost use Rattle.imap_client.specs.Calls.{IsExchanged};
+ghost use Rattle.imap_client.specs.Calls.{IsExchanged, is_torn};
 
 use crate::connection::special_use_after;
 use gate_world::{Bytes, Link};
@@ -133,12 +133,37 @@ impl Client {
         ensures cause { IsErrOf result LinkEnd.Lost → Rose (L.faults link.old).link (L.faults link.new).link }
         ensures hidden { L.hidden link.new ≡ L.hidden link.old }
     {
+        let mut torn = false;
+        self.exchange_torn(link, command, &mut torn)
+    }
+
+    /// The same, and `torn` says whether the exchange isn't completed though the store took octets of the command.
+    pub fn exchange_torn<L: Link>(
+        &mut self,
+        link: &mut L,
+        command: Command,
+        torn: &mut bool,
+    ) -> Result<Exchange, LinkEnd>
+        requires { self.old.alive ≡ true }
+        ensures tape { Adds (L.tape link.old) (L.tape link.new) (λ es. (life : LinkLife) → Stands self.old life → (left : LinkLife) × IsExchanged life command left self.new result es × (torn.new ≡ is_torn result left)) }
+        ensures whole { OnOk result (torn.new ≡ false) }
+        ensures alive { IfOk result (λ x. x.status ≡ statuses.Ok → self.new.alive ≡ true) }
+        ensures ended { OnErr result (self.new ≡ fresh) }
+        ensures progress { OnOk result (life_left self.new < life_left self.old) }
+        ensures alone { LinkAlone (L.faults link.old) (L.faults link.new) }
+        ensures down { OnOk result (self.new.alive ≡ false → Rose (L.faults link.old).link (L.faults link.new).link) }
+        ensures cause { IsErrOf result LinkEnd.Lost → Rose (L.faults link.old).link (L.faults link.new).link }
+        ensures hidden { L.hidden link.new ≡ L.hidden link.old }
+    {
         let mut up = true;
+        let mut taken = false;
+        *torn = false;
         match complete(
             self.alloc,
             link,
             &mut self.unread,
             &mut up,
+            &mut taken,
             self.number,
             &self.selected,
             command,
@@ -154,6 +179,7 @@ impl Client {
                 Ok(x)
             }
             Err(end) => {
+                *torn = taken;
                 hang_up_where(link, up);
                 self.alive = false;
                 self.unread = Received::new(self.alloc);

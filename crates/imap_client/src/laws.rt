@@ -9,13 +9,14 @@ ghost use Rattle.imap_exchange.specs.declared.link_end.LinkEnd.{LinkEnd};
 ghost use Rattle.imap_exchange.specs.declared.link_end.LinkEnd.TheVariants as ends;
 ghost use Rattle.imap_exchange.specs.Received.{Octets};
 ghost use Rattle.imap_exchange.specs.Begins.{Begins};
+ghost use Rattle.imap_exchange.specs.Answering.{is_some_taken};
 ghost use Rattle.imap_client.specs.declared.plan.Due.TheVariants as dues;
 ghost use Rattle.imap_client.specs.declared.plan.Refusal.{Refusal};
 ghost use Rattle.imap_client.specs.Bodies.{FetchesBody, body_from, body_start, without_body};
 ghost use Rattle.imap_client.specs.Connected.{IsConnected};
 ghost use Rattle.imap_client.specs.Connecting.{Connects, GreetsBy, greeting_says};
 ghost use Rattle.imap_client.specs.LinkLife.{LinkLife, ClientState, next_number, selected};
-ghost use Rattle.imap_client.specs.Plans.{Planned, Follows};
+ghost use Rattle.imap_client.specs.Plans.{Planned, Follows, ends_torn};
 ghost use Rattle.imap_client.specs.Obeying.{Obeys};
 ghost use Rattle.imap_client.specs.Decided.{IsDecided};
 ghost use Rattle.imap_client.specs.Rounds.{Rounds};
@@ -96,6 +97,12 @@ pub fn one_round()
     ensures { (before after mail : Mail) (life left other : LinkLife) (client also : ClientState) (r s : Result (Unit {0}) LinkEnd) (es fs : List Event) (more later : List ℕ)
         → Rounds before after life left client r es → Rounds before mail life other also s fs
         → flat_map store_gave_in es ++ more ≡ flat_map store_gave_in fs ++ later → IsDecided r → IsDecided s → (after ≡ mail) × (r ≡ s) }
+{}
+
+/// A plan ends with a torn command exactly where the store took octets after its completed exchanges.
+pub fn torn_commands_were_taken()
+    ensures { (plan : Planned) (life left : LinkLife) (xs : List Exchange) (client : ClientState) (result : Result (Unit {0}) LinkEnd) (events : List Event)
+        (follows : Follows plan life left xs client result events) → ends_torn follows.ends ≡ is_some_taken (flat_map store_took_in follows.last) }
 {}
 
 /// The fetch of a body over one stream of octets comes to one mail, one end and one body, in whatever pieces they came, where the

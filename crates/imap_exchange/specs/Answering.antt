@@ -108,8 +108,14 @@ pub record IsOf (command : Command) (before : Option (List ℕ)) (x : Exchange) 
   pub selected_is : x.selected ≡ before
   pub now_is : now ≡ selected_by command x.status before
 
--- what an exchange adds
-pub record Converses (tag : List ℕ) (pieces : List (List ℕ)) (before after : Octets) (up : Bool) (result : Result Answer LinkEnd)
+-- whether these octets, which the store took, are some
+abbrev pub is_some_taken : List ℕ → Bool
+is_some_taken [] = false
+is_some_taken (octet ∷ octets) = true
+
+-- what an exchange adds, and whether the store took octets of its command
+pub record Converses (tag : List ℕ) (pieces : List (List ℕ)) (before after : Octets) (up taken : Bool) (result : Result Answer LinkEnd)
     (events : List Event) : Type 0 where
   pub speaks : Speaks pieces before up events
+  pub taken_is : taken ≡ is_some_taken speaks.took
   pub comes : ComesTo tag pieces before speaks.gave speaks.took after up result

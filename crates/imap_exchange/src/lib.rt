@@ -10,6 +10,7 @@ mod received;
 mod exchange;
 mod response;
 mod sending;
+mod turn;
 
 // Laws.
 mod laws;

@@ -5,9 +5,9 @@ use Rattle.std.proofs.lemmas.List.Elements.{recursion_from_All}
 use Rattle.serde_json.specs.View.{items_of}
 use Rattle.serde_json.specs.Written.{has_float, items_have_float, members_have_float}
 use Rattle.jmap_core.specs.CreatedIds.{Ids, id_members}
-use Rattle.jmap_core.specs.Request.{call_data}
+use Rattle.result_references.specs.Call.{call_data}
 use Rattle.jmap_core.specs.Response.{answer_data, response_data, IsWhole}
-use Rattle.jmap_core.specs.declared.call.Call.{Call}
+use Rattle.result_references.specs.declared.call.Call.{Call}
 
 whole_answer : (c : Call) → IsWhole c → has_float (answer_data (call_data c)) ≡ false
 whole_answer c whole = rw whole refl

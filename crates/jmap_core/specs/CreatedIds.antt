@@ -1,5 +1,5 @@
 -- The ids of what was created, by creation id (RFC 8620 section 3.3): pairs of a creation id and an id, in the byte order of the first.
-use Rattle.std.specs.Prelude.{ℕ, zero, suc, List, [], ◌∷◌, Option, Some, None, option_and_then}
+use Rattle.std.specs.Prelude.{ℕ, List, [], ◌∷◌, Option, Some, option_and_then}
 use Rattle.std.specs.Ordering.{nat_cmp}
 use Rattle.std.specs.Cmp.Lexicographic.{slice_cmp}
 use Rattle.std.specs.BTreeMap.{insert_entry, is_at}
@@ -16,12 +16,6 @@ put_id creation id ids = insert_entry (slice_cmp nat_cmp) ids creation id
 
 abbrev pub id_of : List ℕ → Ids → Option (List ℕ)
 id_of creation ids = lookup (is_at (slice_cmp nat_cmp creation)) ids
-
--- the pair at a place
-abbrev pub pair_at : ℕ → Ids → Option (List ℕ × List ℕ)
-pair_at n [] = None
-pair_at zero (e ∷ es) = Some e
-pair_at (suc n) (e ∷ es) = pair_at n es
 
 -- the members of an object of texts, each put at its key
 abbrev pub given_to : Ids → Members → Option Ids

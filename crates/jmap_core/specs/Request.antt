@@ -6,25 +6,15 @@ use Rattle.std.specs.Str.{is_utf8}
 use Rattle.serde_json.specs.Data.{Data, null, boolean, number, string, array, object, Items, no_items, item, Members}
 use Rattle.serde_json.specs.Find.{get, as_str, as_array, as_object}
 use Rattle.serde_json.specs.Read.{read}
-use Rattle.serde_json.specs.View.{view}
 use Rattle.jmap_methods.specs.Arguments.{texts_in, is_among}
+use Rattle.result_references.specs.Call.{CallData, call_data}
 use Rattle.jmap_core.specs.CreatedIds.{Ids, given_to}
-use Rattle.jmap_core.specs.declared.call.Call.{Call}
 use Rattle.jmap_core.specs.declared.request.Request.{Request}
 use Rattle.jmap_methods.specs.declared.using.Using.{Using}
 use Rattle.jmap_core.specs.declared.request.LimitName.TheVariants.{MaxCallsInRequest}
 use Rattle.jmap_core.specs.declared.request.RequestError.{RequestError}
 use Rattle.jmap_core.specs.declared.request.RequestError.TheVariants.{NotJson, NotRequest, UnknownCapability, Limit}
 use Rattle.jmap_core.specs.declared.request_body.TheConstants.{MAX_CALLS_IN_REQUEST}
-
--- a method call, or the response to one (RFC 8620 section 3.2)
-pub record CallData : Type 0 where
-  pub name : List ℕ
-  pub arguments : Data
-  pub id : List ℕ
-
-abbrev pub call_data : Call → CallData
-call_data call = record { name = call.name; arguments = view call.arguments; id = call.id }
 
 -- a request: which capabilities it uses, its calls, and the ids created earlier where it has them
 pub record RequestData : Type 0 where

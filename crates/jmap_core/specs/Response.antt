@@ -4,8 +4,8 @@ use Rattle.serde_json.specs.Data.{Data, string, array, object, no_items, item, M
 use Rattle.serde_json.specs.View.{items_of, view}
 use Rattle.serde_json.specs.Written.{has_float}
 use Rattle.jmap_core.specs.CreatedIds.{Ids, id_members}
-use Rattle.jmap_core.specs.Request.{CallData}
-use Rattle.jmap_core.specs.declared.call.Call.{Call}
+use Rattle.result_references.specs.Call.{CallData}
+use Rattle.result_references.specs.declared.call.Call.{Call}
 
 -- a method response: its name, its arguments and the id of the call that it answers
 abbrev pub answer_data : CallData → Data

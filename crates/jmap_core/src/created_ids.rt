@@ -2,7 +2,7 @@
 ghost use Rattle.std.specs.Prelude.{◌≡◌, [], length, option_map, IfOk, OnOk, OnErr};
 ghost use Rattle.serde_json.specs.Data.{object};
 ghost use Rattle.serde_json.specs.View.{view, members_view};
-ghost use Rattle.jmap_core.specs.CreatedIds.{put_id, id_of, pair_at, id_members};
+ghost use Rattle.jmap_core.specs.CreatedIds.{put_id, id_of, id_members};
 ghost use Rattle.jmap_core.specs.reading.Pairs.{pairs};
 
 use gate_world::Text;
@@ -56,20 +56,6 @@ impl CreatedIds {
         }
     }
 
-    /// The creation id and the id at a place, in byte order of creation ids. It goes over those before; takes no memory.
-    pub fn at(&self, at: usize) -> Option<(&str, &str)>
-        ensures { option_map (λ pair. (pair.0.now, pair.1.now)) result ≡ pair_at at self.now }
-    {
-        let mut before = at;
-        for (creation, id) in self.ids.iter() {
-            if before == 0 {
-                return Some((creation.as_str(), id.as_str()));
-            }
-            before -= 1;
-        }
-        None
-    }
-
     /// How many there are.
     pub fn len(&self) -> usize
         ensures { result ≡ length self.now }
@@ -89,7 +75,7 @@ impl CreatedIds {
     }
 
     /// The object that has each id at its creation id.
-    pub(crate) fn to_value(&self, alloc: Global) -> Result<Value, AllocError>
+    pub fn to_value(&self, alloc: Global) -> Result<Value, AllocError>
         ensures { IfOk result (λ value. view value ≡ object (id_members self.now)) }
     {
         let members = members_of(alloc, &self.ids)?;

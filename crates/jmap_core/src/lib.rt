@@ -1,30 +1,18 @@
-//! JMAP requests and responses (RFC 8620): what a body asks, result references, the Session, and the texts of answers.
+//! JMAP requests and responses (RFC 8620): what a body asks, the Session, and the texts of answers.
 #![tactic(auto)]
 
 // Requests.
-mod call;
 mod created_ids;
 mod request;
 mod request_body;
-
-// References.
-mod limit;
-mod octets;
-mod pointer;
-mod references;
-mod sources;
-mod walks;
 
 // Answers.
 mod problem;
 mod response;
 mod session;
 
-pub use call::Call;
 pub use created_ids::CreatedIds;
-pub use octets::MAX_RESOLVED_OCTETS;
 pub use problem::{problem_status, problem_text};
-pub use references::resolve;
 pub use request::{LimitName, Request, RequestError};
 pub use request_body::{MAX_CALLS_IN_REQUEST, read_request};
 pub use response::{response_text, response_value};

@@ -6,15 +6,16 @@ ghost use Rattle.jmap_core.specs.CreatedIds.{given_to};
 ghost use Rattle.jmap_methods.specs.Arguments.{texts_in};
 ghost use Rattle.jmap_methods.specs.Outcome.{Agrees};
 ghost use Rattle.jmap_core.specs.Request as spec;
-ghost use Rattle.jmap_core.specs.Request.{call_data, request_data, json_in, requested};
+ghost use Rattle.jmap_core.specs.Request.{request_data, json_in, requested};
+ghost use Rattle.result_references.specs.Call.{call_data};
 ghost use Rattle.jmap_core.specs.reading.Forms.{form_data, note_capability, known_capabilities};
 ghost use Rattle.jmap_core.specs.declared.request.RequestError.TheVariants.{Memory, NotJson, NotRequest};
 
-use crate::call::Call;
 use crate::created_ids::CreatedIds;
 use crate::request::{LimitName, Request, RequestError};
 use gate_world::Text;
 use jmap_methods::{Using, texts_in};
+use result_references::Call;
 use serde_json::{Map, Value};
 use std::alloc::{AllocError, Global};
 

@@ -4,11 +4,11 @@ ghost use Rattle.serde_json.specs.Data.{array};
 ghost use Rattle.serde_json.specs.View.{view, items_of, members_view};
 ghost use Rattle.serde_json.specs.Written.{compact_text};
 ghost use Rattle.jmap_core.specs.CreatedIds.{id_members};
-ghost use Rattle.jmap_core.specs.Request.{call_data};
 ghost use Rattle.jmap_core.specs.Response.{answer_data, response_data, IsWhole};
+ghost use Rattle.result_references.specs.Call.{call_data};
 
-use crate::call::Call;
 use crate::created_ids::CreatedIds;
+use result_references::Call;
 use serde_json::{Map, Value, json, put};
 use std::alloc::{AllocError, Global};
 

@@ -84,7 +84,9 @@ fn run_over<C: Clients>(rt: HostRuntime, words: &[String], front: C) -> Result<u
     let token = variable(&rt, "JMAPGATE_TOKEN")?;
     let mut world = HostWorld::new(rt, store, front, password, token);
     let mut watchers: Vec<Box<dyn Watcher>> = Vec::new(rt.alloc());
-    Ok(gateway::run(words, &mut world, &mut watchers))
+    let status = gateway::run(words, &mut world, &mut watchers);
+    world.front.end();
+    Ok(status)
 }
 
 /// The words after the program's name. Where one of them is no UTF-8 there are none, which are refused as well.

@@ -3,7 +3,7 @@ use Rattle.std.specs.Prelude.{◌≡◌, ℕ, ℤ, List, [], ◌∷◌, ◌++◌
 use Rattle.std.specs.Option.{option_map, unwrap_or}
 use Rattle.mail_header.specs.Fields.{NameAndRaw, IsHeader, last_named}
 use Rattle.mail_header.specs.RawForms.{IsTextForm, IsSearchForm}
-use Rattle.header_addresses.specs.Names.{IsAddressesForm}
+use Rattle.loose_addresses.specs.LooseForms.{IsLooseAddressesForm}
 use Rattle.mail_header.specs.Bracketed.{IsNamesForm}
 use Rattle.header_dates.specs.Dates.{IsDateForm}
 use Rattle.header_addresses.specs.declared.address.Address.{Address}
@@ -45,7 +45,7 @@ first_name (Some list) = first_mailbox list
 -- how the first mailbox of a field is shown
 pub data IsFirstOf : Option (List ℕ) → Option (List ℕ) → Type 0 where
   NoMailbox : IsFirstOf None None
-  First : (raw : List ℕ) (list : Option (List Address)) → IsAddressesForm raw list → IsFirstOf (Some raw) (first_name list)
+  First : (raw : List ℕ) (list : Option (List Address)) → IsLooseAddressesForm raw list → IsFirstOf (Some raw) (first_name list)
 
 pub record IsPartyOf (raw : Option (List ℕ)) (p : Party) : Type 0 where
   pub text : IsSearchText raw p.text

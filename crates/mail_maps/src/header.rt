@@ -9,8 +9,9 @@ ghost use Rattle.mail_maps.specs.Envelope.{IsEnvelopeOf, IsFieldText, IsSearchTe
 
 use crate::{Envelope, Party};
 use gate_world::{Bytes, Names};
-use header_addresses::{Address, as_addresses};
+use header_addresses::Address;
 use header_dates::{Moment, as_date};
+use loose_addresses::as_loose_addresses;
 use mail_header::{Fields, as_message_ids, as_search_text, as_text, fields};
 use std::alloc::{AllocError, Global};
 use thread_rule::{Ids, base_subject, push_id};
@@ -90,7 +91,7 @@ fn first_name(addresses: &[Address]) -> Result<Option<Bytes>, AllocError>
 fn first_in(alloc: Global, raw: &[u8]) -> Result<Option<Bytes>, AllocError>
     ensures { IfOk result (λ text. IsFirstOf (Some raw.now) text) }
 {
-    let addresses = as_addresses(alloc, raw)?;
+    let addresses = as_loose_addresses(alloc, raw)?;
     match addresses {
         None => Ok(None),
         Some(list) => {

@@ -11,7 +11,7 @@ use Rattle.mail_header.specs.Bracketed.{IsNamesForm}
 use Rattle.mail_header.specs.Fields.{NameAndRaw, last_named}
 use Rattle.mail_header.proofs.FieldLemmas.{one_header}
 use Rattle.mail_header.proofs.BracketLemmas.{one_names}
-use Rattle.header_addresses.proofs.FormLemmas.{one_addresses}
+use Rattle.loose_addresses.proofs.LooseLemmas.{one_loose_addresses}
 use Rattle.header_dates.specs.declared.date.Moment.{Moment}
 use Rattle.header_dates.proofs.DateLemmas.{one_date}
 use Rattle.thread_rule.specs.BaseSubject.{IsBaseOf, spaced}
@@ -37,7 +37,7 @@ one_search_text _ _ _ (SearchText raw s g) (SearchText _ t h) =
 
 one_first : (raw x y : Option (List ℕ)) → IsFirstOf raw x → IsFirstOf raw y → x ≡ y
 one_first _ _ _ NoMailbox NoMailbox = refl
-one_first _ _ _ (First raw l g) (First _ m h) = ap first_name (one_addresses raw l m g h)
+one_first _ _ _ (First raw l g) (First _ m h) = ap first_name (one_loose_addresses raw l m g h)
 
 one_party : (raw : Option (List ℕ)) (p q : Party) → IsPartyOf raw p → IsPartyOf raw q → p ≡ q
 one_party raw p q g h =

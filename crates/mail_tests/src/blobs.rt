@@ -1,7 +1,7 @@
 // Blob ids, and the octets that they name.
 use crate::written::put_octets;
 use gate_world::Bytes;
-use message_blobs::{Root, leaf_octets, read_blob_id};
+use message_blobs::{ReadBlob, Root, read_blob_id};
 use std::alloc::{AllocError, Global};
 
 fn put_begun(out: &mut String, root: Root<'_>) -> Result<(), AllocError> {
@@ -25,23 +25,34 @@ pub(crate) fn put_id(text: &[u8], out: &mut String) -> Result<(), AllocError> {
     }
 }
 
-/// The octets that the blob id names, where the message or upload that it begins in has these.
-fn named(alloc: Global, id: &str, octets: &[u8]) -> Result<Option<Bytes>, AllocError> {
+/// The octets that the blob id names, where the message or upload that it begins in is this blob.
+fn named(alloc: Global, blob: &mut ReadBlob, id: &str) -> Result<Option<Bytes>, AllocError> {
     match read_blob_id(id.as_bytes()) {
         None => Ok(None),
-        Some(id) => leaf_octets(alloc, &Bytes::copy_of(alloc, octets)?, id.leaves.as_slice()),
+        Some(id) => blob.leaf_octets(alloc, id.leaves.as_slice()),
     }
 }
 
-/// Adds those octets.
-pub(crate) fn put_named(
-    alloc: Global,
-    id: &str,
-    octets: &[u8],
-    out: &mut String,
-) -> Result<(), AllocError> {
-    match named(alloc, id, octets)? {
+fn put_found(found: Option<Bytes>, out: &mut String) -> Result<(), AllocError> {
+    match found {
         None => out.push('-'),
         Some(octets) => put_octets(out, octets.as_slice()),
     }
+}
+
+/// Adds those octets for each of these ids, which are asked one after another; ` / ` stands between them.
+pub(crate) fn put_named(
+    alloc: Global,
+    ids: &str,
+    octets: &[u8],
+    out: &mut String,
+) -> Result<(), AllocError> {
+    let mut blob = ReadBlob::new(Bytes::copy_of(alloc, octets)?);
+    for (at, id) in ids.split(' ').enumerate() {
+        if at > 0 {
+            out.push_str(" / ")?;
+        }
+        put_found(named(alloc, &mut blob, id)?, out)?;
+    }
+    Ok(())
 }

@@ -1,7 +1,6 @@
 -- Numbers of leaves name one leaf's octets at most, whichever tree each message is read as.
-use Rattle.std.proofs.Common.{arith, ◌≡◌, ◌≢◌, ℕ, zero, suc, ◌+◌, ◌<◌, ◌≤◌, Bool, List, [], ◌∷◌, length, drop, get_or, Option, Some, None, refl, sym, ◌∙◌, subst}
-use Rattle.std.specs.Option.{MatchOption}
-use Rattle.std.specs.Prelude.{slice_range, Contains}
+use Rattle.std.proofs.Common.{arith, ◌≡◌, ◌≢◌, ℕ, zero, suc, ◌+◌, ◌<◌, ◌≤◌, Bool, List, [], ◌∷◌, ◌++◌, length, drop, get_or, Option, Some, None, Result, Ok, Err, refl, sym, ◌∙◌, subst}
+use Rattle.std.specs.Prelude.{slice_range, Contains, IfOk, IfSome, IsSome, MatchOption}
 use Rattle.std.proofs.lemmas.List.{drop_more}
 use Rattle.std.proofs.Math.ListN.{drop_of_length-le}
 use Rattle.header_words.specs.Transfer.{IsBody}
@@ -11,13 +10,14 @@ use Rattle.mime_tree.specs.declared.part.Part.{Part, out-Part}
 use Rattle.mime_tree.specs.declared.tree.TheConstants.{MAX_DEPTH}
 use Rattle.mime_tree.specs.Bodies.{encoding_by, HasOctets}
 use Rattle.mime_tree.specs.Heads.{text_plain}
-use Rattle.mime_tree.specs.Parts.{children, part_number, IsUnder, Itself, Below}
+use Rattle.mime_tree.specs.Parts.{children, part_number, IsUnder, IsWithin, Itself, Below}
 use Rattle.mime_tree.specs.SameTrees.{AllSame, SamePart, Same}
 use Rattle.mime_tree.specs.Trees.{IsMessage}
 use Rattle.mime_tree.proofs.OneTree.{one_message}
 use Rattle.mime_tree.proofs.SameWalks.{below, same_below}
 use Rattle.mime_tree.proofs.UnderLemmas.{here, later, tree_numbered}
 use Rattle.message_blobs.specs.NestedLeaves.{LeafSpells, NamesOctets}
+use Rattle.message_blobs.specs.reading.ReadMessages.{IsTreeOf}
 
 -- ---- the same leaf in two trees of a message
 
@@ -79,6 +79,38 @@ one_leaf b n s t g h =
     let P : Part → Type 0 = λ u. HasOctets u b s g.problem in
     (one_body _ s t _ g.problem h.problem (subst P same (kin_octets g.leaf f.0 b s g.problem f.2 g.spelled)) h.spelled).0
 
+-- ---- messages that were read
+
+module _ (octets b given : List ℕ) (n : ℕ) (tree : Part) (whole : octets ≡ b) (same : given ≡ octets) (is : IsTreeOf octets tree) where
+  -- the tree has no leaf of the number
+  pub no_leaf_read : (s : List ℕ) → ((q : Part) → IsUnder q tree → part_number q ≢ Some n) → LeafSpells b n s → ⊥
+  no_leaf_read s none spells =
+      let P : List ℕ → Type 0 = λ u. LeafSpells u n s in
+      no_leaf octets s n tree is.is_message none (subst P (sym whole) spells)
+
+  -- a part lies within the octets
+  pub part_within : (leaf : Part) → IsUnder leaf tree → IsWithin leaf given
+  part_within leaf under = let P : List ℕ → Type 0 = λ u. IsWithin leaf u in subst P (sym same) (is.within leaf under)
+
+  -- what the leaf of the number spells
+  pub leaf_read : (leaf : Part) (t s : List ℕ) (problem : Bool) → IsUnder leaf tree → part_number leaf ≡ Some n → HasOctets leaf given t problem → s ≡ t → LeafSpells b n s
+  leaf_read leaf t s problem under number spelled s_is =
+      let P : List ℕ → Type 0 = λ u. HasOctets leaf u t problem in
+      let Q : List ℕ → Type 0 = λ u. LeafSpells u n t in
+      let R : List ℕ → Type 0 = λ u. LeafSpells b n u in
+      let spells : LeafSpells octets n t = record {
+        message = tree;
+        is_message = is.is_message;
+        leaf = leaf;
+        is_under = under;
+        number_is = number;
+        problem = problem;
+        spelled = subst P same spelled;
+      } in
+      subst R (sym s_is) (subst Q whole spells)
+
+-- ---- rows of numbers
+
 -- numbers of leaves name the octets of one leaf at most
 pub one_named : (ns b s t : List ℕ) → NamesOctets ns b s → NamesOctets ns b t → s ≡ t
 one_named [] b s t g h = g ∙ sym h
@@ -134,3 +166,39 @@ pub ends : (i : ℕ) (within leaves b : List ℕ) → length leaves ≤ i → Le
 ends i within leaves b done l =
     let P : List ℕ → Type 0 = λ u. NamesOctets u within within in
     l.forth within (subst P (sym (drop_of_length-le leaves done)) refl)
+
+-- ---- a last number behind others
+
+-- the octets of a leaf in the message that the others name are named by all
+pub named_behind : (outer : List ℕ) (n : ℕ) (b within s : List ℕ) → NamesOctets outer b within → LeafSpells within n s → NamesOctets (outer ++ n ∷ []) b s
+named_behind [] n b within s named spells = let P : List ℕ → Type 0 = λ u. LeafSpells u n s in (s, subst P named spells, refl)
+named_behind (m ∷ outer) n b within s named spells = (named.0, named.1, named_behind outer n named.0 within s named.2 spells)
+
+-- those that all name are the octets of a leaf in the message that the others name
+pub behind_named : (outer : List ℕ) (n : ℕ) (b s : List ℕ) → NamesOctets (outer ++ n ∷ []) b s → (within : List ℕ) × NamesOctets outer b within × LeafSpells within n s
+behind_named [] n b s named = let P : List ℕ → Type 0 = λ u. LeafSpells b n u in (b, refl, subst P (sym named.2) named.1)
+behind_named (m ∷ outer) n b s named = let w = behind_named outer n named.0 s named.2 in (w.0, (named.0, named.1, w.1), w.2)
+
+module _ {M : Type 0} (message : M → List ℕ) where
+  last_leaf_in : {E : Type 0} (last : Option M) (outer b : List ℕ) (n : ℕ) (r : Result (Option (List ℕ)) E)
+      → MatchOption last ((s : List ℕ) → NamesOctets outer b s → ⊥) (λ m. NamesOctets outer b (message m))
+      → IfOk r (λ found. MatchOption found (IfSome last (λ m. (s : List ℕ) → LeafSpells (message m) n s → ⊥)) (λ s. IsSome last × IfSome last (λ m. LeafSpells (message m) n s)))
+      → IfOk r (λ found. MatchOption found ((s : List ℕ) → NamesOctets (outer ++ n ∷ []) b s → ⊥) (λ s. NamesOctets (outer ++ n ∷ []) b s))
+  last_leaf_in last outer b n (Err e) named spelled = tt
+  last_leaf_in None outer b n (Ok None) none spelled = λ s h. let w = behind_named outer n b s h in none w.0 w.1
+  last_leaf_in (Some m) outer b n (Ok None) named none = λ s h.
+      let w = behind_named outer n b s h in
+      let P : List ℕ → Type 0 = λ u. LeafSpells u n s in
+      none s (subst P (one_named outer b w.0 (message m) w.1 named) w.2)
+  last_leaf_in None outer b n (Ok (Some s)) none spelled = absurd (let never : IsSome {T = M} None = spelled.0 in cc)
+  last_leaf_in (Some m) outer b n (Ok (Some s)) named spelled = named_behind outer n b (message m) s named spelled.1
+
+  -- where the message that the others name was read, its leaf of the last number is what all name
+  pub last_leaf : {E : Type 0} (last : Option M) (leaves outer octets b : List ℕ) (n : ℕ) (r : Result (Option (List ℕ)) E) → leaves ≡ outer ++ n ∷ [] → octets ≡ b
+      → MatchOption last ((s : List ℕ) → NamesOctets outer octets s → ⊥) (λ m. NamesOctets outer octets (message m))
+      → IfOk r (λ found. MatchOption found (IfSome last (λ m. (s : List ℕ) → LeafSpells (message m) n s → ⊥)) (λ s. IsSome last × IfSome last (λ m. LeafSpells (message m) n s)))
+      → IfOk r (λ found. MatchOption found ((s : List ℕ) → NamesOctets leaves b s → ⊥) (λ s. NamesOctets leaves b s))
+  last_leaf last leaves outer octets b n r numbers whole named spelled =
+      let P : List ℕ → Type 0 = λ u. IfOk r (λ found. MatchOption found ((s : List ℕ) → NamesOctets u octets s → ⊥) (λ s. NamesOctets u octets s)) in
+      let Q : List ℕ → Type 0 = λ u. IfOk r (λ found. MatchOption found ((s : List ℕ) → NamesOctets leaves u s → ⊥) (λ s. NamesOctets leaves u s)) in
+      subst Q whole (subst P (sym numbers) (last_leaf_in last outer octets n r named spelled))

@@ -8,10 +8,12 @@ mod leaf_numbers;
 
 // Octets.
 mod nested_leaves;
+mod read_blob;
+mod read_message;
 
 // Laws.
 pub mod laws;
 
 pub use blob_id::{BlobId, EMAIL_ROOT, Root, read_blob_id};
 pub use leaf_numbers::{LEAF_MARK, MAX_LEAVES};
-pub use nested_leaves::leaf_octets;
+pub use read_blob::ReadBlob;

@@ -2,9 +2,10 @@
 use crate::methods::put_answer;
 use crate::texts::put_text;
 use jmap_core::{
-    Call, CreatedIds, Request, RequestError, problem_status, problem_text, read_request, resolve,
-    response_text, response_value, session_object,
+    CreatedIds, Request, RequestError, problem_status, problem_text, read_request, response_text,
+    response_value, session_object,
 };
+use result_references::{Call, resolve};
 use serde_json::Value;
 use std::alloc::{AllocError, Global};
 use told_dialogues::{first_word, octets_of, put_octets};

@@ -57,14 +57,11 @@ fn ids_of(alloc: Global, pairs: &str) -> Result<CreatedIds, AllocError> {
     Ok(ids)
 }
 
-/// Adds how many ids these pairs create, what is at as many places as there are pairs, and at the place behind those.
+/// Adds how many ids these pairs create, and the object that has each.
 fn put_created(alloc: Global, pairs: &str, out: &mut String) -> Result<(), AllocError> {
     let ids = ids_of(alloc, pairs)?;
-    write!(out, "{}", ids.len())?;
-    for at in 0..=pairs.split(' ').count() {
-        write!(out, " {:?}", ids.at(at))?;
-    }
-    Ok(())
+    let text = ids.to_value(alloc)?.to_string(alloc)?;
+    write!(out, "{} {text}", ids.len())
 }
 
 /// Adds the text of the state that the text is, as it is written.

@@ -1,5 +1,4 @@
 pub mod IdLemmas
-pub mod ClosingLemmas
 pub mod PieceLemmas
 pub mod ParameterLemmas
 pub mod OneHeader

@@ -1,9 +1,10 @@
 -- The pieces of a value: each is determined, and is found unit by unit.
-use Rattle.std.proofs.Common.{◌≡◌, ◌≢◌, ℕ, ◌+◌, ◌<◌, ◌≤◌, Bool, true, false, List, [], ◌∷◌, ◌++◌, length, take, drop, refl, sym, ap, ◌∙◌, subst, arith, append_assoc, eqb, eqb-true, eq-eqb, Option, Some, None}
+use Rattle.std.proofs.Common.{◌≡◌, ◌≢◌, ℕ, ◌+◌, ◌<◌, ◌≤◌, Bool, true, false, List, [], ◌∷◌, ◌++◌, length, take, drop, refl, sym, ap, ◌∙◌, subst, arith, append_assoc, eqb, eqb-true, eq-eqb, inl, inr, Option, Some, None}
 use Rattle.std.proofs.Math.Seq.{take-add}
 use Rattle.std.proofs.lemmas.List.{append-nil, append_cancel_left, append_cancel_right, length-append, length-drop, take_at, drop_at, drop-drop}
 use Rattle.text_words.specs.Sequence.{SameStart}
 use Rattle.header_tokens.specs.Tokens.{IsComment, IsQuoted}
+use Rattle.header_tokens.specs.Closings.{BeginsUnclosed}
 use Rattle.header_tokens.specs.Kinds.{first_octet}
 use Rattle.mime_fields.specs.ContentIds.{IsUnclosed}
 use Rattle.mime_fields.specs.Pieces.{IsClosedUnit, QuotedText, CommentText, OneOctet, is_semicolon, ArePieceUnits, IsPieceBefore, BeginsWithPiece}
@@ -152,6 +153,10 @@ nothing_ends [] e n = refl
 nothing_ends (c ∷ t) e n = absurd (n t (ap (λ (x : ℕ). x ∷ t) e))
 
 -- ---- the unit at the front
+
+-- what begins with nothing that is closed begins with no comment and no quoted text
+pub unclosed : (t : List ℕ) → BeginsUnclosed t → IsUnclosed t
+unclosed t n = record { comment = λ x y i. n x y (inr (inl i)); quoted = λ x y i. n x y (inl i) }
 
 -- an octet that begins neither a quoted text nor a comment
 pub unit_one : (t : List ℕ) → 0 < length t → IsUnclosed t → UnitOf 1 t

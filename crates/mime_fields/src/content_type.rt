@@ -6,10 +6,10 @@ ghost use Rattle.header_tokens.specs.TokenView.{token_view};
 ghost use Rattle.mime_fields.specs.ContentTypes as types;
 ghost use Rattle.mime_fields.specs.reading.MimeLexemes.{mime_lexemes};
 
-use crate::closings::closings;
 use crate::parameters::{is_token, mime_lexeme, parameter};
 use crate::pieces::next_piece;
 use gate_world::Bytes;
+use header_tokens::closings::closings;
 use header_tokens::{Token, has_mark};
 use mail_header::as_raw;
 use std::alloc::{AllocError, Global};

@@ -4,11 +4,11 @@ ghost use Rattle.mime_fields.specs.ContentTypes.{lower};
 ghost use Rattle.mime_fields.specs.Dispositions as dispositions;
 ghost use Rattle.mime_fields.specs.reading.MimeLexemes.{mime_lexemes};
 
-use crate::closings::closings;
 use crate::extended_value::extended;
 use crate::parameters::{is_token, mime_lexeme, parameter};
 use crate::pieces::next_piece;
 use gate_world::Bytes;
+use header_tokens::closings::closings;
 use header_words::{as_one_line, decode_words};
 use mail_header::as_raw;
 use std::alloc::{AllocError, Global};

@@ -2,7 +2,6 @@
 #![tactic(auto)]
 
 // Pieces and parameters of fields.
-mod closings;
 mod extended_value;
 mod field_text;
 mod parameters;

@@ -1,13 +1,13 @@
 // Tokens and parameters.
 ghost use Rattle.std.specs.Prelude.{◌≡◌, ◌<◌, [], ◌∷◌, ℕ, List, None, Some, length, IfOk, IfSome, MatchBool, MatchOption};
 ghost use Rattle.header_words.specs.Charsets.{is_ascii};
+ghost use Rattle.header_tokens.specs.reading.ClosingCounts.{TellClosings};
 ghost use Rattle.header_tokens.specs.declared.token.Alphabet.TheVariants as alphabet;
 ghost use Rattle.header_tokens.specs.Tokens.{Spelled};
 ghost use Rattle.header_tokens.specs.Lexemes.{AreLexemes, BeginsWithLexeme};
 ghost use Rattle.header_tokens.specs.TokenView.{token_view};
 ghost use Rattle.mime_fields.specs.Parameters as parameters;
 ghost use Rattle.mime_fields.specs.reading.MimeLexemes.{mime_lexemes};
-ghost use Rattle.mime_fields.specs.reading.PieceSteps.{TellClosings};
 ghost use Rattle.mime_fields.specs.reading.ParameterSteps as reading;
 
 use crate::pieces::next_piece;

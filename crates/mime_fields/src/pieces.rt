@@ -1,5 +1,6 @@
 // The pieces of a value, cut at semicolons.
 ghost use Rattle.std.specs.Prelude.{◌≡◌, ◌<◌, ◌≤◌, false, None, Some, length, take, drop, IfSome, MatchOption};
+ghost use Rattle.header_tokens.specs.reading.ClosingCounts.{TellClosings};
 ghost use Rattle.mime_fields.specs.ContentIds.{IsUnclosed};
 ghost use Rattle.mime_fields.specs.Pieces as pieces;
 ghost use Rattle.mime_fields.specs.reading.PieceSteps as reading;
@@ -28,7 +29,7 @@ fn unit_len(text: &[u8], closed: bool) -> usize
 
 /// How many octets the piece at the front has.
 fn piece_len(text: &[u8], closed: &[bool]) -> usize
-    requires { reading.TellClosings closed.now text.now }
+    requires { TellClosings closed.now text.now }
     ensures piece { pieces.IsPieceBefore (take result text.now) (drop result text.now) text.now }
     ensures ends { reading.EndsPiece (drop result text.now) }
     ensures within { result ≤ length text.now }
@@ -47,11 +48,11 @@ fn piece_len(text: &[u8], closed: &[bool]) -> usize
 /// The piece at the front, and what follows the semicolon after it. The closings of the value, whose end the text is, are
 /// known.
 pub(crate) fn next_piece<'a>(text: &'a [u8], closed: &[bool]) -> (&'a [u8], Option<&'a [u8]>)
-    requires { reading.TellClosings closed.now text.now }
+    requires { TellClosings closed.now text.now }
     ensures piece { MatchOption result.1
         (pieces.BeginsWithPiece result.0.now None text.now)
         (λ r. pieces.BeginsWithPiece result.0.now (Some r.now) text.now) }
-    ensures closings { IfSome result.1 (λ r. reading.TellClosings closed.now r.now) }
+    ensures closings { IfSome result.1 (λ r. TellClosings closed.now r.now) }
     ensures shorter { IfSome result.1 (λ r. length r.now < length text.now) }
 {
     let (piece, rest) = text.split_at(piece_len(text, closed));

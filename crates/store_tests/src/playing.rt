@@ -98,6 +98,13 @@ impl Course {
         self.answers.push_str(ending)
     }
 
+    /// Adds how an exchange ended that isn't completed, and whether octets of its command were taken.
+    fn put_broken(&mut self, end: LinkEnd, torn: bool) -> Result<(), AllocError> {
+        self.put_end(Err(end))?;
+        let taken = if torn { "torn " } else { "" };
+        self.answers.push_str(taken)
+    }
+
     /// Sends the command that is asked, where the client is alive.
     fn exchange(&mut self, alloc: Global, asked: &str) -> Result<(), AllocError> {
         let Some(command) = command_of(alloc, asked)? else {
@@ -106,9 +113,13 @@ impl Course {
         if !self.client.alive() {
             return Ok(());
         }
-        match self.client.exchange(&mut self.world, command) {
+        let mut torn = false;
+        let exchanged = self
+            .client
+            .exchange_torn(&mut self.world, command, &mut torn);
+        match exchanged {
             Ok(exchange) => self.put_status(exchange.status),
-            Err(end) => self.put_end(Err(end)),
+            Err(end) => self.put_broken(end, torn),
         }
     }
 

@@ -1,5 +1,5 @@
 -- What the search by the index finds is the Thread among all Emails.
-use Rattle.std.proofs.Common.{◌≡◌, ℕ, ◌≤◌, ◌<◌, Bool, true, false, ◌||◌, ◌&&◌, map, cond, eqb-true, eq-eqb, List, [], ◌∷◌, refl, sym, ap, ◌∙◌, subst}
+use Rattle.std.proofs.Common.{◌≡◌, ℕ, ◌≤◌, ◌<◌, Bool, true, false, ◌||◌, ◌&&◌, map, cond, eqb, eqb-true, eq-eqb, List, [], ◌∷◌, refl, sym, ap, ◌∙◌, subst}
 use Rattle.std.proofs.Common.{Option, Some, None, arith}
 use Rattle.std.specs.List.{list_any, AllByRecursion}
 use Rattle.std.specs.List.Sorted.{IsStrictlySortedBy}
@@ -15,7 +15,7 @@ use Rattle.sha2.specs.Sha256.{sha256}
 use Rattle.thread_rule.specs.reading.Keys.{base_digest, key_after}
 use Rattle.thread_rule.specs.Ids.{ids_in}
 use Rattle.thread_rule.specs.Threads.{Members, member_at, is_among, Shares, IsThreadOf, Founds, Joins, Passes}
-use Rattle.thread_rule.specs.reading.Index.{KeyIndex, emails_at, keys_of, IsIndexOf, thread_if, first_thread}
+use Rattle.thread_rule.specs.reading.Index.{EntryLists, emails_at, has_key, keys_of, IsIndexOf, thread_if, first_thread}
 use Rattle.thread_rule.proofs.IndexLemmas.{number_test, has_listed}
 
 -- an Email of these names the id and has an equal base subject
@@ -153,33 +153,33 @@ first_finds members base id [] s = λ other m h. let l = h.listed in absurd cc
 first_finds members base id (x ∷ es) s = first_finds_more members base id x es s (first_thread members base id es) (first_finds members base id es (sorted_tail nat_cmp x es s))
 
 -- an image of what is among some is among their images
-among_map : (f : List ℕ → List ℕ) (xs : List (List ℕ)) (x : List ℕ) → is_among xs x ≡ true → is_among (map f xs) (f x) ≡ true
+among_map : (f : List ℕ → ℕ) (xs : List (List ℕ)) (x : List ℕ) → is_among xs x ≡ true → has_key (map f xs) (f x) ≡ true
 among_map f [] x e = absurd (let g : false ≡ true = e in cc)
 among_map f (y ∷ xs) x e = by (bytes_eq x y) refl e (among_map f xs x)
   where
-    by : (q : Bool) → bytes_eq x y ≡ q → q || is_among xs x ≡ true → (is_among xs x ≡ true → is_among (map f xs) (f x) ≡ true)
-        → bytes_eq (f x) (f y) || is_among (map f xs) (f x) ≡ true
-    by true k h more = ap (λ (z : Bool). z || is_among (map f xs) (f x)) ((bytes_eq-Decides (f x) (f y)).1 (ap f ((bytes_eq-Decides x y).0 k)))
-    by false k h more = or_right (bytes_eq (f x) (f y)) (is_among (map f xs) (f x)) (more h)
+    by : (q : Bool) → bytes_eq x y ≡ q → q || is_among xs x ≡ true → (is_among xs x ≡ true → has_key (map f xs) (f x) ≡ true)
+        → eqb (f x) (f y) || has_key (map f xs) (f x) ≡ true
+    by true k h more = ap (λ (z : Bool). z || has_key (map f xs) (f x)) (eq-eqb (f x) (f y) (ap f ((bytes_eq-Decides x y).0 k)))
+    by false k h more = or_right (eqb (f x) (f y)) (has_key (map f xs) (f x)) (more h)
 
 -- an id that an Email names gives one of its keys, by any base subject equal to its own
 key_there : (member : Member) (base id : List ℕ) → is_among member.ids id ≡ true → SameText member.base base
-    → is_among (keys_of (Some member)) (key_after (base_digest base) id) ≡ true
+    → has_key (keys_of (Some member)) (key_after (base_digest base) id) ≡ true
 unfolding base_digest
 key_there member base id named same =
     let digest : base_digest member.base ≡ base_digest base = ap sha256 same in
-    let P : List ℕ → Type 0 = λ d. is_among (keys_of (Some member)) (key_after d id) ≡ true in
+    let P : List ℕ → Type 0 = λ d. has_key (keys_of (Some member)) (key_after d id) ≡ true in
     subst P digest (among_map (key_after (base_digest member.base)) member.ids id named)
 
 -- the key of the id and the base subject
-abbrev pub key_of : List ℕ → List ℕ → List ℕ
+abbrev pub key_of : List ℕ → List ℕ → ℕ
 key_of base id = key_after (base_digest base) id
 
 -- an Email that names the id and has an equal base subject is listed in the index at their key
-pub shares_listed : (index : KeyIndex) (members : Members) (base id : List ℕ) (email : ℕ) (member : Member) → IsIndexOf index members → Shares members base id email member
+pub shares_listed : (index : EntryLists) (members : Members) (base id : List ℕ) (email : ℕ) (member : Member) → IsIndexOf index members → Shares members base id email member
     → SharesBase members base id (emails_at index (key_of base id)) email member
 shares_listed index members base id email member i s = record {
-  listed = sym (has_listed index (key_of base id) email) ∙ i (key_of base id) email ∙ ap (λ (o : Option Member). is_among (keys_of o) (key_of base id)) s.there
+  listed = sym (has_listed index (key_of base id) email) ∙ i (key_of base id) email ∙ ap (λ (o : Option Member). has_key (keys_of o) (key_of base id)) s.there
       ∙ key_there member base id s.named s.same;
   there = s.there;
   named = s.named;
@@ -187,12 +187,12 @@ shares_listed index members base id email member i s = record {
 }
 
 -- an Email listed at the key that names the id and has an equal base subject is such an Email among all
-pub listed_shares : (index : KeyIndex) (members : Members) (base id : List ℕ) (email : ℕ) (member : Member)
+pub listed_shares : (index : EntryLists) (members : Members) (base id : List ℕ) (email : ℕ) (member : Member)
     → SharesBase members base id (emails_at index (key_of base id)) email member → Shares members base id email member
 listed_shares index members base id email member s = record { there = s.there; named = s.named; same = s.same }
 
 -- the first id decides
-pub joins : (index : KeyIndex) (members : Members) (base : List ℕ) (number : ℕ) (id : List ℕ) (more : List (List ℕ)) (thread : ℕ) → IsIndexOf index members
+pub joins : (index : EntryLists) (members : Members) (base : List ℕ) (number : ℕ) (id : List ℕ) (more : List (List ℕ)) (thread : ℕ) → IsIndexOf index members
     → IsStrictlySortedBy nat_cmp (emails_at index (key_of base id))
     → Some thread ≡ first_thread members base id (emails_at index (key_of base id)) → IsThreadOf members base number (id ∷ more) thread
 joins index members base number id more thread i s e =
@@ -204,7 +204,7 @@ joins index members base number id more thread i s e =
     (λ other m h. l.lowest other m (shares_listed index members base id other m i h)))
 
 -- the first id decides nothing
-pub passes : (index : KeyIndex) (members : Members) (base : List ℕ) (number : ℕ) (id : List ℕ) (more : List (List ℕ)) (thread : ℕ) → IsIndexOf index members
+pub passes : (index : EntryLists) (members : Members) (base : List ℕ) (number : ℕ) (id : List ℕ) (more : List (List ℕ)) (thread : ℕ) → IsIndexOf index members
     → IsStrictlySortedBy nat_cmp (emails_at index (key_of base id))
     → None ≡ first_thread members base id (emails_at index (key_of base id)) → IsThreadOf members base number more thread → IsThreadOf members base number (id ∷ more) thread
 passes index members base number id more thread i s e t =
@@ -214,18 +214,18 @@ passes index members base number id more thread i s e t =
     Passes id more thread (λ other m h. l other m (shares_listed index members base id other m i h)) t
 
 -- one turn of the search: b is the base subject as it was read, k the key, and r the text of the ids that are left
-pub joins_here : (index : KeyIndex) (members : Members) (base : List ℕ) (number : ℕ) (r x more b k : List ℕ) (thread : ℕ) → IsIndexOf index members
+pub joins_here : (index : EntryLists) (members : Members) (base : List ℕ) (number : ℕ) (r x more b : List ℕ) (k thread : ℕ) → IsIndexOf index members
     → ids_in r ≡ x ∷ ids_in more → b ≡ base → k ≡ key_of b x → IsStrictlySortedBy nat_cmp (emails_at index k)
     → Some thread ≡ first_thread members b x (emails_at index k) → IsThreadOf members base number (ids_in r) thread
 joins_here index members base number r x more b k thread o e g is s h =
     let P : List (List ℕ) → Type 0 = λ xs. IsThreadOf members base number xs thread in
     let Q : List ℕ → Type 0 = λ z. IsThreadOf members z number (x ∷ ids_in more) thread in
-    let S : List ℕ → Type 0 = λ z. IsStrictlySortedBy nat_cmp (emails_at index z) in
-    let T : List ℕ → Type 0 = λ z. Some thread ≡ first_thread members b x (emails_at index z) in
+    let S : ℕ → Type 0 = λ z. IsStrictlySortedBy nat_cmp (emails_at index z) in
+    let T : ℕ → Type 0 = λ z. Some thread ≡ first_thread members b x (emails_at index z) in
     subst P (sym e) (subst Q g (joins index members b number x (ids_in more) thread o (subst S is s) (subst T is h)))
 
 -- where the first id that is left decides nothing, the Thread is the one by those behind it
-pub passes_here : (index : KeyIndex) (members : Members) (base : List ℕ) (number : ℕ) (r x more b k : List ℕ) (thread : ℕ) → IsIndexOf index members
+pub passes_here : (index : EntryLists) (members : Members) (base : List ℕ) (number : ℕ) (r x more b : List ℕ) (k thread : ℕ) → IsIndexOf index members
     → ids_in r ≡ x ∷ ids_in more → b ≡ base → k ≡ key_of b x → IsStrictlySortedBy nat_cmp (emails_at index k)
     → None ≡ first_thread members b x (emails_at index k)
     → IsThreadOf members base number (ids_in more) thread → IsThreadOf members base number (ids_in r) thread
@@ -233,8 +233,8 @@ passes_here index members base number r x more b k thread o e g is s h t =
     let P : List (List ℕ) → Type 0 = λ xs. IsThreadOf members base number xs thread in
     let Q : List ℕ → Type 0 = λ z. IsThreadOf members z number (x ∷ ids_in more) thread in
     let R : List ℕ → Type 0 = λ z. IsThreadOf members z number (ids_in more) thread in
-    let S : List ℕ → Type 0 = λ z. IsStrictlySortedBy nat_cmp (emails_at index z) in
-    let T : List ℕ → Type 0 = λ z. None ≡ first_thread members b x (emails_at index z) in
+    let S : ℕ → Type 0 = λ z. IsStrictlySortedBy nat_cmp (emails_at index z) in
+    let T : ℕ → Type 0 = λ z. None ≡ first_thread members b x (emails_at index z) in
     subst P (sym e) (subst Q g (passes index members b number x (ids_in more) thread o (subst S is s) (subst T is h) (subst R (sym g) t)))
 
 -- where no id is left, the Email founds the Thread of its own number

@@ -10,7 +10,7 @@ use crate::index::KeyIndex;
 use crate::member::Named;
 use crate::search::{Members, thread_of};
 use std::alloc::{AllocError, Global};
-use std::collections::{BTreeMap, BTreeSet};
+use std::collections::BTreeMap;
 use std::marker::Model;
 
 /// The Emails that were put and not forgotten, each in its Thread. Contracts see the list of them, by ascending number.
@@ -39,7 +39,7 @@ impl ThreadBook {
     {
         ThreadBook {
             members: BTreeMap::new(alloc),
-            index: BTreeSet::new(alloc),
+            index: KeyIndex::new(alloc),
         }
     }
 

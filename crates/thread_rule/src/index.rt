@@ -1,15 +1,106 @@
 // From the key of an id and a base subject to the numbers of the Emails that have both.
-ghost use Rattle.std.specs.Prelude.{◌≡◌, ℕ, List, Bool, true, false, OnOk, OnErr};
+ghost use Rattle.std.specs.Prelude.{◌≡◌, ◌<◌, ℕ, List, [], Bool, true, false, length, OnOk, OnErr, MatchOption};
 ghost use Rattle.thread_rule.specs.reading.Keys.{keys_under};
 ghost use Rattle.thread_rule.specs.reading.Index as indexed;
 
 use crate::ids::{Ids, next_id};
 use crate::key::{BaseDigest, Key, key_after};
-use std::alloc::AllocError;
+use std::alloc::{AllocError, Global};
 use std::collections::BTreeSet;
+use std::marker::Model;
 
-/// Each key with the number of each of its Emails, in order of the keys and of the numbers at one key.
-pub type KeyIndex = BTreeSet<(Key, u64)>;
+/// Entries, each a key with the number of one of its Emails, in order of the keys and of the numbers at one key.
+pub type Entries = BTreeSet<(Key, u64)>;
+
+/// The entries of all keys, in a tree for each front of a key. One tree of them all would be so deep that each look-up reads
+/// memory in many places. Keys are digests, so the trees grow alike; where someone seeks keys of one front, its tree grows as
+/// one of all would. Contracts see the lists of the trees.
+#[derive(Drop)]
+pub struct KeyIndex {
+    trees: Vec<Entries>,
+}
+
+impl Model for KeyIndex {
+    ghost use Rattle.std.specs.Prelude.{map};
+    ghost use Rattle.thread_rule.specs.reading.Index.{EntryLists};
+
+    ghost Value = { EntryLists };
+
+    ghost view = { λ i. map (λ tree. tree.keys) i.trees.items };
+}
+
+/// How many keys have one front, which is the first 16 of a key's 64 bits.
+const KEYS_OF_A_FRONT: u64 = 281_474_976_710_656;
+
+/// The front of a key: one of 65,536 numbers.
+fn front_of(key: Key) -> usize
+    ensures { result ≡ indexed.front key }
+{
+    (key / KEYS_OF_A_FRONT) as usize
+}
+
+impl KeyIndex {
+    /// An index without entries. It takes no memory.
+    pub fn new(alloc: Global) -> KeyIndex
+        ensures { result ≡ [] }
+    {
+        KeyIndex {
+            trees: Vec::new(alloc),
+        }
+    }
+
+    /// The entries of the keys that have the front of this one.
+    pub fn entries_beside(&self, key: Key) -> Option<&Entries>
+        ensures { MatchOption result
+            (indexed.list_at self.now (indexed.front key) ≡ [])
+            (λ entries. entries.now.keys ≡ indexed.list_at self.now (indexed.front key)) }
+    {
+        self.trees.get(front_of(key))
+    }
+
+    /// Makes trees up to that of a front.
+    fn make_room(&mut self, front: usize) -> Result<(), AllocError>
+        ensures same { (n : ℕ) → indexed.list_at self.new n ≡ indexed.list_at self.old n }
+        ensures ok { OnOk result (front < length self.new) }
+    {
+        while self.trees.len() <= front {
+            let alloc: Global = *self.trees.allocator();
+            self.trees.push(BTreeSet::new(alloc))?;
+        }
+        Ok(())
+    }
+
+    /// Adds an entry.
+    fn add(&mut self, key: Key, email: u64) -> Result<(), AllocError>
+        ensures ok { OnOk result (indexed.SetsOne self.old self.new key email true) }
+        ensures err { OnErr result (indexed.SameIndex self.old self.new) }
+    {
+        let front = front_of(key);
+        self.make_room(front)?;
+        self.add_at(front, key, email)
+    }
+
+    /// Adds an entry where its tree is there.
+    fn add_at(&mut self, front: usize, key: Key, email: u64) -> Result<(), AllocError>
+        requires front { front ≡ indexed.front key }
+        requires room { front < length self.old }
+        ensures ok { OnOk result (indexed.SetsOne self.old self.new key email true) }
+        ensures err { OnErr result (indexed.SameIndex self.old self.new) }
+    {
+        self.trees[front].insert((key, email))?;
+        Ok(())
+    }
+
+    /// Takes an entry out, if it is there. It takes no memory.
+    fn remove(&mut self, key: Key, email: u64)
+        ensures { indexed.SetsOne self.old self.new key email false }
+    {
+        let front = front_of(key);
+        if front < self.trees.len() {
+            self.trees[front].remove(&(key, email));
+        }
+    }
+}
 
 /// Adds the Email at the key of each id under the base subject of this digest. It isn't there at any key before.
 pub fn add_all(
@@ -18,7 +109,7 @@ pub fn add_all(
     named: &Ids,
     email: u64,
 ) -> Result<(), AllocError>
-    requires { (key : List ℕ) → indexed.has_entry index.old key email ≡ false }
+    requires { (key : ℕ) → indexed.has_entry index.old key email ≡ false }
     ensures ok { OnOk result (indexed.SetsAll index.old index.new (keys_under digest.now named.now) email true) }
     ensures err { OnErr result (indexed.SameIndex index.old index.new) }
 {
@@ -38,7 +129,7 @@ pub fn remove_all(index: &mut KeyIndex, digest: &BaseDigest, named: &Ids, email:
     let mut rest = named.as_text();
     while let Some((id, more)) = next_id(rest) {
         let key = key_after(digest, id);
-        index.remove(&(key, email));
+        index.remove(key, email);
         rest = more;
     }
 }
@@ -55,7 +146,7 @@ fn add_each(
     let mut rest = named.as_text();
     while let Some((id, more)) = next_id(rest) {
         let key = key_after(digest, id);
-        index.insert((key, email))?;
+        index.add(key, email)?;
         rest = more;
     }
     Ok(())

@@ -9,12 +9,10 @@ use sha2::{Digest, Sha256};
 /// The SHA-256 digest of a base subject without regard to case.
 pub type BaseDigest = [u8; 32];
 
-/// How many octets of a digest are a key.
-const KEY_OCTETS: usize = 8;
-
-/// The first octets of the SHA-256 digest of an id after the digest of a base subject. What is found at a key is
-/// compared with the id and the base subject before it counts, so two ids with one key change no answer.
-pub type Key = [u8; KEY_OCTETS];
+/// The number in the first 8 octets of the SHA-256 digest of an id after the digest of a base subject, where the highest
+/// digit comes first. What is found at a key is compared with the id and the base subject before it counts, so two ids with
+/// one key change no answer.
+pub type Key = u64;
 
 /// How many octets of a text are in lower case at once.
 const PIECE_OCTETS: usize = 64;
@@ -75,6 +73,6 @@ pub fn key_after(digest: &BaseDigest, id: &[u8]) -> Key
     let whole = hasher.finalize();
     match whole.first_chunk() {
         None => unreachable!(),
-        Some(key) => *key,
+        Some(octets) => u64::from_be_bytes(*octets),
     }
 }

@@ -1,13 +1,14 @@
 // The Thread of a new Email, by the index.
 ghost use Rattle.std.specs.Prelude.{◌≡◌, ℕ, None, Some};
 ghost use Rattle.std.specs.BTreeSet.{IsOrdered};
+ghost use Rattle.std.specs.List.Sorted.{IsStrictlySortedBy};
 ghost use Rattle.thread_rule.specs.Ids.{ids_in};
 ghost use Rattle.thread_rule.specs.Threads as threads;
 ghost use Rattle.thread_rule.specs.reading.Keys as keys;
 ghost use Rattle.thread_rule.specs.reading.Index as indexed;
 
 use crate::ids::next_id;
-use crate::index::KeyIndex;
+use crate::index::{Entries, KeyIndex};
 use crate::key::{Key, base_digest, key_after};
 use crate::member::{Member, Named};
 use std::collections::BTreeMap;
@@ -26,7 +27,7 @@ pub fn thread_of(members: &Members, index: &KeyIndex, named: &Named) -> u64
     let mut rest = named.ids.as_text();
     while let Some((id, more)) = next_id(rest) {
         let key = key_after(&digest, id);
-        if let Some(thread) = shared(members, index, &key, id, named.base.as_slice()) {
+        if let Some(thread) = shared(members, index, key, id, named.base.as_slice()) {
             return thread;
         }
         rest = more;
@@ -35,12 +36,23 @@ pub fn thread_of(members: &Members, index: &KeyIndex, named: &Named) -> u64
 }
 
 /// The Thread of the lowest Email at the key that names the id and has an equal base subject.
-pub fn shared(members: &Members, index: &KeyIndex, key: &Key, id: &[u8], base: &[u8]) -> Option<u64>
-    ensures first { result ≡ indexed.first_thread members.now.entries base.now id.now (indexed.emails_at index.now key.now) }
-    ensures ordered { IsOrdered indexed.entry_cmp index.now }
+pub fn shared(members: &Members, index: &KeyIndex, key: Key, id: &[u8], base: &[u8]) -> Option<u64>
+    ensures first { result ≡ indexed.first_thread members.now.entries base.now id.now (indexed.emails_at index.now key) }
+    ensures ordered { IsStrictlySortedBy indexed.entry_cmp (indexed.list_at index.now (indexed.front key)) }
 {
-    for entry in index.range((*key, 0)..) {
-        if entry.0 != *key {
+    match index.entries_beside(key) {
+        None => None,
+        Some(entries) => shared_in(members, entries, key, id, base),
+    }
+}
+
+/// The same among these entries.
+fn shared_in(members: &Members, entries: &Entries, key: Key, id: &[u8], base: &[u8]) -> Option<u64>
+    ensures first { result ≡ indexed.first_thread members.now.entries base.now id.now (indexed.numbers_at key entries.now.keys) }
+    ensures ordered { IsOrdered indexed.entry_cmp entries.now }
+{
+    for entry in entries.range((key, 0)..) {
+        if entry.0 != key {
             return None;
         }
         if let Some(thread) = thread_if(members, entry.1, id, base) {

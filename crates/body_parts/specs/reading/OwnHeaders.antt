@@ -13,6 +13,11 @@ is_of_header Headers = true
 is_of_header (Header asked) = true
 is_of_header asked = false
 
+-- a field by its name
+abbrev pub is_named : PartProperty → Bool
+is_named (Header asked) = true
+is_named asked = false
+
 abbrev pub needs_header : List PartProperty → Bool
 needs_header asked = list_any is_of_header asked
 

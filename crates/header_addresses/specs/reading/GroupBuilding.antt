@@ -6,9 +6,10 @@ use Rattle.header_addresses.specs.declared.address.Address.{Address}
 use Rattle.header_addresses.specs.declared.address.Group.{Group}
 use Rattle.header_addresses.specs.declared.address_lists.Builder.{Builder}
 use Rattle.header_tokens.specs.Tokens.{Spelled}
-use Rattle.header_addresses.specs.Mailboxes.{Mailbox}
-use Rattle.header_addresses.specs.AddressLists.{Element, IsElement, Grouped}
-use Rattle.header_addresses.specs.Names.{IsAddress, IsGroupName, IsGroup}
+use Rattle.header_words.specs.EncodedWords.{IsText}
+use Rattle.header_addresses.specs.Mailboxes.{is_phrase, Mailbox}
+use Rattle.header_addresses.specs.AddressLists.{Element, IsElement, Grouped, One, AreAddressees}
+use Rattle.header_addresses.specs.Names.{phrase_text, IsAddress, IsGroupName, IsGroup}
 use Rattle.header_addresses.specs.reading.ElementReading.{are_nested, is_addressee, grouped_from, AreFilled}
 
 -- The builder has these groups, and the open one has this phrase and these mailboxes.
@@ -48,3 +49,13 @@ IsNoList ts = (es : List Element) → Sequence IsElement es ts → are_list es �
 pub data GroupsIn (ts : List Spelled) : Option (List Group) → Type 0 where
   NoGroups : IsNoList ts → GroupsIn ts None
   Groups : (es : List Element) (list : List Group) → IsList es ts → AllZip IsGroup (grouped_from None [] es) list → GroupsIn ts (Some list)
+
+-- the address that tokens are by themselves
+pub data OneIn (ts : List Spelled) : Option Address → Type 0 where
+  NotOne : ((es : List Element) (m : Mailbox) → Sequence IsElement es ts → AreAddressees (One m ∷ []) es → ⊥) → OneIn ts None
+  IsOne : (es : List Element) (m : Mailbox) (a : Address) → Sequence IsElement es ts → AreAddressees (One m ∷ []) es → IsAddress m a → OneIn ts (Some a)
+
+-- the name of tokens that are a phrase
+pub data NameIn (ts : List Spelled) : Option (List ℕ) → Type 0 where
+  NotPhrase : is_phrase ts ≡ false → NameIn ts None
+  IsPhrase : (name : List ℕ) → is_phrase ts ≡ true → IsText false (phrase_text ts) name → NameIn ts (Some name)

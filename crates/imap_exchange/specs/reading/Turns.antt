@@ -6,8 +6,8 @@ use Rattle.imap_syntax.specs.declared.response.Response.TheVariants.{Tagged, Unt
 use Rattle.imap_syntax.specs.declared.response.Status.{Status}
 use Rattle.imap_syntax.specs.declared.response.Status.TheVariants as status
 use Rattle.imap_exchange.specs.declared.link_end.LinkEnd.TheVariants as end
-use Rattle.imap_exchange.specs.declared.exchange.Turn.{Turn}
-use Rattle.imap_exchange.specs.declared.exchange.Turn.TheVariants as turn
+use Rattle.imap_exchange.specs.declared.turn.Turn.{Turn}
+use Rattle.imap_exchange.specs.declared.turn.Turn.TheVariants as turn
 use Rattle.imap_exchange.specs.Exchanges.{IsOpen, is_continue}
 
 -- a status that ends the exchange, where all pieces are due or not

@@ -1,6 +1,7 @@
 -- The parts of a request as the code has them, and capabilities noted in turn, for private clauses.
 use Rattle.std.specs.Prelude.{ℕ, List, [], ◌∷◌, if◌then◌else◌, bytes_eq, map, Option, Some, None, option_and_then, false, true}
-use Rattle.jmap_core.specs.Request.{Form as FormData, call_data, core_capability, mail_capability}
+use Rattle.jmap_core.specs.Request.{Form as FormData, core_capability, mail_capability}
+use Rattle.result_references.specs.Call.{call_data}
 use Rattle.jmap_core.specs.declared.request_body.Form.{Form}
 use Rattle.jmap_methods.specs.declared.using.Using.{Using}
 

@@ -1,11 +1,6 @@
 -- How the code reads pieces.
-use Rattle.std.specs.Prelude.{◌≡◌, ℕ, Bool, List, [], ◌∷◌, ◌++◌, length, take}
+use Rattle.std.specs.Prelude.{◌≡◌, ℕ, List, [], ◌∷◌, ◌++◌, length}
 use Rattle.mime_fields.specs.Pieces.{IsClosedUnit}
-use Rattle.mime_fields.specs.reading.Closings.{closings}
-
--- the closings of a longer text tell those of this one, which is its end
-abbrev pub TellClosings : List Bool → List ℕ → Type 0
-TellClosings closed t = take (length t) closed ≡ closings t
 
 -- the text begins with a unit of n octets
 pub record UnitOf (n : ℕ) (t : List ℕ) : Type 0 where

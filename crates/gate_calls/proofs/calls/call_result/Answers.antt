@@ -1,5 +1,5 @@
 use Rattle.std.proofs.Common.{◌∙◌, ℕ, List, map, sym, ap}
-use Rattle.jmap_core.specs.Request.{call_data}
+use Rattle.result_references.specs.Call.{call_data}
 use Rattle.gate_calls.specs.MethodNames.{method_asked}
 use Rattle.gate_calls.proofs.Calling.{unnamed}
 use Rattle.gate_calls.proofs.calls.call_result.Goals as goal

@@ -1,6 +1,6 @@
 use Rattle.std.proofs.Common.{map}
 use Rattle.serde_json.specs.View.{view}
-use Rattle.jmap_core.specs.Request.{call_data}
+use Rattle.result_references.specs.Call.{call_data}
 use Rattle.gate_calls.proofs.Calling.{resolved, unresolved}
 use Rattle.gate_calls.proofs.calls.method_result.Goals as goal
 

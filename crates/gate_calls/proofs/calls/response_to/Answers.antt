@@ -1,5 +1,5 @@
 use Rattle.std.proofs.Common.{map}
-use Rattle.jmap_core.specs.Request.{call_data}
+use Rattle.result_references.specs.Call.{call_data}
 use Rattle.gate_calls.proofs.Calling.{responds}
 use Rattle.gate_calls.proofs.calls.response_to.Goals as goal
 

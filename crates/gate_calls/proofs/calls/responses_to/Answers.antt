@@ -4,8 +4,8 @@ use Rattle.std.proofs.lemmas.Result.{err_from_is_err_and}
 use Rattle.email_bodies.specs.Asking.{AsksInVain}
 use Rattle.email_bodies.proofs.Joins.{vain_at_once}
 use Rattle.email_get.specs.Asked.{AsksAnd}
-use Rattle.jmap_core.specs.Request.{call_data}
-use Rattle.jmap_core.specs.declared.call.Call.{Call}
+use Rattle.result_references.specs.Call.{call_data}
+use Rattle.result_references.specs.declared.call.Call.{Call}
 use Rattle.gate_calls.proofs.Calling.{CallFails, CallsBegin, ResponseIs, all_in_vain, all_more, makes_none, none_yet, one_answered, one_in_vain}
 use Rattle.gate_calls.proofs.calls.responses_to.Goals as goal
 

@@ -1,6 +1,6 @@
 use Rattle.std.proofs.Common.{sym, ◌∙◌}
 use Rattle.gate_calls.specs.MethodNames.{needs_mail_by}
-use Rattle.jmap_core.specs.Request.{CallData, call_data}
+use Rattle.result_references.specs.Call.{CallData, call_data}
 use Rattle.gate_calls.proofs.Calling.{any_map}
 use Rattle.gate_calls.proofs.needs.needs_mail.Goals as goal
 

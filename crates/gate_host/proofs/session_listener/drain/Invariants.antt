@@ -1,6 +1,6 @@
 -- No more is dropped than may be.
 use Rattle.std.proofs.Common.{◌≤◌, ◌-◌}
-use Rattle.client_front.specs.declared.serving.TheConstants.{MAX_DRAIN_OCTETS}
+use Rattle.client_streams.specs.declared.finished.TheConstants.{MAX_DRAIN_OCTETS}
 use Rattle.gate_host.proofs.session_listener.drain.Given as goal
 
 abbrev pub invariant-loop-dropped : goal.invariant-loop-dropped

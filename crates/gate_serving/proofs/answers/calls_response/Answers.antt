@@ -1,7 +1,8 @@
 use Rattle.std.proofs.Common.{ap, map, List}
 use Rattle.std.proofs.lemmas.Result.{err_from_is_err_and}
-use Rattle.jmap_core.specs.Request.{call_data, request_data}
-use Rattle.jmap_core.specs.declared.call.Call.{Call}
+use Rattle.jmap_core.specs.Request.{request_data}
+use Rattle.result_references.specs.Call.{call_data}
+use Rattle.result_references.specs.declared.call.Call.{Call}
 use Rattle.gate_serving.proofs.Made.{calls_lacked, calls_made}
 use Rattle.gate_serving.proofs.answers.calls_response.Goals as goal
 

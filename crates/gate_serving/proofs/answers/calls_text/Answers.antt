@@ -2,7 +2,7 @@ use Rattle.std.proofs.Common.{◌≡◌, ◌∙◌, List, ℕ, Option, map}
 use Rattle.std.specs.Prelude.{string_bytes}
 use Rattle.serde_json.specs.Written.{compact_text}
 use Rattle.jmap_core.specs.CreatedIds.{Ids}
-use Rattle.jmap_core.specs.Request.{CallData, call_data}
+use Rattle.result_references.specs.Call.{CallData, call_data}
 use Rattle.jmap_core.specs.Response.{response_data}
 use Rattle.jmap_core.specs.Session.{session_state_text}
 use Rattle.gate_serving.specs.Answers.{calls_text}

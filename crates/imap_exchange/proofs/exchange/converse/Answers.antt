@@ -1,4 +1,4 @@
-use Rattle.std.proofs.Common.{rules, arith, ◌∙◌, sym, subst, Bool, ap}
+use Rattle.std.proofs.Common.{rules, arith, ◌∙◌, sym, subst, Bool, true, ap}
 use Rattle.std.proofs.lemmas.Result.{err_from_is_err_and}
 use Rattle.gate_world.proofs.Joins.{join, widen}
 use Rattle.imap_exchange.specs.Exchanges.{is_continue}
@@ -10,8 +10,9 @@ pub conversing-init : goal.conversing-init
 conversing-init g c =
     record {
       tape = rw c.new-responses.ensures.items (widen _ c.send_piece.ensures.tape
-          (λ x offers. first_piece c.args.pieces.now c.args.received.now c.send_piece.result
-          (subst (λ (b : Bool). Offers b c.send_piece.result (piece_at c.args.pieces.now 0) x) c.requires.up offers)));
+          (λ x offers. first_piece c.args.pieces.now c.args.received.now c.send_piece.result c.send_piece.new.taken
+          (subst (λ (b : Bool). Offers true c.send_piece.result b c.send_piece.new.taken (piece_at c.args.pieces.now 0) x) c.requires.none
+          (subst (λ (b : Bool). Offers b c.send_piece.result c.args.taken.now c.send_piece.new.taken (piece_at c.args.pieces.now 0) x) c.requires.up offers))));
       place = rw c.new-responses.ensures.items (omega (arith, c.requires.some));
       room = omega arith;
       begun = omega (arith, c.offset-begun.ensures);
@@ -54,7 +55,7 @@ returns-in_err-keep-in-Open-clause-tape g c =
     rw (is.1, is.2) (join _ c.conversing.invariant.tape c.in_ok-response.ensures.tape
     (λ x y so reads. let h = heard c.offset-begun.result c.next_response.new.up c.in_ok-response.response c.offset-begun.ensures c.conversing.invariant.place
     c.in_ok-response.ensures.stays so reads in
-    wanting c.args.due.now c.next_response.new.received h.speaks))
+    wanting c.args.due.now c.next_response.new.received h.speaks h.taken_is))
 
 pub returns-in_err-keep-in-Continue-clause-tape : goal.returns-in_err-keep-in-Continue-clause-tape
 returns-in_err-keep-in-Continue-clause-tape g c =
@@ -62,7 +63,7 @@ returns-in_err-keep-in-Continue-clause-tape g c =
     rw (is.1, is.2) (join _ c.conversing.invariant.tape c.in_ok-response.ensures.tape
     (λ x y so reads. let h = heard c.offset-begun.result c.next_response.new.up c.in_ok-response.response c.offset-begun.ensures c.conversing.invariant.place
     c.in_ok-response.ensures.stays so reads in
-    wanting c.args.due.now c.next_response.new.received h.speaks))
+    wanting c.args.due.now c.next_response.new.received h.speaks h.taken_is))
 
 -- a continuation
 pub conversing-preserved : goal.conversing-preserved
@@ -74,7 +75,7 @@ conversing-preserved g c =
           (join _ c.conversing.invariant.tape c.in_ok-response.ensures.tape
           (λ x y so reads. heard c.offset-begun.result c.next_response.new.up c.in_ok-response.response c.offset-begun.ensures c.conversing.invariant.place
           c.in_ok-response.ensures.stays so reads))
-          c.send_piece-in-Continue.ensures.tape (λ x z h offers. continued c.in_ok-response.response c.next_place-at.result c.send_piece-in-Continue.result here
+          c.send_piece-in-Continue.ensures.tape (λ x z h offers. continued c.in_ok-response.response c.next_place-at.result c.send_piece-in-Continue.result c.send_piece-in-Continue.new.taken here
           c.conversing.invariant.place c.next_place-at.ensures h offers));
       place = rw c.in_ok-keep-in-Continue.ensures (omega (arith, c.conversing.invariant.place, c.next_place-at.ensures, counted));
       room = omega (arith, c.conversing.invariant.room, c.in_ok-response.ensures.progress);

@@ -9,7 +9,7 @@ use Rattle.imap_exchange.proofs.exchange.converse.Given as goal
 abbrev pub invariant-conversing : goal.invariant-conversing
 invariant-conversing g l =
     record {
-      tape : Adds (g.L.Taped.tape l.fn.link) (g.L.Taped.tape l.link) (Course l.pieces l.fn.received l.received l.responses.items l.at l.up);
+      tape : Adds (g.L.Taped.tape l.fn.link) (g.L.Taped.tape l.link) (Course l.pieces l.fn.received l.received l.responses.items l.at l.up l.taken);
       place : l.at ≡ min (continuations l.responses.items + 1) (length l.pieces);
       room : room_left l.received ≤ room_left l.fn.received;
       begun : l.begun ≤ l.received.given;

@@ -1,6 +1,7 @@
 use Rattle.std.proofs.Common.{◌≡◌, drop, map, ◌++◌, option_map}
 use Rattle.serde_json.specs.View.{items_view}
-use Rattle.jmap_core.specs.Request.{call_data, calls_in}
+use Rattle.jmap_core.specs.Request.{calls_in}
+use Rattle.result_references.specs.Call.{call_data}
 use Rattle.jmap_core.proofs.request_body.calls_in.Given as goal
 
 -- the calls so far, and those of the rest, are those of all

@@ -1,6 +1,6 @@
 use Rattle.std.proofs.Common.{◌≡◌, map, take}
 use Rattle.serde_json.specs.View.{view}
-use Rattle.jmap_core.specs.Request.{call_data}
+use Rattle.result_references.specs.Call.{call_data}
 use Rattle.jmap_core.specs.Response.{answer_data}
 use Rattle.jmap_core.proofs.response.answer_values.Given as goal
 

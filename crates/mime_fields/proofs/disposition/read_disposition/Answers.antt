@@ -1,7 +1,7 @@
 use Rattle.std.proofs.Common.{◌∙◌}
 use Rattle.std.specs.Prelude.{codes}
 use Rattle.mime_fields.specs.reading.MimeLexemes.{mime_lexemes}
-use Rattle.mime_fields.proofs.ClosingLemmas.{tell_all}
+use Rattle.header_tokens.proofs.ClosingLemmas.{tell_all}
 use Rattle.mime_fields.proofs.ParameterLemmas.{has_parameter, has_front}
 use Rattle.mime_fields.proofs.disposition.read_disposition.Goals as goal
 

@@ -1,6 +1,6 @@
 use Rattle.std.proofs.Common.{ℕ, List, Bor}
 use Rattle.std.specs.Prelude.{IfSome}
-use Rattle.mime_fields.specs.reading.PieceSteps.{TellClosings}
+use Rattle.header_tokens.specs.reading.ClosingCounts.{TellClosings}
 use Rattle.mime_fields.proofs.ParameterLemmas.{FirstSoFar, left_len}
 use Rattle.mime_fields.proofs.parameters.parameter.Given as goal
 

@@ -1,4 +1,4 @@
-use Rattle.mime_fields.proofs.ClosingLemmas.{tell_behind}
+use Rattle.header_tokens.proofs.ClosingLemmas.{tell_behind}
 use Rattle.mime_fields.proofs.pieces.next_piece.Goals as goal
 
 pub returns-in-Some-clause-closings : goal.returns-in-Some-clause-closings

@@ -2,8 +2,8 @@ use Rattle.std.proofs.Common.{◌≡◌, ◌-◌, ℕ, List, ◌++◌, length, t
 use Rattle.std.proofs.lemmas.List.{length-drop}
 use Rattle.header_tokens.specs.Kinds.{first_octet}
 use Rattle.mime_fields.specs.reading.PieceSteps.{UnitOf}
-use Rattle.mime_fields.proofs.ClosingLemmas.{tell_len, tell_end, tell_open}
-use Rattle.mime_fields.proofs.PieceLemmas.{piece_ends, piece_more, unit_moves}
+use Rattle.header_tokens.proofs.ClosingLemmas.{tell_len, tell_end, tell_open}
+use Rattle.mime_fields.proofs.PieceLemmas.{unclosed, piece_ends, piece_more, unit_moves}
 use Rattle.mime_fields.proofs.pieces.piece_len.Goals as goal
 
 pub returns-then-first_octet-eq59-clause-piece : goal.returns-then-first_octet-eq59-clause-piece
@@ -24,7 +24,7 @@ unit_len-at-requires-clause-open c = λ f.
     let e = c.split_at.ensures.back in
     let w : t ≡ take c.loop-at.at t ++ rest = sym (take-append-drop c.loop-at.at t) ∙ ap (λ (u : List ℕ). take c.loop-at.at t ++ u) (sym e) in
     let h = tell_end c.args.closed.now (take c.loop-at.at t) rest t w c.requires in
-    tell_open c.args.closed.now rest (length rest - 1) _ h (omega (arith, length-drop c.loop-at.at t, ap length e, c.loop-at-test.true)) f
+    unclosed rest (tell_open c.args.closed.now rest (length rest - 1) _ h (omega (arith, length-drop c.loop-at.at t, ap length e, c.loop-at-test.true)) f)
 
 pub loop-at-preserved : goal.loop-at-preserved
 loop-at-preserved c =

@@ -1,5 +1,5 @@
 use Rattle.std.proofs.Common.{false}
-use Rattle.thread_rule.proofs.IndexLemmas.{none_set, keys_turn, all_set, sets_one}
+use Rattle.thread_rule.proofs.IndexLemmas.{none_set, keys_turn, all_set}
 use Rattle.thread_rule.proofs.index.remove_all.Goals as goal
 
 pub loop-id-init : goal.loop-id-init
@@ -9,7 +9,7 @@ pub loop-id-preserved : goal.loop-id-preserved
 loop-id-preserved c =
     keys_turn c.args.index.now c.loop-id.index c.remove.new.self c.args.digest.now c.args.named.now c.loop-id.rest.now c.in-Some.id.now c.in-Some.more.now c.key_after-key.result
     c.args.email false c.loop-id.invariant c.in-Some.ensures.ids c.key_after-key.ensures
-    (sets_one c.loop-id.index c.remove.new.self c.key_after-key.result c.args.email false c.remove.ensures.updates)
+    c.remove.ensures
 
 pub returns : goal.returns
 returns c =

@@ -1,6 +1,7 @@
 use Rattle.std.proofs.Common.{◌≡◌, ◌∙◌, sym, ap, ℕ, List, subst}
 use Rattle.thread_rule.specs.Threads.{IsThreadOf}
 use Rattle.thread_rule.specs.reading.Keys.{base_digest, key_after}
+use Rattle.thread_rule.specs.reading.Index.{front, list_at}
 use Rattle.thread_rule.proofs.IndexLemmas.{numbers_ascend}
 use Rattle.thread_rule.proofs.SearchLemmas.{key_of, joins_here, passes_here, founds_at_end, one_thread}
 use Rattle.thread_rule.proofs.search.thread_of.Goals as goal
@@ -19,7 +20,7 @@ returns-in-Some-shared-clause-is c =
     c.loop-id.invariant c.in-Some-shared.thread
     (joins_here c.args.index.now c.args.members.now.entries c.args.named.now.base c.args.named.now.email c.loop-id.rest.now x c.in-Some.more.now b c.key_after-key.result
     c.in-Some-shared.thread c.requires c.in-Some.ensures.ids c.as_slice-in-Some.ensures key
-    (numbers_ascend c.key_after-key.result c.args.index.now.keys c.in-Some-shared.ensures.ordered) c.in-Some-shared.ensures.first)
+    (numbers_ascend c.key_after-key.result (list_at c.args.index.now (front c.key_after-key.result)) c.in-Some-shared.ensures.ordered) c.in-Some-shared.ensures.first)
 
 pub loop-id-preserved : goal.loop-id-preserved
 loop-id-preserved c = λ thread t.
@@ -30,7 +31,7 @@ loop-id-preserved c = λ thread t.
     c.loop-id.invariant thread
     (passes_here c.args.index.now c.args.members.now.entries c.args.named.now.base c.args.named.now.email c.loop-id.rest.now x c.in-Some.more.now b c.key_after-key.result
     thread c.requires c.in-Some.ensures.ids c.as_slice-in-Some.ensures key
-    (numbers_ascend c.key_after-key.result c.args.index.now.keys c.in_default-shared.ensures.ordered) c.in_default-shared.ensures.first t)
+    (numbers_ascend c.key_after-key.result (list_at c.args.index.now (front c.key_after-key.result)) c.in_default-shared.ensures.ordered) c.in_default-shared.ensures.first t)
 
 pub returns-clause-is : goal.returns-clause-is
 returns-clause-is c =

@@ -1,5 +1,5 @@
 use Rattle.std.proofs.Common.{inr, refl}
-use Rattle.client_front.proofs.Finished.{one-lingers}
+use Rattle.client_front.proofs.Handed.{one-lingers}
 use Rattle.client_front.proofs.acceptor.Acceptor+L+C+L+Stream.leave.Goals as goal
 
 pub returns-in-Some : goal.returns-in-Some

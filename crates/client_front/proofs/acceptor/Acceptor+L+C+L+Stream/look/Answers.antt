@@ -1,5 +1,5 @@
 use Rattle.std.proofs.Common.{ℕ, List, subst, take}
-use Rattle.client_front.proofs.Handed.{look-ends}
+use Rattle.client_front.proofs.Handed.{look-ends, look-went-on}
 use Rattle.client_front.specs.Accepting.{Asked, state}
 use Rattle.client_front.specs.Waiting.{held}
 use Rattle.client_front.proofs.acceptor.Acceptor+L+C+L+Stream.look.Goals as goal
@@ -19,6 +19,7 @@ returns-clause-looks g c = record {
       (λ (keys : List ℕ). Asked g.L.Stream.ClientStream.shows c.in_ok-now.now (held c.admit_all.new.self.waiting) keys (held c.ask_all.new.self.waiting))
       c.split_at.ensures.front c.ask_all.ensures.asked;
   expired = c.expire.ensures;
-  closed = look-ends c.admit_all.new.self c.ask_all.new.self c.expire.new.self c.close_due.new.self c.in_ok-now.now c.ask_all.ensures.same
-      c.close_due.ensures;
+  went_on = look-went-on g.L.Stream.ClientStream.gives c.admit_all.new.self c.ask_all.new.self c.in_ok-now.now c.go_on.new.self.clients.items
+      c.ask_all.ensures.same c.go_on.ensures;
+  after_all = look-ends c.admit_all.new.self c.ask_all.new.self c.expire.new.self c.go_on.new.self c.ask_all.ensures.same;
 }

@@ -1,2 +1,0 @@
--- Clients that linger, one by one: private clauses and proofs alone speak of it.
-pub mod Lingering

@@ -1,0 +1,24 @@
+use Rattle.std.proofs.Common.{ℕ, arith, inl, inr, refl, subst}
+use Rattle.client_streams.specs.Draining.{DropsPiece, NoPiece, OnePiece}
+use Rattle.client_streams.proofs.finished.Finished.drop_all.Goals as goal
+
+pub pieces-init : goal.pieces-init
+pieces-init g c = NoPiece
+
+pub returns-in_default : goal.returns-in_default
+returns-in_default g c = (c.pieces.self, c.pieces.invariant, c.in_default.ensures.none)
+
+-- none has come yet
+pub returns-then-count-eq0 : goal.returns-then-count-eq0
+returns-then-count-eq0 g c = (
+  c.pieces.self,
+  c.pieces.invariant,
+  inl (subst (λ (n : ℕ). DropsPiece g.S.ClientStream.gives n c.pieces.self c.drop_piece.new.self) c.if-count-eq0.true c.in-Some.ensures.some),
+)
+
+pub pieces-preserved : goal.pieces-preserved
+pieces-preserved g c = OnePiece {n = c.in-Some.count} c.pieces.invariant (omega (arith, c.if-count-eq0.false)) c.in-Some.ensures.some
+
+-- as many are dropped as may be
+pub returns : goal.returns
+returns g c = (c.pieces.self, c.pieces.invariant, inr (omega (arith, c.pieces-test.false), refl))

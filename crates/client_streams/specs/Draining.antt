@@ -1,0 +1,34 @@
+-- A client whose response is whole: what it still sends is dropped as it comes.
+use Rattle.std.specs.Prelude.{◌≡◌, ◌+◌, ◌-◌, ◌<◌, ◌≤◌, ◌⊎◌, ℕ, Bool, true, false, List, length, min, Option, None, Some}
+use Rattle.client_streams.specs.Patience.{capped}
+use Rattle.client_streams.specs.declared.finished.Finished.{Finished}
+use Rattle.client_streams.specs.declared.finished.TheConstants.{DRAIN_MILLISECONDS, DRAIN_PIECE_OCTETS, MAX_DRAIN_OCTETS}
+
+-- a client whose response is whole now: it is closed `DRAIN_MILLISECONDS` later, if it isn't earlier
+abbrev pub finished : {S : Type 0} → ℕ → S → Finished S
+finished now stream = record { due = capped (now + DRAIN_MILLISECONDS); dropped = 0; stream = stream }
+
+-- how many octets one look for them asks for: no more than may be dropped still
+abbrev pub piece : ℕ → ℕ
+piece dropped = min DRAIN_PIECE_OCTETS (MAX_DRAIN_OCTETS - dropped)
+
+module _ {S : Type 0} (gives : S → ℕ → Option (List ℕ) → S → Type 0) where
+  -- a look gives so many octets, which are dropped; none where none has come yet
+  abbrev pub DropsPiece : ℕ → Finished S → Finished S → Type 0
+  DropsPiece n old new =
+      (old.dropped < MAX_DRAIN_OCTETS) × (octets : List ℕ) × gives old.stream (piece old.dropped) (Some octets) new.stream × (length octets ≡ n)
+      × (new ≡ record old { dropped = old.dropped + n; stream = new.stream })
+
+  -- a look finds that no more comes
+  abbrev pub EndsInput : Finished S → Finished S → Type 0
+  EndsInput old new = (old.dropped < MAX_DRAIN_OCTETS) × gives old.stream (piece old.dropped) None new.stream
+
+  -- pieces are dropped, one after another
+  pub data DropsSome (old : Finished S) : Finished S → Type 0 where
+    NoPiece : DropsSome old old
+    OnePiece : {n : ℕ} {mid new : Finished S} → DropsSome old mid → 0 < n → DropsPiece n mid new → DropsSome old new
+
+  -- What has come is dropped, until none has come yet or `MAX_DRAIN_OCTETS` are dropped in all: the client stays. Or no more comes.
+  abbrev pub DropsAll : Bool → Finished S → Finished S → Type 0
+  DropsAll true old new = (mid : Finished S) × DropsSome old mid × (DropsPiece 0 mid new ⊎ ((MAX_DRAIN_OCTETS ≤ mid.dropped) × (new ≡ mid)))
+  DropsAll false old new = (mid : Finished S) × DropsSome old mid × EndsInput mid new

@@ -1,0 +1,3 @@
+pub mod Draining
+pub mod Lingering
+pub mod Patience

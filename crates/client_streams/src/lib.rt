@@ -1,0 +1,26 @@
+//! A client's stream, how long a client may take over octets, and clients whose response is whole: they stay for a short time,
+//! while others are served.
+#![tactic(auto)]
+
+// A client's stream, and the toolchain's under it.
+mod client_stream;
+mod streams;
+mod tcp_client;
+
+// How long octets may take.
+mod pace;
+mod taking;
+
+// Clients whose response is whole.
+mod finished;
+mod lingering;
+
+pub use client_stream::ClientStream;
+pub use finished::{DRAIN_MILLISECONDS, Finished, MAX_DRAIN_OCTETS};
+pub use lingering::{Lingering, MAX_LINGERING_CLIENTS};
+pub use pace::{
+    MIN_OCTETS_PER_MILLISECOND, PATIENCE_MILLISECONDS, Pace, STALL_MILLISECONDS, left, patience,
+};
+pub use streams::{read_once, write_once};
+pub use taking::Taking;
+pub use tcp_client::TcpClient;

@@ -1,7 +1,0 @@
-use Rattle.std.proofs.Common.{arith}
-use Rattle.std.proofs.lemmas.Str.Pattern.{strip_prefix_char}
-use Rattle.jmap_core.proofs.Paths.{after_first-from}
-use Rattle.jmap_core.proofs.pointer.after_slash.Goals as goal
-
-pub returns : goal.returns
-returns c = after_first-from 47 c.args.text.now c.strip_prefix.result (strip_prefix_char 47 c.args.text.now c.strip_prefix.result c.strip_prefix.ensures.cases (omega arith))

@@ -1,0 +1,4 @@
+pub mod ElementLemmas
+pub mod AngleLemmas
+pub mod BareLemmas
+pub mod LooseLemmas

@@ -1,0 +1,3 @@
+pub mod LooseLists
+pub mod LooseForms
+pub mod reading

@@ -1,0 +1,4 @@
+-- How the code reads: what proofs and private clauses use, and no public clause needs.
+pub mod ElementSteps
+pub mod AngleSteps
+pub mod BareSteps

@@ -1,0 +1,5 @@
+pub mod Limits
+pub mod Paths
+pub mod Reached
+pub mod Segments
+pub mod TextLengths

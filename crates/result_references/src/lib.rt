@@ -1,0 +1,19 @@
+//! Result references (RFC 8620 section 3.7): arguments of method calls in which they stand for values of earlier responses.
+#![tactic(auto)]
+
+mod call;
+
+// Where paths lead.
+mod path;
+mod pointer;
+mod walks;
+
+// References, and the limit of what they come to.
+mod limit;
+mod octets;
+mod references;
+mod sources;
+
+pub use call::Call;
+pub use octets::MAX_RESOLVED_OCTETS;
+pub use references::resolve;
