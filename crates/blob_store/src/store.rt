@@ -6,7 +6,7 @@ ghost use Rattle.blob_store.specs.declared.error.BlobError.TheVariants.{TooLarge
 use crate::BlobError;
 use crate::blob_id::{BlobId, blob_id};
 use crate::uploads::Uploads;
-use gate_world::Bytes;
+use octets::Bytes;
 use std::alloc::Global;
 use std::marker::Model;
 

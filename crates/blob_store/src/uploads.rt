@@ -3,8 +3,8 @@ ghost use Rattle.std.specs.Prelude.{◌≡◌, ◌+◌, ◌<◌, ◌≤◌, ◌^
 ghost use Rattle.blob_store.specs.Uploads.{blob_id as id_of, octets_in_all, upload_with};
 
 use crate::blob_id::BlobId;
-use gate_world::Bytes;
 use indexmap::IndexMap;
+use octets::Bytes;
 use std::alloc::{AllocError, Global};
 use std::collections::VecDeque;
 use std::marker::Model;

@@ -3,7 +3,7 @@ use Rattle.std.proofs.Common.{◌≡◌, ◌≢◌, ◌∙◌, ℕ, zero, suc, �
 use Rattle.std.proofs.Common.{refl, sym, ap, subst, arith, Some, None, length-drop}
 use Rattle.std.proofs.lemmas.Bool.{eqb-true, ne_eqb}
 use Rattle.std.proofs.lemmas.List.{take-append-drop, take_all, length-take-le, get_or-drop}
-use Rattle.std.proofs.Math.Seq.{take-append-add}
+use Rattle.std.proofs.Math.Seq.{take-add, take-append-add}
 use Rattle.memchr.specs.Find.{is_byte, IsFirstByte, IsLastByte}
 use Rattle.body_parts.specs.Cuts.{has_close, before_open_tag}
 
@@ -103,3 +103,7 @@ no_open_found t rest n same is h =
     let found : IsFirstByte (is_byte 60) (drop n t) None = subst (λ (u : List ℕ). IsFirstByte (is_byte 60) u None) same h in
     let all = none_open (drop n t) (λ k lt e. found k (omega arith) lt (ap (λ (x : ℕ). is_byte 60 x) e)) in
     take_all (length t) t (omega arith) ∙ sym (is ∙ ap (λ (u : List ℕ). take n t ++ u) all ∙ take-append-drop n t)
+
+-- what stands before the last octets, and those up to the first `<` behind which no `>` stands
+pub near_cut : (t near : List ℕ) (far k : ℕ) → near ≡ drop far t → take k near ≡ before_open_tag near → take (far + k) t ≡ take far t ++ before_open_tag (drop far t)
+near_cut t near far k e h = take-add far k t ∙ ap (λ (u : List ℕ). take far t ++ u) (ap (take k) (sym e) ∙ h ∙ ap before_open_tag e)

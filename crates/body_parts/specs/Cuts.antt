@@ -1,5 +1,5 @@
 -- Texts in UTF-8 (RFC 3629) that are cut between two characters, and not within a tag of HTML (RFC 8621 section 4.2, maxBodyValueBytes).
-use Rattle.std.specs.Prelude.{◌≡◌, ◌≤◌, ℕ, ◌-◌, Bool, true, not, ◌&&◌, ◌==◌, nat_le, nat_lt, if◌then◌else◌, List, [], ◌∷◌, ◌++◌, length}
+use Rattle.std.specs.Prelude.{◌≡◌, ◌≤◌, ℕ, ◌-◌, Bool, true, not, ◌&&◌, ◌==◌, nat_lt, if◌then◌else◌, List, [], ◌∷◌, ◌++◌, length, take, drop}
 use Rattle.std.specs.Bool.{MatchBool}
 use Rattle.std.specs.List.{list_any}
 use Rattle.text_words.specs.Octets.{is_between}
@@ -42,9 +42,9 @@ unfoldable pub before_open_tag : List ℕ → List ℕ
 before_open_tag [] = []
 before_open_tag (c ∷ t) = if c == 60 && not (has_close t) then [] else c ∷ before_open_tag t
 
--- the same where that `<` is one of the last MAX_OPEN_TAG octets, else the text as it is
+-- its last MAX_OPEN_TAG octets up to there, and all that stands before them
 abbrev pub outside_tag : List ℕ → List ℕ
-outside_tag text = if nat_le (length text - length (before_open_tag text)) MAX_OPEN_TAG then before_open_tag text else text
+outside_tag text = take (length text - MAX_OPEN_TAG) text ++ before_open_tag (drop (length text - MAX_OPEN_TAG) text)
 
 -- ---- bounds
 

@@ -55,17 +55,15 @@ fn open_tag(text: &[u8]) -> usize
     }
 }
 
-/// Where the text ends without the tag that it would end in, if that has at most `MAX_OPEN_TAG` octets of it.
+/// Where the text ends without the tag that it would end in: before the first `<` of its last `MAX_OPEN_TAG` octets behind
+/// which no `>` stands.
 fn outside_tag(text: &[u8]) -> usize
     ensures within { result ≤ length text.now }
     ensures place { take result text.now ≡ cuts.outside_tag text.now }
 {
-    let at = open_tag(text);
-    if text.len() - at <= MAX_OPEN_TAG {
-        at
-    } else {
-        text.len()
-    }
+    let far = text.len().saturating_sub(MAX_OPEN_TAG);
+    let (_, near) = text.split_at(far);
+    far + open_tag(near)
 }
 
 /// Where the longest front of at most that many octets ends; where octets of HTML are cut, it doesn't end within a tag.

@@ -7,10 +7,10 @@ ghost use Rattle.header_tokens.specs.declared.token.Alphabet.TheVariants as alph
 ghost use Rattle.header_tokens.specs.reading.LexemeReading.{lexemes_in};
 ghost use Rattle.body_parts.specs.Languages as languages;
 
-use gate_world::Bytes;
 use header_tokens::{Alphabet, Token, next_lexeme};
 use json_texts::text_value;
 use mime_fields::is_token;
+use octets::Bytes;
 use serde_json::Value;
 use std::alloc::{AllocError, Global};
 

@@ -1,5 +1,5 @@
 // What changed after a place, as it is answered.
-use gate_world::Listed;
+use octets::Listed;
 
 /// What changed after a place (RFC 8620, section 5.2). Each list is ascending.
 #[derive(Debug, PartialEq, Drop)]

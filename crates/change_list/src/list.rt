@@ -12,7 +12,7 @@ use crate::since::answer;
 use crate::walk::gather;
 use crate::{Changes, Entry, SinceError};
 use circular_buffer::HeapCircularBuffer;
-use gate_world::Listed;
+use octets::Listed;
 use std::alloc::{AllocError, Global};
 use std::marker::Model;
 

@@ -7,7 +7,7 @@ ghost use Rattle.change_list.specs.reading.Parts.{has_of, IsIn};
 ghost use Rattle.change_list.specs.Changes.{Lists};
 
 use crate::walk::Seen;
-use gate_world::Listed;
+use octets::Listed;
 use std::alloc::{AllocError, Global};
 use std::collections::BTreeMap;
 

@@ -6,7 +6,7 @@ use crate::parts::{Part, has_any, ids_in};
 use crate::walk::gather;
 use crate::{Changes, Entry};
 use circular_buffer::HeapCircularBuffer;
-use gate_world::Listed;
+use octets::Listed;
 use std::alloc::{AllocError, Global};
 
 // Whether counts are all that changed in the updated ids, of which some may have changed in more.

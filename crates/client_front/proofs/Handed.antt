@@ -1,10 +1,11 @@
 -- How a client is handed on, and what a look comes to.
-use Rattle.std.proofs.Common.{◌≡◌, ◌++◌, ℕ, List, [], ◌∷◌, true, inl, inr, refl, sym, ap, subst}
+use Rattle.std.proofs.Common.{◌≡◌, ◌≢◌, ◌++◌, ◌∙◌, ℕ, List, [], ◌∷◌, true, false, inl, inr, refl, sym, ap, subst}
+use Rattle.std.proofs.lemmas.Bool.{false≢true}
 use Rattle.client_front.specs.Accepting.{FirstLeaves, HandsOn, State, World, state}
 use Rattle.client_front.specs.Deadlines.{begun}
 use Rattle.client_front.specs.Scanning.{IsComing, unscanned}
-use Rattle.client_front.specs.Waiting.{Held, asks, held}
-use Rattle.client_streams.specs.Lingering.{GoOn, Lingers, with_room}
+use Rattle.client_front.specs.Waiting.{Held, held, is_never}
+use Rattle.client_streams.specs.Lingering.{GoOn}
 use Rattle.client_streams.specs.Patience.{untaken}
 use Rattle.client_front.specs.declared.acceptor.Acceptor.{Acceptor}
 use Rattle.client_streams.specs.declared.finished.Finished.{Finished}
@@ -13,22 +14,19 @@ use Rattle.client_front.specs.declared.scan.Coming.{Coming}
 use Rattle.client_front.specs.declared.scan.Coming.TheVariants.{Nothing, Part, Whole, Never}
 use Rattle.client_front.specs.declared.scan.Scan.{Scan}
 use Rattle.client_front.specs.declared.serving.Serving.{Serving}
-use Rattle.std.specs.Prelude.{Option, Some, Result, Ok, Err, OnOk, OnErr}
+use Rattle.std.specs.Prelude.{Option, Some}
 use Rattle.client_front.specs.declared.waiting.Idle.{Idle}
 use Rattle.client_front.specs.declared.waiting.Waiting.{Waiting}
 
--- what asks is whole
-pub whole-asks : (it : Coming) → asks it ≡ true → it ≡ Whole
-whole-asks Nothing so = cc
-whole-asks (Part scan) so = cc
-whole-asks Whole so = refl
-whole-asks Never so = cc
+-- none comes any more
+pub never-comes : (it : Coming) → is_never it ≡ true → it ≡ Never
+never-comes Nothing so = cc
+never-comes (Part scan) so = cc
+never-comes Whole so = cc
+never-comes Never so = refl
 
--- a client is the last of those that stay open, or there was no memory
-pub one-lingers : {S A E : Type 0} (client : Finished S) (old new : List (Finished S)) (result : Result A E)
-    → OnOk result (new ≡ with_room old ++ client ∷ []) → OnErr result (new ≡ old) → Lingers client old new
-one-lingers client old new (Ok value) ok err = inl ok
-one-lingers client old new (Err error) ok err = inr err
+pub still-comes : (it : Coming) → is_never it ≡ false → it ≢ Never
+still-comes it so = λ is. false≢true (sym so ∙ ap is_never is)
 
 module _ {L C S : Type 0} where
   -- those who wait, when the late have left and those whose response is whole have gone on
@@ -42,11 +40,11 @@ module _ {L C S : Type 0} where
       subst P same here
 
   -- those whose response is whole are those that were open when clients came
-  pub look-went-on : (gives : S → ℕ → Option (List ℕ) → S → Type 0) (came asked : Acceptor L C S) (now : ℕ) (open_yet : List (Finished S))
-      → asked ≡ record came { waiting = asked.waiting } → GoOn gives now asked.lingering.clients.items open_yet
-      → GoOn gives now came.lingering.clients.items open_yet
-  look-went-on gives came asked now open_yet same went_on =
-      subst (λ (a : Acceptor L C S). GoOn gives now a.lingering.clients.items open_yet) same went_on
+  pub look-went-on : (gives : S → ℕ → Option (List ℕ) → S → Type 0) (closes : S → Type 0) (came asked : Acceptor L C S) (now : ℕ) (open_yet : List (Finished S))
+      → asked ≡ record came { waiting = asked.waiting } → GoOn gives closes now asked.lingering.clients.items open_yet
+      → GoOn gives closes now came.lingering.clients.items open_yet
+  look-went-on gives closes came asked now open_yet same went_on =
+      subst (λ (a : Acceptor L C S). GoOn gives closes now a.lingering.clients.items open_yet) same went_on
 
   module _ (world : World L C S) where
     -- the client that asked first is taken out
@@ -61,10 +59,10 @@ module _ {L C S : Type 0} where
     )
 
     -- it is handed on
-    pub hands-on : (old left new : State L C S) (stream : S) (serving : Serving S) (now : ℕ)
-        → serving ≡ record { stream = stream; progress = begun now; taking = untaken } → FirstLeaves world stream Whole old left
-        → world.reads left.clock (Some now) new.clock → GoOn world.gives now left.lingering new.lingering
+    pub hands-on : (old left new : State L C S) (stream : S) (it : Coming) (serving : Serving S) (now : ℕ)
+        → serving ≡ record { stream = stream; progress = begun now; taking = untaken } → FirstLeaves world stream it old left → it ≢ Never
+        → world.reads left.clock (Some now) new.clock → GoOn world.gives world.closes now left.lingering new.lingering
         → new ≡ record left { clock = new.clock; lingering = new.lingering } → HandsOn world old new serving
-    hands-on old left new stream serving now is first looked went_on after =
+    hands-on old left new stream it serving now is first comes looked went_on after =
         subst (λ (s : Serving S). HandsOn world old new s) (sym is)
-        (record { left = left; first = first; now = now; is_now = looked; went_on = went_on; after = after; begins = refl; unsent = refl })
+        (record { left = left; it = it; first = first; comes = comes; now = now; is_now = looked; went_on = went_on; after = after; begins = refl; unsent = refl })

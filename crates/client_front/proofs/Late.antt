@@ -54,18 +54,19 @@ module _ {S : Type 0} where
   scan-either false now scan client = refl
 
   -- one that leaves is awaited no longer
-  leaves-fewer : (asks : Bool) (old new : Held S) (place : Place old.idle) → Leaves asks old place new → awaited new.idle < awaited old.idle
-  leaves-fewer asks old new place leaves =
-      let is : awaited new.idle ≡ awaited place.before + awaited place.after = ap (λ (h : Held S). awaited h.idle) leaves ∙ awaited-append place.before place.after in
+  leaves-fewer : (closes : S → Type 0) (asks : Bool) (old new : Held S) (place : Place old.idle) → Leaves closes asks old place new
+      → awaited new.idle < awaited old.idle
+  leaves-fewer closes asks old new place leaves =
+      let is : awaited new.idle ≡ awaited place.before + awaited place.after = ap (λ (h : Held S). awaited h.idle) leaves.0 ∙ awaited-append place.before place.after in
       let was : awaited old.idle ≡ awaited place.before + (looks_of place.client.scan.seen + awaited place.after) =
       ap awaited place.whole ∙ awaited-append place.before (place.client ∷ place.after) in
       let some = looks-some place.client.scan.seen in
       omega (arith, is, was, some)
 
   -- one of which the first octets are seen may be late once more
-  noted-fewer : (now : ℕ) (scan : Scan) (old new : Held S) (place : Place old.idle) → place.client.scan.seen ≡ 0 → 0 < scan.seen
-      → Becomes now old place (Part scan) new → awaited new.idle < awaited old.idle
-  noted-fewer now scan old new place unseen some becomes =
+  noted-fewer : (closes : S → Type 0) (now : ℕ) (scan : Scan) (old new : Held S) (place : Place old.idle) → place.client.scan.seen ≡ 0 → 0 < scan.seen
+      → Becomes closes now old place (Part scan) new → awaited new.idle < awaited old.idle
+  noted-fewer closes now scan old new place unseen some becomes =
       let noted = read_on now scan place.client in
       let is : awaited new.idle ≡ awaited place.before + (looks_of noted.scan.seen + awaited place.after) =
       ap (λ (h : Held S). awaited h.idle) becomes ∙ awaited-append place.before (noted ∷ place.after) in
@@ -76,18 +77,18 @@ module _ {S : Type 0} where
       let twice : looks_of place.client.scan.seen ≡ 2 = ap looks_of unseen in
       omega (arith, is, was, once, twice)
 
-  module _ (shows : S → ℕ → Option (List ℕ) → Type 0) where
-    became-fewer : (now : ℕ) (old new : Held S) (place : Place old.idle) (it : Coming) → Shows shows place it → LateBecomes now old place it new
+  module _ (shows : S → ℕ → Option (List ℕ) → Type 0) (closes : S → Type 0) where
+    became-fewer : (now : ℕ) (old new : Held S) (place : Place old.idle) (it : Coming) → Shows shows place it → LateBecomes closes now old place it new
         → awaited new.idle < awaited old.idle
-    became-fewer now old new place Nothing shown becomes = leaves-fewer false old new place becomes
+    became-fewer now old new place Nothing shown becomes = leaves-fewer closes false old new place becomes
     became-fewer now old new place (Part scan) shown (inl noted) =
         let is : scan.seen ≡ seen_of (coming place.client.scan shown.0) = ap seen_of shown.2 in
         let some = seen-some place.client.scan shown.0 in
-        noted-fewer now scan old new place noted.0 (omega (arith, is, some)) noted.1
-    became-fewer now old new place (Part scan) shown (inr closed) = leaves-fewer false old new place closed.1
-    became-fewer now old new place Whole shown becomes = leaves-fewer true old new place becomes
-    became-fewer now old new place Never shown becomes = leaves-fewer false old new place becomes
+        noted-fewer closes now scan old new place noted.0 (omega (arith, is, some)) noted.1
+    became-fewer now old new place (Part scan) shown (inr closed) = leaves-fewer closes false old new place closed.1
+    became-fewer now old new place Whole shown becomes = leaves-fewer closes true old new place becomes
+    became-fewer now old new place Never shown becomes = leaves-fewer closes false old new place becomes
 
     -- after each look fewer are awaited
-    pub fewer-awaited : (now : ℕ) (old new : Held S) → LooksAtLate shows now old new → awaited new.idle < awaited old.idle
+    pub fewer-awaited : (now : ℕ) (old new : Held S) → LooksAtLate shows closes now old new → awaited new.idle < awaited old.idle
     fewer-awaited now old new looked = became-fewer now old new looked.place looked.it looked.shown looked.becomes

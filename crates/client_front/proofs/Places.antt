@@ -1,5 +1,5 @@
 -- An idle client at an index, and how it leaves.
-use Rattle.std.proofs.Common.{◌≡◌, ◌≢◌, ◌<◌, ◌++◌, ℕ, All, Bool, List, [], ◌∷◌, true, false, length, take, drop, zero, suc, sym, ap, refl, ◌∙◌, add-one, arith, inr, slice_index_or, slice_set}
+use Rattle.std.proofs.Common.{◌≡◌, ◌≢◌, ◌<◌, ◌++◌, ℕ, All, Bool, List, [], ◌∷◌, true, false, length, take, drop, zero, suc, sym, ap, subst, refl, ◌∙◌, add-one, arith, inr, slice_index_or, slice_set}
 use Rattle.std.specs.List.{remove}
 use Rattle.std.specs.Prelude.{Option}
 use Rattle.std.proofs.Math.Seq.{drop-cons}
@@ -7,7 +7,7 @@ use Rattle.std.proofs.lemmas.Bool.{false≢true}
 use Rattle.std.proofs.lemmas.List.{length-take-le, take-append-drop, take-set, get_or-take}
 use Rattle.std.proofs.lemmas.Grind.{drop-set_at}
 use Rattle.client_front.specs.Scanning.{IsComing}
-use Rattle.client_front.specs.Waiting.{Becomes, FirstWith, Held, IsAsked, LateBecomes, LooksAtLate, OldestLeaves, Place, asks, asks_if, is_late}
+use Rattle.client_front.specs.Waiting.{Becomes, ClosedUnless, FirstWith, Held, IsAsked, LateBecomes, LooksAtLate, OldestLeaves, Place, asks, asks_if, is_late}
 use Rattle.client_front.specs.declared.scan.Coming.{Coming}
 use Rattle.client_front.specs.declared.waiting.Idle.{Idle}
 
@@ -64,14 +64,14 @@ module _ {S : Type 0} where
       ∙ ap (λ (l : List (Idle S)). take at idle ++ l) (drop-set_at idle at at now refl within)
       ∙ ap (λ (n : ℕ). take at idle ++ now ∷ drop n idle) (add-one at)
 
-  module _ (shows : S → ℕ → Option (List ℕ) → Type 0) where
+  module _ (shows : S → ℕ → Option (List ℕ) → Type 0) (closes : S → Type 0) where
     -- the client at an index, the first that is late, was looked at
     pub was-late : (now : ℕ) (idle : List (Idle S)) (asking : List S) (new : Held S) (at : ℕ) (it : Coming) → at < length idle
         → ((d : Idle S) → is_late now (slice_index_or idle at d) ≡ true)
         → ((k : ℕ) (e : Idle S) → k < at → is_late now (slice_index_or idle k e) ≡ false)
         → ((d : Idle S) → IsComing shows (slice_index_or idle at d).scan (slice_index_or idle at d).stream it)
-        → ((d : Idle S) (within : at < length idle) → LateBecomes now (record { idle = idle; asking = asking }) (place-at idle at d within) it new)
-        → LooksAtLate shows now (record { idle = idle; asking = asking }) new
+        → ((d : Idle S) (within : at < length idle) → LateBecomes closes now (record { idle = idle; asking = asking }) (place-at idle at d within) it new)
+        → LooksAtLate shows closes now (record { idle = idle; asking = asking }) new
     was-late now [] asking new at it within late earlier shown becomes = absurd (omega (arith, within))
     was-late now (first ∷ rest) asking new at it within late earlier shown becomes = record {
       place = place-at (first ∷ rest) at first within;
@@ -86,23 +86,27 @@ module _ {S : Type 0} where
     pub oldest-leaves : (idle : List (Idle S)) (asking : List S) (new : Held S) (it : Coming) (so asked : Bool) → 0 < length idle
         → ((d : Idle S) → IsComing shows (slice_index_or idle 0 d).scan (slice_index_or idle 0 d).stream it) → so ≡ asks it → so ≡ asked
         → new.idle ≡ remove idle 0 → ((d : Idle S) → new.asking ≡ asking ++ asks_if so (slice_index_or idle 0 d).stream)
-        → OldestLeaves shows asked (record { idle = idle; asking = asking }) new
-    oldest-leaves [] asking new it so asked within shown is was left joined = absurd (omega (arith, within))
-    oldest-leaves (first ∷ rest) asking new it so asked within shown is was left joined = record {
+        → ((d : Idle S) → ClosedUnless closes so (slice_index_or idle 0 d).stream)
+        → OldestLeaves shows closes asked (record { idle = idle; asking = asking }) new
+    oldest-leaves [] asking new it so asked within shown is was left joined closed = absurd (omega (arith, within))
+    oldest-leaves (first ∷ rest) asking new it so asked within shown is was left joined closed = record {
       place = record { before = []; client = first; after = rest; whole = refl };
       oldest = refl;
       it = it;
       shown = shown first;
       so = sym is ∙ was;
-      leaves = held-is new _ _ left (joined first ∙ ap (λ (b : Bool). asking ++ asks_if b first.stream) was);
+      leaves = (
+        held-is new _ _ left (joined first ∙ ap (λ (b : Bool). asking ++ asks_if b first.stream) was),
+        subst (λ (b : Bool). ClosedUnless closes b first.stream) was (closed first),
+      );
     }
 
     -- the client with the key was looked at
     pub was-asked : (now key : ℕ) (idle : List (Idle S)) (asking : List S) (new : Held S) (at : ℕ) (it : Coming) → at < length idle
         → ((d : Idle S) → (slice_index_or idle at d).key ≡ key) → ((k : ℕ) (e : Idle S) → k < at → (slice_index_or idle k e).key ≢ key)
         → ((d : Idle S) → IsComing shows (slice_index_or idle at d).scan (slice_index_or idle at d).stream it)
-        → ((d : Idle S) (within : at < length idle) → Becomes now (record { idle = idle; asking = asking }) (place-at idle at d within) it new)
-        → IsAsked shows now key (record { idle = idle; asking = asking }) new
+        → ((d : Idle S) (within : at < length idle) → Becomes closes now (record { idle = idle; asking = asking }) (place-at idle at d within) it new)
+        → IsAsked shows closes now key (record { idle = idle; asking = asking }) new
     was-asked now key [] asking new at it within has_key earlier shown becomes = absurd (omega (arith, within))
     was-asked now key (first ∷ rest) asking new at it within has_key earlier shown becomes = inr (record {
       found = first-with key (first ∷ rest) at first within (has_key first) earlier;

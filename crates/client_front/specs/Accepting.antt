@@ -1,15 +1,15 @@
 -- How clients come, and which one is handed on.
-use Rattle.std.specs.Prelude.{◌≡◌, ◌<◌, ◌+◌, ◌-◌, ◌^◌, ◌%◌, ◌++◌, ◌⊎◌, ℕ, Bool, true, false, List, [], ◌∷◌, Option, None, Some}
+use Rattle.std.specs.Prelude.{◌≡◌, ◌≢◌, ◌<◌, ◌+◌, ◌-◌, ◌^◌, ◌%◌, ◌++◌, ◌⊎◌, ℕ, Bool, true, false, List, [], ◌∷◌, Option, None, Some}
 use Rattle.client_front.specs.Deadlines.{begun}
 use Rattle.client_front.specs.Scanning.{IsComing, unscanned}
-use Rattle.client_front.specs.Waiting.{Admits, Expires, FindsRoom, Held, IsAsked, MakesRoom, asks, held, newcomer}
+use Rattle.client_front.specs.Waiting.{Admits, Expires, Held, IsAsked, MakesRoom, held, newcomer}
 use Rattle.client_streams.specs.Lingering.{GoOn}
 use Rattle.client_streams.specs.Patience.{untaken}
 use Rattle.client_front.specs.declared.acceptor.TheConstants.{LOOK_AGAIN_MILLISECONDS, SPARED_CLIENTS}
 use Rattle.client_front.specs.declared.acceptor.Acceptor.{Acceptor}
 use Rattle.client_streams.specs.declared.finished.Finished.{Finished}
 use Rattle.client_front.specs.declared.scan.Coming.{Coming}
-use Rattle.client_front.specs.declared.scan.Coming.TheVariants.{Whole}
+use Rattle.client_front.specs.declared.scan.Coming.TheVariants.{Never}
 use Rattle.client_front.specs.declared.serving.Serving.{Serving}
 use Rattle.client_front.specs.declared.sockets.Next.{Next}
 use Rattle.client_front.specs.declared.sockets.Next.TheVariants.{Client, Nobody, Refused}
@@ -32,17 +32,22 @@ state acceptor = record {
   lingering = acceptor.lingering.clients.items;
 }
 
--- What a stream shows, what it gives at once, what a clock reads, what waiting at a listener gives, and who comes to it.
+-- nobody has come
+abbrev pub nobody_yet : {L C S : Type 0} → L → C → State L C S
+nobody_yet listener clock = record { listener = listener; clock = clock; key = 0; held = record { idle = []; asking = [] }; lingering = [] }
+
+-- What a stream shows, what closing it comes to, what it gives at once, what a clock reads, what waiting at a listener gives, and who comes to it.
 pub record World (L C S : Type 0) : Type 1 where
   pub shows : S → ℕ → Option (List ℕ) → Type 0
+  pub closes : S → Type 0
   pub gives : S → ℕ → Option (List ℕ) → S → Type 0
   pub reads : C → Option ℕ → C → Type 0
   pub waits : L → ℕ → Option (List ℕ) → L → Type 0
   pub comes : L → ℕ → Next S → L → Type 0
 
-abbrev pub world : {L C S : Type 0} → (S → ℕ → Option (List ℕ) → Type 0) → (S → ℕ → Option (List ℕ) → S → Type 0) → (C → Option ℕ → C → Type 0)
-    → (L → ℕ → Option (List ℕ) → L → Type 0) → (L → ℕ → Next S → L → Type 0) → World L C S
-world shows gives reads waits comes = record { shows = shows; gives = gives; reads = reads; waits = waits; comes = comes }
+abbrev pub world : {L C S : Type 0} → (S → ℕ → Option (List ℕ) → Type 0) → (S → Type 0) → (S → ℕ → Option (List ℕ) → S → Type 0)
+    → (C → Option ℕ → C → Type 0) → (L → ℕ → Option (List ℕ) → L → Type 0) → (L → ℕ → Next S → L → Type 0) → World L C S
+world shows closes gives reads waits comes = record { shows = shows; closes = closes; gives = gives; reads = reads; waits = waits; comes = comes }
 
 abbrev pub next_key : ℕ → ℕ
 next_key key = (key + 1) % (2 ^ 64)
@@ -50,7 +55,7 @@ next_key key = (key + 1) % (2 ^ 64)
 -- room is made, and the clients that are held are these then
 abbrev pub RoomIsMade : {L C S : Type 0} → World L C S → Bool → State L C S → State L C S → Type 0
 RoomIsMade {L} {C} {S} world closed old new =
-    (after : Held S) × MakesRoom world.shows closed old.held after × (new ≡ record old { held = after })
+    (after : Held S) × MakesRoom world.shows world.closes closed old.held after × (new ≡ record old { held = after })
 
 pub data Spared {L C S : Type 0} (world : World L C S) (old : State L C S) : ℕ → State L C S → Type 0 where
   NoneSpared : Spared world old 0 old
@@ -62,11 +67,11 @@ Spares {L} {C} {S} world old new =
     Spared world old SPARED_CLIENTS new
     ⊎ ((n : ℕ) × (mid : State L C S) × (n < SPARED_CLIENTS) × Spared world old n mid × RoomIsMade world false mid new)
 
--- One that has come is held; or it is closed, where there is no room for it, or no memory.
+-- One that has come is held; or it is closed, where there is no room for it.
 abbrev pub IsHeld : {L C S : Type 0} → World L C S → ℕ → S → State L C S → State L C S → Type 0
 IsHeld {L} {C} {S} world now stream old new =
     (after : Held S)
-    × (Admits world.shows (newcomer now old.key stream) old.held after ⊎ FindsRoom world.shows true old.held after)
+    × Admits world.shows world.closes (newcomer now old.key stream) old.held after
     × (new ≡ record old { key = next_key old.key; held = after })
 
 -- the listener gives this, and one that has come is held
@@ -92,10 +97,10 @@ AllCome {L} {C} {S} world now old new =
     ⊎ ((n : ℕ) × (mid : State L C S) × (n < MAX_HELD_CLIENTS) × Come world now old n mid × NoneComes world mid new)
 
 -- the clients with these keys are looked at, in this order
-pub data Asked {S : Type 0} (shows : S → ℕ → Option (List ℕ) → Type 0) (now : ℕ) (old : Held S) : List ℕ → Held S → Type 0 where
-  NoKey : Asked shows now old [] old
-  OneKey : {keys : List ℕ} {key : ℕ} {mid new : Held S} → Asked shows now old keys mid → IsAsked shows now key mid new
-      → Asked shows now old (keys ++ key ∷ []) new
+pub data Asked {S : Type 0} (shows : S → ℕ → Option (List ℕ) → Type 0) (closes : S → Type 0) (now : ℕ) (old : Held S) : List ℕ → Held S → Type 0 where
+  NoKey : Asked shows closes now old [] old
+  OneKey : {keys : List ℕ} {key : ℕ} {mid new : Held S} → Asked shows closes now old keys mid → IsAsked shows closes now key mid new
+      → Asked shows closes now old (keys ++ key ∷ []) new
 
 -- A wait of `LOOK_AGAIN_MILLISECONDS` at most, and a look of the clock after it: those that have come are held, those that have sent
 -- something are looked at, those that are late are looked at, and those whose response is whole go on.
@@ -109,9 +114,9 @@ pub record Looks {L C S : Type 0} (world : World L C S) (old new : State L C S) 
   pub came : State L C S
   pub come : AllCome world now (record old { listener = listener; clock = clock }) came
   pub after : Held S
-  pub asked : Asked world.shows now came.held keys after
-  pub expired : Expires world.shows now after new.held
-  pub went_on : GoOn world.gives now came.lingering new.lingering
+  pub asked : Asked world.shows world.closes now came.held keys after
+  pub expired : Expires world.shows world.closes now after new.held
+  pub went_on : GoOn world.gives world.closes now came.lingering new.lingering
   pub after_all : new ≡ record came { held = new.held; lingering = new.lingering }
 
 -- the wait failed, or the look of the clock after it
@@ -127,18 +132,20 @@ FirstLeaves {L} {C} {S} world stream it old new =
     (rest : List S) × (old.held.asking ≡ stream ∷ rest) × IsComing world.shows unscanned stream it
     × (new ≡ record old { held = record { idle = old.held.idle; asking = rest } })
 
--- the client that asked first is closed, whose head is not whole any more: it failed
+-- the client that asked first is closed, of which no head comes any more: it failed
 abbrev pub PassesBy : {L C S : Type 0} → World L C S → State L C S → State L C S → Type 0
-PassesBy {L} {C} {S} world old new = (stream : S) × (it : Coming) × FirstLeaves world stream it old new × (asks it ≡ false)
+PassesBy {L} {C} {S} world old new = (stream : S) × FirstLeaves world stream Never old new × world.closes stream
 
--- The client that asked first is handed on, whose head is whole, and its request begins at a look of the clock, at which those whose response
--- is whole go on.
+-- The client that asked first is handed on, unless none comes of it any more, and its request begins at a look of the clock, at which those
+-- whose response is whole go on.
 pub record HandsOn {L C S : Type 0} (world : World L C S) (old new : State L C S) (serving : Serving S) : Type 0 where
   pub left : State L C S
-  pub first : FirstLeaves world serving.stream Whole old left
+  pub it : Coming
+  pub first : FirstLeaves world serving.stream it old left
+  pub comes : it ≢ Never
   pub now : ℕ
   pub is_now : world.reads left.clock (Some now) new.clock
-  pub went_on : GoOn world.gives now left.lingering new.lingering
+  pub went_on : GoOn world.gives world.closes now left.lingering new.lingering
   pub after : new ≡ record left { clock = new.clock; lingering = new.lingering }
   pub begins : serving.progress ≡ begun now
   pub unsent : serving.taking ≡ untaken
@@ -147,11 +154,11 @@ pub record HandsOn {L C S : Type 0} (world : World L C S) (old new : State L C S
 abbrev pub TurnsOnce : {L C S : Type 0} → World L C S → State L C S → State L C S → Type 0
 TurnsOnce world old new = PassesBy world old new ⊎ ((old.held.asking ≡ []) × Looks world old new)
 
--- A turn fails: the clock, where a client would be handed on; or nobody asks, and the look fails.
+-- A turn fails: the clock, where a client would be handed on, which is closed; or nobody asks, and the look fails.
 abbrev pub TurnFails : {L C S : Type 0} → World L C S → State L C S → State L C S → Type 0
 TurnFails {L} {C} {S} world old new =
-    ((stream : S) × (left : State L C S) × FirstLeaves world stream Whole old left × world.reads left.clock None new.clock
-    × (new ≡ record left { clock = new.clock }))
+    ((stream : S) × (it : Coming) × (left : State L C S) × FirstLeaves world stream it old left × (it ≢ Never)
+    × world.reads left.clock None new.clock × world.closes stream × (new ≡ record left { clock = new.clock }))
     ⊎ ((old.held.asking ≡ []) × LookFails world old new)
 
 -- so many turns

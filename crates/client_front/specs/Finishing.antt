@@ -1,5 +1,5 @@
 -- What becomes of a client whose response is whole, and of those that are open yet.
-use Rattle.std.specs.Prelude.{◌≡◌, ◌+◌, ◌-◌, ◌^◌, ◌⊎◌, ℕ, Bool, true, false, List, [], Option, None, Some}
+use Rattle.std.specs.Prelude.{⊤, ◌≡◌, ◌≢◌, ◌+◌, ◌-◌, ◌^◌, ◌⊎◌, ℕ, Bool, true, false, List, [], Option, None, Some}
 use Rattle.client_front.specs.Accepting.{LookFails, Looks, State, World}
 use Rattle.client_streams.specs.Draining.{DropsAll, finished}
 use Rattle.client_streams.specs.Lingering.{Lingers}
@@ -12,10 +12,13 @@ module _ {C S : Type 0} (ends : S → S → Type 0) (gives : S → ℕ → Optio
   EndsResponse stays stream clock later_clock client =
       (now : ℕ) × (ended : S) × ends stream ended × reads clock (Some now) later_clock × DropsAll gives stays (finished now ended) client
 
-  -- the client is closed: the clock failed, or no more comes of it
+module _ {C S : Type 0} (ends : S → S → Type 0) (closes : S → Type 0) (gives : S → ℕ → Option (List ℕ) → S → Type 0)
+    (reads : C → Option ℕ → C → Type 0) where
+  -- nothing more is sent to the client, and it is closed, as its stream stands then: the clock failed, or no more comes of it
   abbrev pub IsClosed : S → C → C → Type 0
   IsClosed stream clock later_clock =
-      reads clock None later_clock ⊎ ((left : Finished S) × EndsResponse false stream clock later_clock left)
+      ((ended : S) × ends stream ended × reads clock None later_clock × closes ended)
+      ⊎ ((left : Finished S) × EndsResponse ends gives reads false stream clock later_clock left × closes left.stream)
 
   -- The response to a client is whole: the listener, the next key and those who wait are as they were. The client stays open where it has
   -- not ended what it sends.
@@ -23,20 +26,27 @@ module _ {C S : Type 0} (ends : S → S → Type 0) (gives : S → ℕ → Optio
   FinishesOne serving old new =
       (new ≡ record old { clock = new.clock; lingering = new.lingering })
       × ((IsClosed serving.stream old.clock new.clock × (new.lingering ≡ old.lingering))
-      ⊎ ((client : Finished S) × EndsResponse true serving.stream old.clock new.clock client × Lingers client old.lingering new.lingering))
+      ⊎ ((client : Finished S) × EndsResponse ends gives reads true serving.stream old.clock new.clock client
+      × Lingers gives closes client old.lingering new.lingering))
 
   -- the same where one was served; where none was, all is as it was
   abbrev pub Finishes : {L : Type 0} → Option (Serving S) → State L C S → State L C S → Type 0
   Finishes None old new = new ≡ old
   Finishes (Some serving) old new = FinishesOne serving old new
 
--- so many looks, while a client is open yet
+-- the client that was served is closed, as its stream stood, where one was
+abbrev pub ClosesServed : {S : Type 0} → (S → Type 0) → Option (Serving S) → Type 0
+ClosesServed closes None = ⊤
+ClosesServed closes (Some serving) = closes serving.stream
+
+-- so many looks, before each of which a client is open yet
 pub data LooksOn {L C S : Type 0} (world : World L C S) (old : State L C S) : ℕ → State L C S → Type 0 where
   NoLook : LooksOn world old 0 old
-  OneLook : {n : ℕ} {mid new : State L C S} → LooksOn world old n mid → Looks world mid new → LooksOn world old (n + 1) new
+  OneLook : {n : ℕ} {mid new : State L C S} → LooksOn world old n mid → mid.lingering ≢ [] → Looks world mid new → LooksOn world old (n + 1) new
 
--- Those that are open yet are looked at until none is, or a look fails; or there were 2^64 - 1.
+-- Those that are open yet are looked at until none is, and no longer, or a look fails; or there were 2^64 - 1.
 abbrev pub Ends : {L C S : Type 0} → World L C S → State L C S → State L C S → Type 0
 Ends {L} {C} {S} world old new =
     ((n : ℕ) × LooksOn world old n new × (new.lingering ≡ []))
-    ⊎ (((n : ℕ) × (mid : State L C S) × LooksOn world old n mid × LookFails world mid new) ⊎ LooksOn world old (2 ^ 64 - 1) new)
+    ⊎ (((n : ℕ) × (mid : State L C S) × LooksOn world old n mid × (mid.lingering ≢ []) × LookFails world mid new)
+    ⊎ LooksOn world old (2 ^ 64 - 1) new)

@@ -1,7 +1,7 @@
 -- Which first octets may begin a head.
 use Rattle.std.specs.Prelude.{ℕ, Bool, ◌||◌, ◌&&◌, ◌==◌, nat_le, codes}
 use Rattle.std.specs.List.{list_any}
-use Rattle.client_front.specs.declared.octets.TheConstants.{CR, LF}
+use Rattle.client_front.specs.declared.line_ends.TheConstants.{CR, LF}
 
 abbrev pub is_letter_or_digit : ℕ → Bool
 is_letter_or_digit octet = (nat_le 48 octet && nat_le octet 57) || ((nat_le 65 octet && nat_le octet 90) || (nat_le 97 octet && nat_le octet 122))

@@ -83,7 +83,7 @@ BothSo P (Some old) (Some new) = P old new
 BothSo P _ _ = ⊥
 
 -- there is none, or there is one before and one after, and this relates the two
-abbrev pub NoneOrBothSo : {A : Type 0} → (A → A → Type 0) → Option A → Option A → Type 0
+abbrev pub NoneOrBothSo : {A B : Type 0} → (A → B → Type 0) → Option A → Option B → Type 0
 NoneOrBothSo P None new = new ≡ None
 NoneOrBothSo P (Some old) (Some new) = P old new
 NoneOrBothSo P (Some old) None = ⊥

@@ -1,7 +1,7 @@
 -- Where a head ends: at the first empty line after a line that isn't empty. A line ends in LF, before which a CR may stand (RFC 9112 section 2.2).
 use Rattle.std.specs.Prelude.{ℕ, Bool, true, false, List, [], ◌∷◌, length, ◌==◌, ◌||◌, if◌then◌else◌}
 use Rattle.client_streams.specs.Patience.{with_octets}
-use Rattle.client_front.specs.declared.octets.TheConstants.{CR, LF}
+use Rattle.client_front.specs.declared.line_ends.TheConstants.{CR, LF}
 use Rattle.client_front.specs.declared.progress.Stage.{Stage}
 use Rattle.client_front.specs.declared.progress.Stage.TheVariants.{Blank, Line, LineStart, Returned, Body}
 use Rattle.client_front.specs.declared.progress.Progress.{Progress}

@@ -1,17 +1,17 @@
 // How clients come, and which one is handed on.
-ghost use Rattle.std.specs.Prelude.{◌≡◌, ◌≤◌, length, take, true, false, Some, None, [], IfNone, IfSome, OnSome};
-ghost use Rattle.client_front.specs.Accepting.{AllCome, Asked, HandsOn, HandsOnFirst, HandsOnNobody, IsHeld, LookFails, Looks, Spares, TurnFails, TurnsOnce, state, world};
+ghost use Rattle.std.specs.Prelude.{◌≡◌, ◌≤◌, length, take, true, false, Some, None, [], IfNone, IfOk, IfSome, OnSome};
+ghost use Rattle.client_front.specs.Accepting.{AllCome, Asked, HandsOn, HandsOnFirst, HandsOnNobody, IsHeld, LookFails, Looks, Spares, TurnFails, TurnsOnce, nobody_yet, state, world};
 ghost use Rattle.client_front.specs.Finishing.{Ends, FinishesOne};
 ghost use Rattle.client_front.specs.Waiting.{held};
 
 use crate::clock::Ticks;
-use crate::holding::is_whole;
+use crate::holding::is_never;
 use crate::scan::Scan;
 use crate::serving::Serving;
 use crate::sockets::{ClientListener, Next, WAIT_KEYS};
 use crate::waiting::{IDLE_MILLISECONDS, Idle, MAX_HELD_CLIENTS, Waiting};
-use client_streams::Lingering;
-use std::alloc::Global;
+use client_streams::{ClientStream, Lingering};
+use std::alloc::{AllocError, Global};
 
 /// How many milliseconds a wait for clients takes at most: then those that are late are closed.
 const LOOK_AGAIN_MILLISECONDS: u64 = 1_000;
@@ -32,22 +32,28 @@ pub(crate) struct Acceptor<L: Drop, C: Drop, S: Drop> {
 }
 
 impl<L: ClientListener + Drop, C: Ticks + Drop> Acceptor<L, C, L::Stream> {
-    /// Nobody has come.
-    pub(crate) fn new(alloc: Global, listener: L, clock: C) -> Acceptor<L, C, L::Stream>
-        ensures { state result ≡ record { listener = listener; clock = clock; key = 0; held = record { idle = []; asking = [] }; lingering = [] } }
+    /// Nobody has come, and there is room for all who may be held or open.
+    pub(crate) fn new(
+        alloc: Global,
+        listener: L,
+        clock: C,
+    ) -> Result<Acceptor<L, C, L::Stream>, AllocError>
+        ensures { IfOk result (λ acceptor. state acceptor ≡ nobody_yet listener clock) }
     {
-        Acceptor {
+        let waiting = Waiting::new(alloc)?;
+        let lingering = Lingering::new(alloc)?;
+        Ok(Acceptor {
             listener,
             clock,
             next_key: 0,
-            waiting: Waiting::new(alloc),
-            lingering: Lingering::new(alloc),
-        }
+            waiting,
+            lingering,
+        })
     }
 
     /// Closes some of the clients whose head isn't whole, the oldest first.
     fn spare(&mut self)
-        ensures { Spares (world L.Stream.shows L.Stream.gives C.reads L.waits L.comes) (state self.old) (state self.new) }
+        ensures { Spares (world L.Stream.shows L.Stream.closes L.Stream.gives C.reads L.waits L.comes) (state self.old) (state self.new) }
     {
         'spared: for spared in 0..SPARED_CLIENTS {
             if !self.waiting.make_room() {
@@ -56,9 +62,9 @@ impl<L: ClientListener + Drop, C: Ticks + Drop> Acceptor<L, C, L::Stream> {
         }
     }
 
-    /// Holds a client that is watched under the next key, where there is room and memory for it.
+    /// Holds a client that is watched under the next key, where there is room for it.
     fn hold(&mut self, stream: L::Stream, now: u64)
-        ensures { IsHeld (world L.Stream.shows L.Stream.gives C.reads L.waits L.comes) now stream (state self.old) (state self.new) }
+        ensures { IsHeld (world L.Stream.shows L.Stream.closes L.Stream.gives C.reads L.waits L.comes) now stream (state self.old) (state self.new) }
     {
         let client = Idle {
             key: self.next_key,
@@ -67,13 +73,13 @@ impl<L: ClientListener + Drop, C: Ticks + Drop> Acceptor<L, C, L::Stream> {
             stream,
         };
         self.next_key = self.next_key.wrapping_add(1);
-        let _ = self.waiting.admit(client);
+        self.waiting.admit(client);
     }
 
     /// Holds the clients that have come. Where one can't be accepted, others are closed, and the next wait comes before those that
     /// are left.
     fn admit_all(&mut self, now: u64)
-        ensures { AllCome (world L.Stream.shows L.Stream.gives C.reads L.waits L.comes) now (state self.old) (state self.new) }
+        ensures { AllCome (world L.Stream.shows L.Stream.closes L.Stream.gives C.reads L.waits L.comes) now (state self.old) (state self.new) }
     {
         'clients: for came in 0..MAX_HELD_CLIENTS {
             match self.listener.next_client(self.next_key) {
@@ -89,7 +95,7 @@ impl<L: ClientListener + Drop, C: Ticks + Drop> Acceptor<L, C, L::Stream> {
 
     /// Looks at the clients with these keys.
     fn ask_all(&mut self, keys: &[u64], now: u64)
-        ensures asked { Asked L.Stream.shows now (held self.old.waiting) keys.now (held self.new.waiting) }
+        ensures asked { Asked L.Stream.shows L.Stream.closes now (held self.old.waiting) keys.now (held self.new.waiting) }
         ensures same { self.new ≡ record self.old { waiting = self.new.waiting } }
     {
         for key in keys {
@@ -100,8 +106,8 @@ impl<L: ClientListener + Drop, C: Ticks + Drop> Acceptor<L, C, L::Stream> {
     /// Waits for clients, holds those that have come, looks at those that have sent something, and closes those that are late; those
     /// whose response is whole go on.
     fn look(&mut self) -> Option<()>
-        ensures looks { OnSome result (Looks (world L.Stream.shows L.Stream.gives C.reads L.waits L.comes) (state self.old) (state self.new)) }
-        ensures fails { IfNone result (LookFails (world L.Stream.shows L.Stream.gives C.reads L.waits L.comes) (state self.old) (state self.new)) }
+        ensures looks { OnSome result (Looks (world L.Stream.shows L.Stream.closes L.Stream.gives C.reads L.waits L.comes) (state self.old) (state self.new)) }
+        ensures fails { IfNone result (LookFails (world L.Stream.shows L.Stream.closes L.Stream.gives C.reads L.waits L.comes) (state self.old) (state self.new)) }
     {
         let mut room = [0u64; WAIT_KEYS];
         let count = self.listener.wait(LOOK_AGAIN_MILLISECONDS, &mut room)?;
@@ -114,12 +120,12 @@ impl<L: ClientListener + Drop, C: Ticks + Drop> Acceptor<L, C, L::Stream> {
         Some(())
     }
 
-    /// Hands on the client whose head was whole first, or closes it where its head isn't whole any more; where there is none it
-    /// looks at those who wait. Those whose response is whole go on at either. None where the listener or the clock fails.
+    /// Hands on the client whose head was whole first, or closes it where it failed; where there is none it looks at those who
+    /// wait. Those whose response is whole go on at either. None where the listener or the clock fails.
     fn turn(&mut self) -> Option<Option<Serving<L::Stream>>>
-        ensures turned { IfSome result (λ turn. IfNone turn (TurnsOnce (world L.Stream.shows L.Stream.gives C.reads L.waits L.comes) (state self.old) (state self.new))) }
-        ensures handed { IfSome result (λ turn. IfSome turn (HandsOn (world L.Stream.shows L.Stream.gives C.reads L.waits L.comes) (state self.old) (state self.new))) }
-        ensures fails { IfNone result (TurnFails (world L.Stream.shows L.Stream.gives C.reads L.waits L.comes) (state self.old) (state self.new)) }
+        ensures turned { IfSome result (λ turn. IfNone turn (TurnsOnce (world L.Stream.shows L.Stream.closes L.Stream.gives C.reads L.waits L.comes) (state self.old) (state self.new))) }
+        ensures handed { IfSome result (λ turn. IfSome turn (HandsOn (world L.Stream.shows L.Stream.closes L.Stream.gives C.reads L.waits L.comes) (state self.old) (state self.new))) }
+        ensures fails { IfNone result (TurnFails (world L.Stream.shows L.Stream.closes L.Stream.gives C.reads L.waits L.comes) (state self.old) (state self.new)) }
     {
         let Some(stream) = self.waiting.next_asking() else {
             self.look()?;
@@ -127,10 +133,14 @@ impl<L: ClientListener + Drop, C: Ticks + Drop> Acceptor<L, C, L::Stream> {
         };
         let scan = Scan::new();
         let coming = scan.look(&stream);
-        if !is_whole(coming) {
+        if is_never(coming) {
+            stream.close();
             return Some(None);
         }
-        let now = self.clock.milliseconds()?;
+        let Some(now) = self.clock.milliseconds() else {
+            stream.close();
+            return None;
+        };
         self.lingering.go_on(now);
         let serving = Serving::new(stream, now);
         Some(Some(serving))
@@ -138,17 +148,17 @@ impl<L: ClientListener + Drop, C: Ticks + Drop> Acceptor<L, C, L::Stream> {
 
     /// Ends the response to a client. One that has not ended what it sends stays open for a short time. It does not wait.
     pub(crate) fn leave(&mut self, serving: Serving<L::Stream>)
-        ensures { FinishesOne L.Stream.ends L.Stream.gives C.reads serving (state self.old) (state self.new) }
+        ensures { FinishesOne L.Stream.ends L.Stream.closes L.Stream.gives C.reads serving (state self.old) (state self.new) }
     {
         if let Some(client) = serving.finish(&mut self.clock) {
-            let _ = self.lingering.add(client);
+            self.lingering.add(client);
         }
     }
 
     /// Waits for the next client whose head is whole: the first whose head was. None where the listener or the clock failed.
     pub(crate) fn next(&mut self) -> Option<Serving<L::Stream>>
-        ensures handed { IfSome result (HandsOnFirst (world L.Stream.shows L.Stream.gives C.reads L.waits L.comes) (state self.old) (state self.new)) }
-        ensures nobody { IfNone result (HandsOnNobody (world L.Stream.shows L.Stream.gives C.reads L.waits L.comes) (state self.old) (state self.new)) }
+        ensures handed { IfSome result (HandsOnFirst (world L.Stream.shows L.Stream.closes L.Stream.gives C.reads L.waits L.comes) (state self.old) (state self.new)) }
+        ensures nobody { IfNone result (HandsOnNobody (world L.Stream.shows L.Stream.closes L.Stream.gives C.reads L.waits L.comes) (state self.old) (state self.new)) }
     {
         'turns: for turn in 0..u64::MAX {
             let turned = self.turn()?;
@@ -162,7 +172,7 @@ impl<L: ClientListener + Drop, C: Ticks + Drop> Acceptor<L, C, L::Stream> {
 
     /// Looks at the clients until none is open whose response is whole, or the listener or the clock fails.
     pub(crate) fn end(&mut self)
-        ensures { Ends (world L.Stream.shows L.Stream.gives C.reads L.waits L.comes) (state self.old) (state self.new) }
+        ensures { Ends (world L.Stream.shows L.Stream.closes L.Stream.gives C.reads L.waits L.comes) (state self.old) (state self.new) }
     {
         'looks: for looked in 0..u64::MAX {
             if self.lingering.is_empty() {

@@ -2,7 +2,7 @@
 ghost use Rattle.std.specs.Prelude.{◌≡◌};
 ghost use Rattle.client_front.specs.FirstOctet as spec;
 
-use crate::octets::{CR, LF};
+use crate::line_ends::{CR, LF};
 
 /// Octets of a token other than letters and digits (RFC 9110 section 5.6.2).
 const TOKEN_MARKS: &[u8] = b"!#$%&'*+-.^_`|~";

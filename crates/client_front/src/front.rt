@@ -1,14 +1,14 @@
 // The front: one client is served at a time, the others wait.
-ghost use Rattle.std.specs.Prelude.{◌≡◌, ◌<◌, ◌≤◌, [], length, take, IsNone, IfNone, IfSome, OnSome};
-ghost use Rattle.client_front.specs.Accepting.{HandsOnFirst, HandsOnNobody, state, world};
-ghost use Rattle.client_front.specs.Finishing.{Ends, Finishes};
+ghost use Rattle.std.specs.Prelude.{◌≡◌, ◌<◌, ◌≤◌, length, take, IsNone, IfNone, IfOk, IfSome, OnSome};
+ghost use Rattle.client_front.specs.Accepting.{HandsOnFirst, HandsOnNobody, nobody_yet, state, world};
+ghost use Rattle.client_front.specs.Finishing.{ClosesServed, Ends, Finishes};
 ghost use Rattle.client_front.specs.Handing.{BothSo, IfServed, NoneOrBothSo, ReceivesInTime, ReceivesNothing, SendsInTime, SendsNothing};
 
 use crate::acceptor::Acceptor;
 use crate::clock::Ticks;
-use crate::serving::Serving;
+use crate::serving::{Serving, close_served};
 use crate::sockets::ClientListener;
-use std::alloc::Global;
+use std::alloc::{AllocError, Global};
 
 /// Clients of a listener. One is served at a time.
 #[derive(Drop)]
@@ -18,25 +18,26 @@ pub struct ClientFront<L: ClientListener + Drop, C: Ticks + Drop> {
 }
 
 impl<L: ClientListener + Drop, C: Ticks + Drop> ClientFront<L, C> {
-    /// A front that has accepted nobody.
-    pub fn new(alloc: Global, listener: L, clock: C) -> ClientFront<L, C>
-        ensures nobody { state result.acceptor ≡ record { listener = listener; clock = clock; key = 0; held = record { idle = []; asking = [] }; lingering = [] } }
-        ensures current { IsNone result.current }
+    /// A front that has accepted nobody. No memory is asked for later.
+    pub fn new(alloc: Global, listener: L, clock: C) -> Result<ClientFront<L, C>, AllocError>
+        ensures { IfOk result (λ front. (state front.acceptor ≡ nobody_yet listener clock) × IsNone front.current) }
     {
-        ClientFront {
-            acceptor: Acceptor::new(alloc, listener, clock),
+        let acceptor = Acceptor::new(alloc, listener, clock)?;
+        Ok(ClientFront {
+            acceptor,
             current: None,
-        }
+        })
     }
 
     /// Waits for the next client whose head is whole, and hands it on: the first whose head was. What was served before is
     /// closed. None where the listener or the clock failed.
     pub fn accept(&mut self) -> Option<()>
-        ensures handed { OnSome result (IfServed (HandsOnFirst (world L.Stream.shows L.Stream.gives C.reads L.waits L.comes) (state self.old.acceptor) (state self.new.acceptor)) self.new.current) }
-        ensures nobody { IfNone result (HandsOnNobody (world L.Stream.shows L.Stream.gives C.reads L.waits L.comes) (state self.old.acceptor) (state self.new.acceptor)) }
+        ensures handed { OnSome result (IfServed (HandsOnFirst (world L.Stream.shows L.Stream.closes L.Stream.gives C.reads L.waits L.comes) (state self.old.acceptor) (state self.new.acceptor)) self.new.current) }
+        ensures nobody { IfNone result (HandsOnNobody (world L.Stream.shows L.Stream.closes L.Stream.gives C.reads L.waits L.comes) (state self.old.acceptor) (state self.new.acceptor)) }
         ensures none { IfNone result (IsNone self.new.current) }
+        ensures closed { ClosesServed L.Stream.closes self.old.current }
     {
-        self.current = None;
+        close_served(self.current.take());
         self.current = Some(self.acceptor.next()?);
         Some(())
     }
@@ -72,7 +73,7 @@ impl<L: ClientListener + Drop, C: Ticks + Drop> ClientFront<L, C> {
     /// Ends the response to the client that is served, and closes it, or leaves it open for a short time where it has not ended what it
     /// sends. It does not wait.
     pub fn finish(&mut self)
-        ensures finishes { Finishes L.Stream.ends L.Stream.gives C.reads self.old.current (state self.old.acceptor) (state self.new.acceptor) }
+        ensures finishes { Finishes L.Stream.ends L.Stream.closes L.Stream.gives C.reads self.old.current (state self.old.acceptor) (state self.new.acceptor) }
         ensures none { IsNone self.new.current }
     {
         if let Some(serving) = self.current.take() {
@@ -83,10 +84,11 @@ impl<L: ClientListener + Drop, C: Ticks + Drop> ClientFront<L, C> {
     /// Closes the client that is served, and waits until none is open whose response is whole: each has ended what it sends, or its time
     /// is over. For the end of a program, which would close them.
     pub fn end(&mut self)
-        ensures ends { Ends (world L.Stream.shows L.Stream.gives C.reads L.waits L.comes) (state self.old.acceptor) (state self.new.acceptor) }
+        ensures ends { Ends (world L.Stream.shows L.Stream.closes L.Stream.gives C.reads L.waits L.comes) (state self.old.acceptor) (state self.new.acceptor) }
         ensures none { IsNone self.new.current }
+        ensures closed { ClosesServed L.Stream.closes self.old.current }
     {
-        self.current = None;
+        close_served(self.current.take());
         self.acceptor.end();
     }
 }

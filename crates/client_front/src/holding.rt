@@ -1,15 +1,15 @@
 // How clients that wait come, ask, and are closed.
-ghost use Rattle.std.specs.Prelude.{◌≡◌, ◌≢◌, ◌<◌, ◌↔◌, ℕ, [], ◌∷◌, ◌++◌, true, false, All, length, slice_index_or, slice_set, IsTrue, IfOk, IfSome, IfNone, OnOk, OnErr};
+ghost use Rattle.std.specs.Prelude.{◌≡◌, ◌≢◌, ◌<◌, ◌+◌, ◌↔◌, ℕ, [], ◌∷◌, ◌++◌, true, false, All, length, slice_index_or, slice_set, IsTrue, IfOk, IfSome, IfNone, OnOk, OnErr};
 ghost use Rattle.std.specs.List.{remove};
+ghost use Rattle.std.specs.VecDeque.{deque_len};
 ghost use Rattle.client_front.specs.Scanning.{IsComing};
 ghost use Rattle.client_front.specs.Waiting as spec;
-ghost use Rattle.client_front.specs.Waiting.{Admits, Expires, FindsRoom, IsAsked, LooksAtLate, MakesRoom, held};
+ghost use Rattle.client_front.specs.Waiting.{Admits, ClosedUnless, Expires, FindsRoom, IsAsked, LooksAtLate, MakesRoom, held};
 
 use crate::progress::HEAD_MILLISECONDS;
 use crate::scan::{Coming, Scan};
 use crate::waiting::{Idle, MAX_HELD_CLIENTS, Waiting};
 use client_streams::ClientStream;
-use std::alloc::AllocError;
 
 fn stream_of<S: Drop>(client: Idle<S>) -> S
     ensures { result ≡ client.stream }
@@ -27,9 +27,20 @@ pub(crate) fn is_whole(coming: Coming) -> bool
     }
 }
 
+/// Whether none comes any more of a client that was looked at.
+pub(crate) fn is_never(coming: Coming) -> bool
+    ensures { result ≡ spec.is_never coming }
+{
+    match coming {
+        Coming::Never => true,
+        Coming::Nothing | Coming::Part(_) | Coming::Whole => false,
+    }
+}
+
 impl<S: Drop> Waiting<S> {
     fn is_full(&self) -> bool
-        ensures { result ≡ spec.is_full (held self.now) }
+        ensures full { result ≡ spec.is_full (held self.now) }
+        ensures room { result ≡ false → deque_len self.now.idle + deque_len self.now.asking < MAX_HELD_CLIENTS }
     {
         let (idle, asking) = (self.idle.len(), self.asking.len());
         idle >= MAX_HELD_CLIENTS || asking >= MAX_HELD_CLIENTS - idle
@@ -102,19 +113,6 @@ impl<S: Drop> Waiting<S> {
         self.asking.pop_front()
     }
 
-    /// The idle client there is idle no longer: it asks, or is closed.
-    fn leave(&mut self, at: usize, asks: bool)
-        requires { at < length self.old.idle.items }
-        ensures idle { self.new.idle.items ≡ remove self.old.idle.items at }
-        ensures asking { (d : Idle S) → self.new.asking.items ≡ self.old.asking.items ++ spec.asks_if asks (slice_index_or self.old.idle.items at d).stream }
-    {
-        if let Some(client) = self.idle.remove(at) {
-            if asks {
-                self.asking.push_back_reserved(stream_of(client));
-            }
-        }
-    }
-
     /// Notes what the idle client there has sent of its head by now.
     fn note(&mut self, at: usize, scan: Scan, now: u64)
         requires { at < length self.old.idle.items }
@@ -128,14 +126,12 @@ impl<S: Drop> Waiting<S> {
         client.scan = scan;
     }
 
-    /// Holds one more client at the end. An Err changes nothing.
-    fn push(&mut self, client: Idle<S>) -> Result<(), AllocError>
-        ensures ok { OnOk result (held self.new ≡ spec.held_if true client (held self.old)) }
-        ensures err { OnErr result (held self.new ≡ held self.old) }
+    /// Holds one more client at the end.
+    fn push(&mut self, client: Idle<S>)
+        requires { deque_len self.old.idle + deque_len self.old.asking < MAX_HELD_CLIENTS }
+        ensures { held self.new ≡ spec.held_if true client (held self.old) }
     {
-        self.asking.reserve(self.idle.len() + 1)?;
-        self.idle.push_back(client)?;
-        Ok(())
+        self.idle.push_back_reserved(client);
     }
 }
 
@@ -149,9 +145,28 @@ impl<S: ClientStream> Waiting<S> {
         client.scan.look(&client.stream)
     }
 
+    /// The idle client there is idle no longer: it asks, or is closed.
+    fn leave(&mut self, at: usize, asks: bool)
+        requires { at < length self.old.idle.items }
+        ensures idle { self.new.idle.items ≡ remove self.old.idle.items at }
+        ensures asking { (d : Idle S) → self.new.asking.items ≡ self.old.asking.items ++ spec.asks_if asks (slice_index_or self.old.idle.items at d).stream }
+        ensures closed { (d : Idle S) → ClosedUnless S.closes asks (slice_index_or self.old.idle.items at d).stream }
+        ensures fewer { asks ≡ false → deque_len self.new.idle + deque_len self.new.asking < deque_len self.old.idle + deque_len self.old.asking }
+    {
+        if let Some(client) = self.idle.remove(at) {
+            let stream = stream_of(client);
+            if asks {
+                self.asking.push_back_reserved(stream);
+            } else {
+                stream.close();
+            }
+        }
+    }
+
     /// Closes the client that came first of those whose head isn't whole; those before it ask. Whether there is one.
     pub(crate) fn make_room(&mut self) -> bool
-        ensures { MakesRoom S.shows result (held self.old) (held self.new) }
+        ensures made { MakesRoom S.shows S.closes result (held self.old) (held self.new) }
+        ensures room { IsTrue result → deque_len self.new.idle + deque_len self.new.asking < MAX_HELD_CLIENTS }
     {
         'oldest: while !self.idle.is_empty() {
             let asks = is_whole(self.look_at(0));
@@ -165,7 +180,8 @@ impl<S: ClientStream> Waiting<S> {
 
     /// Whether there is room for one more client, where room is made for it if there is none.
     fn find_room(&mut self) -> bool
-        ensures { FindsRoom S.shows result (held self.old) (held self.new) }
+        ensures found { FindsRoom S.shows S.closes result (held self.old) (held self.new) }
+        ensures room { IsTrue result → deque_len self.new.idle + deque_len self.new.asking < MAX_HELD_CLIENTS }
     {
         if self.is_full() {
             self.make_room()
@@ -175,15 +191,14 @@ impl<S: ClientStream> Waiting<S> {
     }
 
     /// Holds one more client. Where as many are held as may be, the one that came first of those whose head isn't whole is closed,
-    /// and where there is none the new one is. So it is at an Err.
-    pub(crate) fn admit(&mut self, client: Idle<S>) -> Result<(), AllocError>
-        ensures ok { OnOk result (Admits S.shows client (held self.old) (held self.new)) }
-        ensures err { OnErr result (FindsRoom S.shows true (held self.old) (held self.new)) }
+    /// and where there is none the new one is.
+    pub(crate) fn admit(&mut self, client: Idle<S>)
+        ensures { Admits S.shows S.closes client (held self.old) (held self.new) }
     {
         if self.find_room() {
-            self.push(client)
+            self.push(client);
         } else {
-            Ok(())
+            stream_of(client).close();
         }
     }
 
@@ -193,7 +208,7 @@ impl<S: ClientStream> Waiting<S> {
         requires within { at < length self.old.idle.items }
         requires late { (d : Idle S) → spec.is_late now (slice_index_or self.old.idle.items at d) ≡ true }
         requires earlier { (k : ℕ) (d : Idle S) → k < at → spec.is_late now (slice_index_or self.old.idle.items k d) ≡ false }
-        ensures { LooksAtLate S.shows now (held self.old) (held self.new) }
+        ensures { LooksAtLate S.shows S.closes now (held self.old) (held self.new) }
     {
         match self.look_at(at) {
             Coming::Part(scan) => {
@@ -211,7 +226,7 @@ impl<S: ClientStream> Waiting<S> {
 
     /// Looks at the idle clients that are late, in order of their coming: none is late then.
     pub(crate) fn expire(&mut self, now: u64)
-        ensures { Expires S.shows now (held self.old) (held self.new) }
+        ensures { Expires S.shows S.closes now (held self.old) (held self.new) }
     {
         'late: while let Some(at) = self.place_of_late(now) {
             self.end_wait(at, now);
@@ -220,7 +235,7 @@ impl<S: ClientStream> Waiting<S> {
 
     /// Looks at the client with the key, where there is one: it asks where its head is whole, and is closed where none can come.
     pub(crate) fn ask(&mut self, key: u64, now: u64)
-        ensures { IsAsked S.shows now key (held self.old) (held self.new) }
+        ensures { IsAsked S.shows S.closes now key (held self.old) (held self.new) }
     {
         let Some(at) = self.place_of(key) else {
             return;

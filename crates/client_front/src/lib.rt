@@ -9,7 +9,7 @@ mod toolchain;
 
 // Where a head begins, and where it ends.
 mod first_octet;
-mod octets;
+mod line_ends;
 
 // Clients that wait until their head is whole.
 mod holding;

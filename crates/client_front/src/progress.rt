@@ -3,7 +3,7 @@ ghost use Rattle.std.specs.Prelude.{◌≡◌};
 ghost use Rattle.client_front.specs.Deadlines as spec;
 ghost use Rattle.client_front.specs.HeadEnd as head;
 
-use crate::octets::{CR, LF};
+use crate::line_ends::{CR, LF};
 use client_streams::Pace;
 
 /// How many milliseconds a head may take.

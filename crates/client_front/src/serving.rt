@@ -1,7 +1,7 @@
 // The client that is served.
 ghost use Rattle.std.specs.Prelude.{◌≡◌, ◌<◌, ◌≤◌, length, take, true, IfSome, IfNone};
 ghost use Rattle.client_front.specs.Deadlines.{begun};
-ghost use Rattle.client_front.specs.Finishing.{EndsResponse, IsClosed};
+ghost use Rattle.client_front.specs.Finishing.{ClosesServed, EndsResponse, IsClosed};
 ghost use Rattle.client_front.specs.Handing.{ReceivesInTime, ReceivesNothing, SendsInTime, SendsNothing};
 ghost use Rattle.client_streams.specs.Patience.{untaken};
 
@@ -56,18 +56,37 @@ impl<S: ClientStream> Serving<S> {
     }
 
     /// Ends the response, and drops what has come since. A client of which more may come is given back: closed at once, it might lose
-    /// the response before it has read it. It does not wait.
+    /// the response before it has read it. Another is closed. It does not wait.
     pub(crate) fn finish<C: Ticks>(mut self, clock: &mut C) -> Option<Finished<S>>
         ensures open { IfSome result (EndsResponse S.ends S.gives C.reads true self.stream clock.old clock.new) }
-        ensures closed { IfNone result (IsClosed S.ends S.gives C.reads self.stream clock.old clock.new) }
+        ensures closed { IfNone result (IsClosed S.ends S.closes S.gives C.reads self.stream clock.old clock.new) }
     {
         self.stream.end_writing();
-        let now = clock.milliseconds()?;
+        let Some(now) = clock.milliseconds() else {
+            self.stream.close();
+            return None;
+        };
         let mut client = Finished::new(self.stream, now);
         if client.drop_all() {
-            Some(client)
-        } else {
-            None
+            return Some(client);
         }
+        client.close();
+        None
+    }
+
+    /// Closes the client.
+    pub(crate) fn close(self)
+        ensures { S.closes self.stream }
+    {
+        self.stream.close();
+    }
+}
+
+/// Closes the client that was served, where one was.
+pub(crate) fn close_served<S: ClientStream>(served: Option<Serving<S>>)
+    ensures { ClosesServed S.closes served }
+{
+    if let Some(serving) = served {
+        serving.close();
     }
 }

@@ -1,9 +1,10 @@
 // Clients that came and are not handed on yet.
-ghost use Rattle.std.specs.Prelude.{◌≡◌, ◌+◌, ◌≤◌, []};
+ghost use Rattle.std.specs.Prelude.{◌≡◌, ◌+◌, ◌≤◌, [], IfOk};
 ghost use Rattle.std.specs.VecDeque.{deque_capacity, deque_len};
+ghost use Rattle.client_front.specs.declared.waiting.TheConstants.{MAX_HELD_CLIENTS};
 
 use crate::scan::Scan;
-use std::alloc::Global;
+use std::alloc::{AllocError, Global};
 use std::collections::VecDeque;
 
 /// How many clients are held at most.
@@ -29,18 +30,19 @@ pub(crate) struct Idle<S: Drop> {
 pub(crate) struct Waiting<S: Drop> {
     pub(crate) idle: VecDeque<Idle<S>>,
     pub(crate) asking: VecDeque<S>,
-    // Each that is idle may ask without memory being asked for.
-    ghost has_room: { deque_len idle + deque_len asking ≤ deque_capacity asking },
+    // As many as may be held are held, and ask, without memory being asked for.
+    ghost few: { deque_len idle + deque_len asking ≤ MAX_HELD_CLIENTS },
+    ghost idle_room: { MAX_HELD_CLIENTS ≤ deque_capacity idle },
+    ghost asking_room: { MAX_HELD_CLIENTS ≤ deque_capacity asking },
 }
 
 impl<S: Drop> Waiting<S> {
-    /// No clients.
-    pub(crate) fn new(alloc: Global) -> Waiting<S>
-        ensures { (result.idle.items ≡ []) × (result.asking.items ≡ []) }
+    /// No clients, and room for as many as may be held.
+    pub(crate) fn new(alloc: Global) -> Result<Waiting<S>, AllocError>
+        ensures { IfOk result (λ waiting. (waiting.idle.items ≡ []) × (waiting.asking.items ≡ [])) }
     {
-        Waiting {
-            idle: VecDeque::new(alloc),
-            asking: VecDeque::new(alloc),
-        }
+        let idle = VecDeque::with_capacity(alloc, MAX_HELD_CLIENTS)?;
+        let asking = VecDeque::with_capacity(alloc, MAX_HELD_CLIENTS)?;
+        Ok(Waiting { idle, asking })
     }
 }

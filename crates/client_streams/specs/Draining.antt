@@ -2,7 +2,7 @@
 use Rattle.std.specs.Prelude.{◌≡◌, ◌+◌, ◌-◌, ◌<◌, ◌≤◌, ◌⊎◌, ℕ, Bool, true, false, List, length, min, Option, None, Some}
 use Rattle.client_streams.specs.Patience.{capped}
 use Rattle.client_streams.specs.declared.finished.Finished.{Finished}
-use Rattle.client_streams.specs.declared.finished.TheConstants.{DRAIN_MILLISECONDS, DRAIN_PIECE_OCTETS, MAX_DRAIN_OCTETS}
+use Rattle.client_streams.specs.declared.finished.TheConstants.{DRAIN_MILLISECONDS, DRAIN_PIECE_OCTETS, MAX_DRAIN_OCTETS, MAX_DRAIN_PIECES}
 
 -- a client whose response is whole now: it is closed `DRAIN_MILLISECONDS` later, if it isn't earlier
 abbrev pub finished : {S : Type 0} → ℕ → S → Finished S
@@ -23,12 +23,17 @@ module _ {S : Type 0} (gives : S → ℕ → Option (List ℕ) → S → Type 0)
   abbrev pub EndsInput : Finished S → Finished S → Type 0
   EndsInput old new = (old.dropped < MAX_DRAIN_OCTETS) × gives old.stream (piece old.dropped) None new.stream
 
-  -- pieces are dropped, one after another
-  pub data DropsSome (old : Finished S) : Finished S → Type 0 where
-    NoPiece : DropsSome old old
-    OnePiece : {n : ℕ} {mid new : Finished S} → DropsSome old mid → 0 < n → DropsPiece n mid new → DropsSome old new
+  -- so many pieces are dropped, one after another, and no more than `MAX_DRAIN_PIECES`
+  pub data DropsSome (old : Finished S) : ℕ → Finished S → Type 0 where
+    NoPiece : DropsSome old 0 old
+    OnePiece : {pieces n : ℕ} {mid new : Finished S} → DropsSome old pieces mid → pieces < MAX_DRAIN_PIECES → 0 < n → DropsPiece n mid new
+        → DropsSome old (pieces + 1) new
 
-  -- What has come is dropped, until none has come yet or `MAX_DRAIN_OCTETS` are dropped in all: the client stays. Or no more comes.
+  -- What has come is dropped, until none has come yet, `MAX_DRAIN_OCTETS` are dropped in all, or as many pieces as one look may: more may
+  -- come. Or no more comes.
   abbrev pub DropsAll : Bool → Finished S → Finished S → Type 0
-  DropsAll true old new = (mid : Finished S) × DropsSome old mid × (DropsPiece 0 mid new ⊎ ((MAX_DRAIN_OCTETS ≤ mid.dropped) × (new ≡ mid)))
-  DropsAll false old new = (mid : Finished S) × DropsSome old mid × EndsInput mid new
+  DropsAll true old new =
+      (pieces : ℕ) × (mid : Finished S) × DropsSome old pieces mid
+      × (((pieces < MAX_DRAIN_PIECES) × DropsPiece 0 mid new)
+      ⊎ (((MAX_DRAIN_OCTETS ≤ mid.dropped) ⊎ (pieces ≡ MAX_DRAIN_PIECES)) × (new ≡ mid)))
+  DropsAll false old new = (pieces : ℕ) × (mid : Finished S) × DropsSome old pieces mid × (pieces < MAX_DRAIN_PIECES) × EndsInput mid new

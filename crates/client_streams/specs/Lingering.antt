@@ -1,51 +1,38 @@
 -- Clients whose response is whole, until they are closed.
-use Rattle.std.specs.Prelude.{◌≡◌, ◌++◌, ◌⊎◌, ℕ, Bool, true, false, List, [], ◌∷◌, Option, length, nat_le, if◌then◌else◌}
+use Rattle.std.specs.Prelude.{◌≡◌, ◌<◌, ◌≤◌, ◌++◌, ◌⊎◌, ℕ, Bool, true, false, List, [], ◌∷◌, Option, length}
 use Rattle.client_streams.specs.Draining.{DropsAll}
 use Rattle.client_streams.specs.declared.finished.Finished.{Finished}
 use Rattle.client_streams.specs.declared.lingering.TheConstants.{MAX_LINGERING_CLIENTS}
 
-abbrev pub is_first_due : {S : Type 0} → ℕ → List (Finished S) → Bool
-is_first_due now [] = false
-is_first_due now (client ∷ clients) = nat_le client.due now
+-- where as many are open as may be, what has come of the first of them is dropped, and it is closed, as its stream stands then
+abbrev pub MakesWay : {S : Type 0} → (S → ℕ → Option (List ℕ) → S → Type 0) → (S → Type 0) → List (Finished S) → List (Finished S) → Type 0
+MakesWay {S} gives closes old new =
+    ((length old < MAX_LINGERING_CLIENTS) × (new ≡ old))
+    ⊎ ((first : Finished S) × (more : Bool) × (left : Finished S) × (MAX_LINGERING_CLIENTS ≤ length old) × (old ≡ first ∷ new)
+    × DropsAll gives more first left × closes left.stream)
 
--- the clients from the first on that is not due
-abbrev pub undue : {S : Type 0} → ℕ → List (Finished S) → List (Finished S)
-undue now [] = []
-undue now (client ∷ clients) = if nat_le client.due now then undue now clients else client ∷ clients
+-- A client that stays open is the last of those that do, and where as many do as may, the first of them is closed.
+abbrev pub Lingers : {S : Type 0} → (S → ℕ → Option (List ℕ) → S → Type 0) → (S → Type 0) → Finished S → List (Finished S) → List (Finished S) → Type 0
+Lingers {S} gives closes client old new = (mid : List (Finished S)) × MakesWay gives closes old mid × (new ≡ mid ++ client ∷ [])
 
--- `MAX_LINGERING_CLIENTS` are open
-abbrev pub has_no_room : {C : Type 0} → List C → Bool
-has_no_room clients = nat_le MAX_LINGERING_CLIENTS (length clients)
+module _ {S : Type 0} (gives : S → ℕ → Option (List ℕ) → S → Type 0) (now : ℕ) where
+  -- What has come of one is dropped; whether it stays open: more may come of it, and it isn't due.
+  abbrev pub StaysOpen : Bool → Finished S → Finished S → Type 0
+  StaysOpen true old new = DropsAll gives true old new × (now < new.due)
+  StaysOpen false old left = DropsAll gives false old left ⊎ (DropsAll gives true old left × (left.due ≤ now))
 
-abbrev pub without_first : {C : Type 0} → List C → List C
-without_first [] = []
-without_first (client ∷ clients) = clients
+module _ {S : Type 0} (gives : S → ℕ → Option (List ℕ) → S → Type 0) (closes : S → Type 0) (now : ℕ) where
+  -- Those that stay open stand as they stood, and the others are closed, as their streams stand after what has come was dropped: none
+  -- is passed over.
+  pub data GoOn : List (Finished S) → List (Finished S) → Type 0 where
+    Nobody : GoOn [] []
+    Stays : {olds news : List (Finished S)} {old new : Finished S} → GoOn olds news → StaysOpen gives now true old new → GoOn (olds ++ old ∷ []) (news ++ new ∷ [])
+    Leaves : {olds news : List (Finished S)} {old : Finished S} → GoOn olds news → (left : Finished S) → StaysOpen gives now false old left
+        → closes left.stream → GoOn (olds ++ old ∷ []) news
 
--- the clients without the first, where as many are open as may be
-abbrev pub with_room : {C : Type 0} → List C → List C
-with_room clients = if has_no_room clients then without_first clients else clients
-
--- A client that stays open is the last of those that do, and where as many do as may, the first of them is closed; where there is no
--- memory for it, it is closed itself.
-abbrev pub Lingers : {S : Type 0} → Finished S → List (Finished S) → List (Finished S) → Type 0
-Lingers client old new = (new ≡ with_room old ++ client ∷ []) ⊎ (new ≡ old)
-
-module _ {S : Type 0} (gives : S → ℕ → Option (List ℕ) → S → Type 0) where
-  -- What has come of the first is dropped: it is the last where more may come, and is closed else.
-  abbrev pub DrainsFirst : List (Finished S) → List (Finished S) → Type 0
-  DrainsFirst [] new = new ≡ []
-  DrainsFirst (first ∷ rest) new =
-      ((last : Finished S) × DropsAll gives true first last × (new ≡ rest ++ last ∷ []))
-      ⊎ ((left : Finished S) × DropsAll gives false first left × (new ≡ rest))
-
-  -- what has come of each is dropped, and those of which no more comes are closed
-  pub data AreDrained : List (Finished S) → List (Finished S) → Type 0 where
-    Nobody : AreDrained [] []
-    Stays : {olds news : List (Finished S)} {old new : Finished S} → AreDrained olds news → DropsAll gives true old new
-        → AreDrained (olds ++ old ∷ []) (news ++ new ∷ [])
-    Leaves : {olds news : List (Finished S)} {old : Finished S} → AreDrained olds news → (left : Finished S) → DropsAll gives false old left
-        → AreDrained (olds ++ old ∷ []) news
-
-  -- those that are due are closed, and the others are drained
-  abbrev pub GoOn : ℕ → List (Finished S) → List (Finished S) → Type 0
-  GoOn now old new = AreDrained (undue now old) new
+  -- the first of them is the last then, or is closed
+  abbrev pub FirstGoesOn : List (Finished S) → List (Finished S) → Type 0
+  FirstGoesOn [] new = new ≡ []
+  FirstGoesOn (first ∷ rest) new =
+      ((last : Finished S) × StaysOpen gives now true first last × (new ≡ rest ++ last ∷ []))
+      ⊎ ((left : Finished S) × StaysOpen gives now false first left × closes left.stream × (new ≡ rest))

@@ -19,6 +19,9 @@ pub trait ClientStream: Drop {
     /// What ending what is sent comes to.
     ghost ends: { Self → Self → Type 0 };
 
+    /// What closing a stream that stands so comes to.
+    ghost closes: { Self → Type 0 };
+
     /// Puts the octets that have come and aren't received yet at the front of `into`, as many as there is room for; they are
     /// received all the same. How many, 0 where none has come yet. None where the client ended its input and all is received,
     /// or the stream failed. It does not wait.
@@ -47,4 +50,8 @@ pub trait ClientStream: Drop {
     /// Tells the client that nothing more is sent.
     fn end_writing(&mut self)
         ensures { ends self.old self.new };
+
+    /// Closes the stream.
+    fn close(self)
+        ensures { closes self };
 }

@@ -2,6 +2,7 @@
 ghost use Rattle.std.specs.Prelude.{◌≡◌, ◌<◌, IfNone, IfSome};
 ghost use Rattle.client_streams.specs.Draining as spec;
 ghost use Rattle.client_streams.specs.Draining.{DropsAll, DropsPiece, EndsInput};
+ghost use Rattle.client_streams.specs.Lingering.{StaysOpen};
 
 use crate::client_stream::ClientStream;
 
@@ -13,6 +14,9 @@ pub const DRAIN_MILLISECONDS: u64 = 2_000;
 
 /// How many octets one read of that asks for.
 const DRAIN_PIECE_OCTETS: usize = 8_192;
+
+/// How many of them one look drops at most: as many as all those octets are.
+const MAX_DRAIN_PIECES: usize = 128;
 
 /// A client whose response is whole.
 #[derive(Drop)]
@@ -49,12 +53,15 @@ impl<S: ClientStream> Finished<S> {
         Some(count)
     }
 
-    /// Drops what has come by now, no more than `MAX_DRAIN_OCTETS` in all. Whether more may come: the client has not ended its input,
-    /// and the stream has not failed. It does not wait.
+    /// Drops what has come by now, no more than `MAX_DRAIN_OCTETS` in all and `MAX_DRAIN_PIECES` pieces in one call. Whether more may
+    /// come: the client has not ended its input, and the stream has not failed. It does not wait.
     pub fn drop_all(&mut self) -> bool
         ensures { DropsAll S.gives result self.old self.new }
     {
-        'pieces: while self.dropped < MAX_DRAIN_OCTETS {
+        'pieces: for piece in 0..MAX_DRAIN_PIECES {
+            if self.dropped >= MAX_DRAIN_OCTETS {
+                return true;
+            }
             let Some(count) = self.drop_piece() else {
                 return false;
             };
@@ -63,5 +70,25 @@ impl<S: ClientStream> Finished<S> {
             }
         }
         true
+    }
+
+    /// Drops what has come by now. Whether the client stays open: more may come of it, and it isn't due. It does not wait.
+    pub fn stays_open(&mut self, now: u64) -> bool
+        ensures { StaysOpen S.gives now result self.old self.new }
+    {
+        if !self.drop_all() {
+            return false;
+        }
+        if self.due <= now {
+            return false;
+        }
+        true
+    }
+
+    /// Closes the client.
+    pub fn close(self)
+        ensures { S.closes self.stream }
+    {
+        self.stream.close();
     }
 }

@@ -1,7 +1,8 @@
 // Clients whose response is whole and that have not ended what they send: they are closed a short time after it.
-ghost use Rattle.std.specs.Prelude.{◌≡◌, ◌++◌, ◌↔◌, [], ◌∷◌, IsTrue, OnOk, OnErr};
-ghost use Rattle.client_streams.specs.Lingering as spec;
-ghost use Rattle.client_streams.specs.Lingering.{AreDrained, DrainsFirst, GoOn};
+ghost use Rattle.std.specs.Prelude.{◌≡◌, ◌<◌, ◌≤◌, ◌↔◌, [], IsTrue, IfOk};
+ghost use Rattle.std.specs.VecDeque.{deque_capacity, deque_len};
+ghost use Rattle.client_streams.specs.declared.lingering.TheConstants.{MAX_LINGERING_CLIENTS};
+ghost use Rattle.client_streams.specs.Lingering.{FirstGoesOn, GoOn, Lingers, MakesWay};
 
 use crate::client_stream::ClientStream;
 use crate::finished::Finished;
@@ -15,16 +16,18 @@ pub const MAX_LINGERING_CLIENTS: usize = 64;
 #[derive(Drop)]
 pub struct Lingering<S: Drop> {
     pub clients: VecDeque<Finished<S>>,
+    // As many as may be open stay so without memory being asked for.
+    ghost few: { deque_len clients ≤ MAX_LINGERING_CLIENTS },
+    ghost has_room: { MAX_LINGERING_CLIENTS ≤ deque_capacity clients },
 }
 
 impl<S: Drop> Lingering<S> {
-    /// No clients.
-    pub fn new(alloc: Global) -> Lingering<S>
-        ensures { result.clients.items ≡ [] }
+    /// No clients, and room for as many as may be open.
+    pub fn new(alloc: Global) -> Result<Lingering<S>, AllocError>
+        ensures { IfOk result (λ lingering. lingering.clients.items ≡ []) }
     {
-        Lingering {
-            clients: VecDeque::new(alloc),
-        }
+        let clients = VecDeque::with_capacity(alloc, MAX_LINGERING_CLIENTS)?;
+        Ok(Lingering { clients })
     }
 
     /// Whether none is open.
@@ -33,77 +36,51 @@ impl<S: Drop> Lingering<S> {
     {
         self.clients.is_empty()
     }
-
-    /// Whether the client that was finished first is due.
-    fn is_first_due(&self, now: u64) -> bool
-        ensures { result ≡ spec.is_first_due now self.now.clients.items }
-    {
-        match self.clients.front() {
-            Some(first) => first.due <= now,
-            None => false,
-        }
-    }
-
-    /// Closes the clients before the first that is not due.
-    fn close_due(&mut self, now: u64)
-        ensures { self.new.clients.items ≡ spec.undue now self.old.clients.items }
-    {
-        for turn in 0..self.clients.len() {
-            if !self.is_first_due(now) {
-                return;
-            }
-            let _ = self.clients.pop_front();
-        }
-    }
-
-    fn has_no_room(&self) -> bool
-        ensures { result ≡ spec.has_no_room self.now.clients.items }
-    {
-        self.clients.len() >= MAX_LINGERING_CLIENTS
-    }
-
-    /// Leaves one more client open, and closes the one that was finished first where as many were open as may be. An Err changes
-    /// nothing.
-    pub fn add(&mut self, client: Finished<S>) -> Result<(), AllocError>
-        ensures ok { OnOk result (self.new.clients.items ≡ spec.with_room self.old.clients.items ++ client ∷ []) }
-        ensures err { OnErr result (self.new.clients.items ≡ self.old.clients.items) }
-    {
-        let is_full = self.has_no_room();
-        self.clients.push_back(client)?;
-        if is_full {
-            let _ = self.clients.pop_front();
-        }
-        Ok(())
-    }
 }
 
 impl<S: ClientStream> Lingering<S> {
-    /// Drops what has come of the client that stands first; then it stands last where more may come, and is closed else.
-    fn drain_first(&mut self)
-        ensures { DrainsFirst S.gives self.old.clients.items self.new.clients.items }
+    /// Closes the client that was finished first where as many are open as may be, after what has come of it was dropped.
+    fn make_way(&mut self)
+        ensures way { MakesWay S.gives S.closes self.old.clients.items self.new.clients.items }
+        ensures room { deque_len self.new.clients < MAX_LINGERING_CLIENTS }
+    {
+        if self.clients.len() >= MAX_LINGERING_CLIENTS {
+            if let Some(mut first) = self.clients.pop_front() {
+                let _ = first.drop_all();
+                first.close();
+            }
+        }
+    }
+
+    /// Leaves one more client open, and closes the one that was finished first where as many were open as may be.
+    pub fn add(&mut self, client: Finished<S>)
+        ensures { Lingers S.gives S.closes client self.old.clients.items self.new.clients.items }
+    {
+        self.make_way();
+        self.clients.push_back_reserved(client);
+    }
+
+    /// Drops what has come of the client that stands first; then it stands last where more may come and it isn't due, and is closed
+    /// else.
+    fn first_goes_on(&mut self, now: u64)
+        ensures { FirstGoesOn S.gives S.closes now self.old.clients.items self.new.clients.items }
     {
         let Some(mut client) = self.clients.pop_front() else {
             return;
         };
-        if client.drop_all() {
+        if client.stays_open(now) {
             self.clients.push_back_reserved(client);
+        } else {
+            client.close();
         }
     }
 
-    /// Drops what has come of each, and closes those of which no more comes.
-    fn drain_all(&mut self)
-        ensures { AreDrained S.gives self.old.clients.items self.new.clients.items }
+    /// Drops what has come of each, and closes those of which no more comes and those that are due. It does not wait.
+    pub fn go_on(&mut self, now: u64)
+        ensures { GoOn S.gives S.closes now self.old.clients.items self.new.clients.items }
     {
         for turn in 0..self.clients.len() {
-            self.drain_first();
+            self.first_goes_on(now);
         }
-    }
-
-    /// Closes the clients that are due, drops what has come of the others, and closes those of which no more comes. It does not wait.
-    pub fn go_on(&mut self, now: u64)
-        ensures { GoOn S.gives now self.old.clients.items self.new.clients.items }
-    {
-        self.close_due(now);
-        self.drain_all();
     }
 }

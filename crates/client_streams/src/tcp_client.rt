@@ -34,6 +34,8 @@ impl ClientStream for TcpClient {
 
     ghost ends = { λ _ _. ⊤ };
 
+    ghost closes = { λ _. ⊤ };
+
     fn peek(&self, into: &mut [u8]) -> Option<usize> {
         'signals: for _ in 0..u64::MAX {
             match self.stream.peek(into) {
@@ -64,6 +66,8 @@ impl ClientStream for TcpClient {
     fn end_writing(&mut self) {
         let _ = self.stream.shutdown(Shutdown::Write);
     }
+
+    fn close(self) {}
 }
 
 /// One read of a stream that waits at most `limit` milliseconds.

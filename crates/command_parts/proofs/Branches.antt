@@ -2,7 +2,7 @@
 use Rattle.std.proofs.Common.{◌≡◌, ℕ, Bool, true, false, List, [], ◌∷◌, ◌++◌, get_or, cond, refl, sym, ap, ◌∙◌, inl, inr}
 use Rattle.std.specs.Prelude.{◌⊎◌, ◌==◌, Result, Ok, Err}
 use Rattle.std.proofs.lemmas.Bool.{cond-true, cond-false}
-use Rattle.imap_syntax.specs.Texts.{plain_of, plain_octets}
+use Rattle.imap_types.specs.Texts.{plain_of, plain_octets}
 use Rattle.command_parts.specs.Fields.{AreOctets}
 use Rattle.command_parts.specs.declared.no_command.NoCommand.{NoCommand}
 use Rattle.command_parts.specs.declared.no_command.NoCommand.TheVariants.{NeedMore, WantsLiteral, Bad}

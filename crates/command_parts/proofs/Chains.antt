@@ -2,8 +2,8 @@
 use Rattle.std.proofs.Common.{◌≡◌, ℕ, List, [], ◌∷◌, ◌++◌, refl, sym, ap, subst, ◌∙◌, append_assoc, inl, inr}
 use Rattle.std.specs.Prelude.{Result, Ok, Err}
 use Rattle.std.proofs.lemmas.List.{map-append}
-use Rattle.imap_syntax.proofs.EachLemmas.{each_parts}
-use Rattle.imap_syntax.specs.Texts.{Then, plain_of, plain_octets}
+use Rattle.imap_types.proofs.EachLemmas.{each_parts}
+use Rattle.imap_types.specs.Texts.{Then, plain_of, plain_octets}
 use Rattle.command_parts.specs.Fields.{fits_octet, AreOctets}
 use Rattle.command_parts.specs.declared.no_command.NoCommand.{NoCommand}
 use Rattle.command_parts.specs.declared.no_command.NoCommand.TheVariants.{NeedMore, WantsLiteral, Bad}

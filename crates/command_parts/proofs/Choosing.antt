@@ -5,9 +5,9 @@ use Rattle.std.specs.Prelude.{◌⊎◌, ◌==◌, nat_lt, Result, Ok, Err}
 use Rattle.std.specs.List.{list_all}
 use Rattle.std.proofs.lemmas.Bool.{cond-true, cond-false, eqb-true, eqb-false, eq-eqb, ne_eqb, and_parts, cases_lt}
 use Rattle.std.proofs.lemmas.List.{length-append, length-map, length-take-le, take-append-drop, take_all, drop_at, drop_more, length-drop, map-append}
-use Rattle.imap_syntax.proofs.EachLemmas.{each_all, each_parts}
-use Rattle.imap_syntax.specs.Octets.{lower}
-use Rattle.imap_syntax.specs.Texts.{Each, IsWord, plain_octets}
+use Rattle.imap_types.proofs.EachLemmas.{each_all, each_parts}
+use Rattle.imap_types.specs.Octets.{lower}
+use Rattle.imap_types.specs.Texts.{Each, IsWord, plain_octets}
 use Rattle.imap_values.proofs.Cuts.{small, small_lower, plain_small}
 use Rattle.command_parts.specs.declared.no_command.NoCommand.{NoCommand}
 use Rattle.command_parts.specs.declared.no_command.NoCommand.TheVariants.{NeedMore, WantsLiteral, Bad}

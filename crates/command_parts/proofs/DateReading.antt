@@ -4,12 +4,12 @@ use Rattle.std.proofs.Common.{arith, inl, inr}
 use Rattle.std.specs.Prelude.{◌==◌, nat_lt, ℤ}
 use Rattle.std.proofs.lemmas.Bool.{ltb-true, ltb-false, lt-ltb, le-ltb, eqb-true}
 use Rattle.std.proofs.lemmas.List.{append-nil, map-append}
-use Rattle.imap_syntax.specs.Octets.{is_digit, lower}
-use Rattle.imap_syntax.specs.Texts.{Each, IsWord, plain_octets}
-use Rattle.imap_syntax.specs.Dates.{month_name}
-use Rattle.imap_syntax.specs.DateTimes.{IsMonth, IsDateTime}
+use Rattle.imap_types.specs.Octets.{is_digit, lower}
+use Rattle.imap_types.specs.Texts.{Each, IsWord, plain_octets}
+use Rattle.imap_types.specs.Dates.{month_name}
+use Rattle.imap_types.specs.DateTimes.{IsMonth, IsDateTime}
 use Rattle.imap_automaton.proofs.DateForms.{starts_day, is_sign, octets_of, of_octets, four, two, time_of, zone_of}
-use Rattle.imap_syntax.specs.DateTimes.{seconds_of}
+use Rattle.imap_types.specs.DateTimes.{seconds_of}
 use Rattle.imap_grammar.proofs.DateReadings.{date_read}
 use Rattle.imap_values.specs.Dates.{date_in}
 use Rattle.command_parts.specs.Fields.{fits_octet}

@@ -3,11 +3,11 @@ use Rattle.std.proofs.Common.{◌≡◌, ℕ, ◌+◌, true, false, List, [], �
 use Rattle.std.specs.Prelude.{◌==◌}
 use Rattle.std.proofs.lemmas.Bool.{eqb-true}
 use Rattle.std.proofs.lemmas.List.{append-nil}
-use Rattle.imap_syntax.specs.Octets.{is_atom}
-use Rattle.imap_syntax.specs.Texts.{Each, plain_octets}
-use Rattle.imap_syntax.specs.Lines.{spaced, joined}
-use Rattle.imap_syntax.specs.Strings.{IsAtom}
-use Rattle.imap_syntax.specs.Items.{IsName, AllNames, kept}
+use Rattle.imap_types.specs.Octets.{is_atom}
+use Rattle.imap_types.specs.Texts.{Each, plain_octets}
+use Rattle.imap_types.specs.Lines.{spaced, joined}
+use Rattle.imap_types.specs.Strings.{IsAtom}
+use Rattle.imap_types.specs.Items.{IsName, AllNames, kept}
 use Rattle.imap_values.specs.Spans.{flags_in}
 use Rattle.imap_values.proofs.Cuts.{plain_small}
 use Rattle.imap_values.proofs.NameReadings.{flags_read}

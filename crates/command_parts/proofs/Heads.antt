@@ -7,14 +7,14 @@ use Rattle.std.specs.Fmt.{decimal}
 use Rattle.std.proofs.lemmas.Fmt.{decimal_by_steps}
 use Rattle.std.proofs.lemmas.Nat.{mod_below}
 use Rattle.std.proofs.lemmas.List.{append-nil}
-use Rattle.imap_syntax.proofs.EachLemmas.{each_to, each_append, each_parts, each_all}
-use Rattle.imap_syntax.specs.Octets.{is_digit, is_alnum, is_text, is_atom, is_inside, lower}
-use Rattle.imap_syntax.specs.Texts.{Each, Then, IsWord, crlf}
-use Rattle.imap_syntax.specs.Lines.{spaced, joined}
-use Rattle.imap_syntax.specs.Strings.{IsCounted, escaped, quoted}
-use Rattle.imap_syntax.specs.Items.{IsName, AllNames}
-use Rattle.imap_syntax.specs.Dates.{month_name}
-use Rattle.imap_syntax.specs.DateTimes.{IsMonth, IsDateTime}
+use Rattle.imap_types.proofs.EachLemmas.{each_to, each_append, each_parts, each_all}
+use Rattle.imap_types.specs.Octets.{is_digit, is_alnum, is_text, is_atom, is_inside, lower}
+use Rattle.imap_types.specs.Texts.{Each, Then, IsWord, crlf}
+use Rattle.imap_types.specs.Lines.{spaced, joined}
+use Rattle.imap_types.specs.Strings.{IsCounted, escaped, quoted}
+use Rattle.imap_types.specs.Items.{IsName, AllNames}
+use Rattle.imap_types.specs.Dates.{month_name}
+use Rattle.imap_types.specs.DateTimes.{IsMonth, IsDateTime}
 use Rattle.imap_automaton.proofs.DateForms.{starts_day, is_sign, octets_of}
 use Rattle.command_parts.specs.Fields.{fits_octet, AreOctets, EndsWithHead, IsPlainNumber, IsFolderName, IsCredential, IsFlagList}
 use Rattle.command_parts.proofs.Readers.{ends_with_line, ends_append, seam}

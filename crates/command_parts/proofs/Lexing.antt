@@ -1,8 +1,8 @@
 -- A lexeme that is read octet by octet reads the texts that its steps accept.
 use Rattle.std.proofs.Common.{◌≡◌, ℕ, suc, ◌+◌, Bool, true, false, List, [], ◌∷◌, ◌++◌, length, cond, refl, sym, ap, subst, ◌∙◌}
 use Rattle.std.specs.Prelude.{◌==◌, Result, Ok, Err}
-use Rattle.imap_syntax.proofs.EachLemmas.{each_parts}
-use Rattle.imap_syntax.specs.Texts.{plain_octets}
+use Rattle.imap_types.proofs.EachLemmas.{each_parts}
+use Rattle.imap_types.specs.Texts.{plain_octets}
 use Rattle.imap_values.proofs.Cuts.{plain_small}
 use Rattle.command_parts.specs.Fields.{fits_octet, AreOctets}
 use Rattle.command_parts.specs.declared.no_command.NoCommand.{NoCommand}

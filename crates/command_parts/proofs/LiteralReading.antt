@@ -3,9 +3,9 @@ use Rattle.std.proofs.Common.{◌≡◌, ℕ, zero, suc, ◌+◌, ◌-◌, ◌*�
 use Rattle.std.proofs.Common.{arith}
 use Rattle.std.specs.Prelude.{◌==◌, nat_lt, nat_le}
 use Rattle.std.proofs.lemmas.Bool.{and_parts, and_from, eqb-true, ltb-true, leb-true, lt-ltb, le-leb}
-use Rattle.imap_syntax.specs.Octets.{is_digit, is_inside}
-use Rattle.imap_syntax.specs.Texts.{Each, plain_octets}
-use Rattle.imap_syntax.specs.Numbers.{value_from}
+use Rattle.imap_types.specs.Octets.{is_digit, is_inside}
+use Rattle.imap_types.specs.Texts.{Each, plain_octets}
+use Rattle.imap_types.specs.Numbers.{value_from}
 use Rattle.command_parts.specs.Fields.{fits_octet}
 use Rattle.command_parts.specs.declared.no_command.NoCommand.TheVariants.{NeedMore, WantsLiteral}
 use Rattle.command_parts.specs.declared.lexeme.LexemeStep.{LexemeStep}

@@ -4,9 +4,9 @@ use Rattle.std.proofs.Common.{append_assoc, arith, inl, inr, replicate}
 use Rattle.std.specs.Prelude.{◌==◌, nat_le, Result, Ok, Err}
 use Rattle.std.proofs.lemmas.Bool.{cond-true, cond-false, ne_eqb, le-leb, lt-leb, cases_lt}
 use Rattle.std.proofs.lemmas.List.{length-append, length-map, length-replicate, length-take-le, take-append-drop, take_at, drop_at, get_or_at, drop_more, append-nil}
-use Rattle.imap_syntax.proofs.EachLemmas.{each_parts}
-use Rattle.imap_syntax.specs.Octets.{is_inside}
-use Rattle.imap_syntax.specs.Texts.{Each, plain_of, plain_octets}
+use Rattle.imap_types.proofs.EachLemmas.{each_parts}
+use Rattle.imap_types.specs.Octets.{is_inside}
+use Rattle.imap_types.specs.Texts.{Each, plain_of, plain_octets}
 use Rattle.imap_values.proofs.Cuts.{plain_small}
 use Rattle.command_parts.specs.Fields.{fits_octet, AreOctets}
 use Rattle.command_parts.specs.declared.no_command.NoCommand.{NoCommand}

@@ -9,7 +9,7 @@ use Rattle.command_parts.specs.declared.lexeme.LexemeStep.{LexemeStep}
 use Rattle.command_parts.specs.declared.lexeme.LexemeStep.TheVariants as step
 use Rattle.command_parts.specs.declared.fixed_text.FixedText.{FixedText}
 use Rattle.command_parts.specs.declared.fixed_text.FixedText.TheVariants.{Capability}
-use Rattle.imap_syntax.specs.Octets.{lower}
+use Rattle.imap_types.specs.Octets.{lower}
 use Rattle.command_parts.specs.reading.FixedTexts.{fixed_text, agreeing, choose}
 use Rattle.command_parts.specs.reading.Steps.{stepped_to, read_from}
 

@@ -3,9 +3,9 @@ use Rattle.std.proofs.Common.{◌≡◌, ℕ, ◌+◌, Bool, true, false, ◌||�
 use Rattle.std.specs.Prelude.{◌==◌}
 use Rattle.std.proofs.lemmas.Bool.{cond-true, cond-false, eqb-true, or_parts}
 use Rattle.std.proofs.lemmas.List.{append-nil}
-use Rattle.imap_syntax.specs.Octets.{is_text, is_atom}
-use Rattle.imap_syntax.specs.Texts.{Each, plain_octets}
-use Rattle.imap_syntax.specs.Strings.{IsAString, escaped, quoted}
+use Rattle.imap_types.specs.Octets.{is_text, is_atom}
+use Rattle.imap_types.specs.Texts.{Each, plain_octets}
+use Rattle.imap_types.specs.Strings.{IsAString, escaped, quoted}
 use Rattle.imap_values.specs.Strings.{astring_in}
 use Rattle.imap_grammar.proofs.StringReadings.{astring_read}
 use Rattle.command_parts.specs.Fields.{fits_octet, IsFolderName}

@@ -1,9 +1,9 @@
 -- Parts of commands that several commands have.
 use Rattle.std.proofs.Common.{◌≡◌, ℕ, ◌+◌, Bool, true, false, List, [], ◌∷◌, ◌++◌, map, cond, refl, sym, ap, subst, ◌∙◌, append_assoc, arith, inl, inr}
 use Rattle.std.specs.Prelude.{◌==◌}
-use Rattle.imap_syntax.specs.Octets.{is_atom, lower}
-use Rattle.imap_syntax.specs.Texts.{IsWord, crlf, plain_of}
-use Rattle.imap_syntax.specs.Strings.{escaped}
+use Rattle.imap_types.specs.Octets.{is_atom, lower}
+use Rattle.imap_types.specs.Texts.{IsWord, crlf, plain_of}
+use Rattle.imap_types.specs.Strings.{escaped}
 use Rattle.command_parts.specs.Fields.{IsFolderName, IsCredential}
 use Rattle.command_parts.specs.declared.no_command.NoCommand.TheVariants.{NeedMore, WantsLiteral}
 use Rattle.command_parts.specs.declared.follow.Follow.{Follow}
@@ -19,7 +19,7 @@ use Rattle.command_parts.proofs.Branches.{Either, either, BeginsBy, either_reade
 use Rattle.command_parts.proofs.Choosing.{Choices, is_table, choose_reader}
 use Rattle.command_parts.proofs.Literals.{follow_no_line}
 use Rattle.std.specs.Fmt.{decimal}
-use Rattle.imap_syntax.specs.Lines.{joined}
+use Rattle.imap_types.specs.Lines.{joined}
 use Rattle.command_parts.proofs.NumeralReading.{NumeralText}
 use Rattle.command_parts.proofs.FlagReading.{FlagsText}
 use Rattle.command_parts.proofs.LiteralReading.{LiteralText, literal_reader}

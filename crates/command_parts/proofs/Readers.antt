@@ -3,7 +3,7 @@ use Rattle.std.proofs.Common.{◌≡◌, ℕ, suc, Bool, false, List, [], ◌∷
 use Rattle.std.specs.Prelude.{◌⊎◌, ◌==◌, Result, Ok, Err, if◌then◌else◌}
 use Rattle.std.proofs.Common.{inl, inr}
 use Rattle.std.proofs.lemmas.List.{map-append, append-nil}
-use Rattle.imap_syntax.specs.Texts.{plain_of, plain_octets}
+use Rattle.imap_types.specs.Texts.{plain_of, plain_octets}
 use Rattle.command_parts.specs.Fields.{AreOctets}
 use Rattle.command_parts.specs.declared.no_command.NoCommand.{NoCommand}
 use Rattle.command_parts.specs.declared.no_command.NoCommand.TheVariants.{NeedMore, WantsLiteral, Bad}

@@ -3,8 +3,8 @@ use Rattle.std.proofs.Common.{◌≡◌, ℕ, zero, suc, ◌+◌, ◌-◌, ◌<�
 use Rattle.std.specs.Prelude.{◌==◌, nat_lt}
 use Rattle.std.proofs.lemmas.Bool.{and_parts, eqb-true, ltb-true, lt-ltb}
 use Rattle.std.proofs.lemmas.List.{length-append, take_at, take-append-le}
-use Rattle.imap_syntax.specs.Octets.{is_alnum}
-use Rattle.imap_syntax.specs.Texts.{Each, plain_octets}
+use Rattle.imap_types.specs.Octets.{is_alnum}
+use Rattle.imap_types.specs.Texts.{Each, plain_octets}
 use Rattle.imap_values.proofs.Cuts.{plain_small}
 use Rattle.command_parts.specs.Fields.{fits_octet, IsTag}
 use Rattle.command_parts.specs.declared.no_command.NoCommand.TheVariants.{NeedMore}

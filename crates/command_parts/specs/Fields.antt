@@ -9,10 +9,10 @@
 -- In a text an octet that stands within a literal is written 256 above itself; plain_octets gives it back.
 use Rattle.std.specs.Prelude.{◌≡◌, ◌⊎◌, ℕ, ◌<◌, ◌≤◌, Bool, nat_lt, List, [], ◌∷◌, ◌++◌, length}
 use Rattle.std.specs.Fmt.{decimal}
-use Rattle.imap_syntax.specs.Octets.{is_digit, is_alnum}
-use Rattle.imap_syntax.specs.Texts.{Each, Then, crlf}
-use Rattle.imap_syntax.specs.Strings.{IsAtom, IsQuoted, IsCounted}
-use Rattle.imap_syntax.specs.Items.{IsNames, kept}
+use Rattle.imap_types.specs.Octets.{is_digit, is_alnum}
+use Rattle.imap_types.specs.Texts.{Each, Then, crlf}
+use Rattle.imap_types.specs.Strings.{IsAtom, IsQuoted, IsCounted}
+use Rattle.imap_types.specs.Items.{IsNames, kept}
 
 -- a text of A, and then one of B
 infixr 10 ◌▷◌

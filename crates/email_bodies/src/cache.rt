@@ -2,8 +2,8 @@
 ghost use Rattle.std.specs.Prelude.{◌≡◌, [], IfOk, OnErr, OnOk};
 ghost use Rattle.email_bodies.specs.Keeping.{body_at, after_use, with_body};
 
-use gate_world::Bytes;
 use lru::LruCache;
+use octets::Bytes;
 use std::alloc::{AllocError, Global};
 use std::marker::Model;
 use std::num::NonZeroUsize;

@@ -3,7 +3,7 @@ ghost use Rattle.std.specs.Prelude.{List, ℕ, Option, Some, None, IfOk, IsErrOf
 ghost use Rattle.email_bodies.specs.declared.source.MessagePlace.{MessagePlace as place_type};
 
 use crate::BodyError;
-use gate_world::Bytes;
+use octets::Bytes;
 
 /// The message of an Email in the store.
 #[derive(Clone, Copy, Debug, PartialEq, Eq)]

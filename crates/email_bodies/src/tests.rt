@@ -1,6 +1,6 @@
 // Bodies that stay, and those that have gone.
 use crate::{BodyCache, MAX_BODIES};
-use gate_world::Bytes;
+use octets::Bytes;
 use std::alloc::{AllocError, Global};
 use std::process::Abort;
 use std::test::Fail;

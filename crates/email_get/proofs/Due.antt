@@ -5,9 +5,9 @@ use Rattle.email_bodies.specs.Asking.{BodyAsk, AreDue}
 use Rattle.email_bodies.specs.declared.error.BodyError.TheVariants.{Ended}
 use Rattle.email_bodies.proofs.Due.{none_due, one_due, due_more, due_after}
 use Rattle.email_properties.specs.Wanted.{EmailAsked}
-use Rattle.jmap_methods.specs.Gets.{distinct_ids}
-use Rattle.jmap_methods.specs.declared.method_error.MethodError.{MethodError}
-use Rattle.jmap_methods.specs.declared.method_error.MethodError.TheVariants.{ServerUnavailable}
+use Rattle.jmap_arguments.specs.Gets.{distinct_ids}
+use Rattle.jmap_arguments.specs.declared.method_error.MethodError.{MethodError}
+use Rattle.jmap_arguments.specs.declared.method_error.MethodError.TheVariants.{ServerUnavailable}
 use Rattle.mail_maps.specs.Rows.{Rows}
 use Rattle.mail_maps.specs.declared.row.EmailRow.{EmailRow}
 use Rattle.message_blobs.specs.BlobIds.{BlobRoot}

@@ -9,13 +9,13 @@ use Rattle.serde_json.specs.declared.value.Value.{Value}
 use Rattle.change_list.proofs.HistoryLaws.{length-entries_from}
 use Rattle.email_bodies.specs.Asking.{BodyAsk, AreDue}
 use Rattle.email_bodies.proofs.Due.{due_more}
-use Rattle.jmap_methods.specs.Gets.{get_data}
-use Rattle.jmap_methods.specs.State.{state_text}
-use Rattle.jmap_methods.specs.declared.method_error.MethodError.{MethodError}
+use Rattle.jmap_arguments.specs.Gets.{get_data}
+use Rattle.jmap_arguments.specs.State.{state_text}
+use Rattle.jmap_arguments.specs.declared.method_error.MethodError.{MethodError}
 use Rattle.mail_maps.specs.Rows.{Rows}
 use Rattle.mail_state.specs.History.{MailHistory}
 use Rattle.mail_state.specs.State.{ServedState, ServedRows, IsStateOf}
-use Rattle.read_methods.specs.Replies.{type_state}
+use Rattle.served_types.specs.States.{type_state}
 use Rattle.email_get.specs.Asked.{FailsAfter}
 use Rattle.email_get.specs.EmailGet.{EmailsAsked, emails_asked, ShowsEmail, AnswersEmailGet, Refused, Shown, Fails, RepliesEmailGet}
 use Rattle.email_get.specs.Showing.{ShowsAll}

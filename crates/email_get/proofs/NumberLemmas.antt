@@ -8,10 +8,10 @@ use Rattle.std.specs.Option.{IsSome, IfSome}
 use Rattle.std.proofs.lemmas.Cmp.{nat_cmp_total}
 use Rattle.std.proofs.lemmas.List.Elements.{All-cons, All-weaker, All-contains_itself}
 use Rattle.std.proofs.lemmas.Map.Views.{IsSome-lookup_from_Contains}
-use Rattle.jmap_methods.specs.Gets.{NumbersAsked, number_with, asked_with, numbers_asked, distinct_ids}
-use Rattle.jmap_methods.specs.declared.method_error.MethodError.{MethodError}
-use Rattle.jmap_methods.specs.declared.method_error.MethodError.TheVariants.{RequestTooLarge}
-use Rattle.jmap_methods.proofs.IdLemmas.{is_here}
+use Rattle.jmap_arguments.specs.Gets.{NumbersAsked, number_with, asked_with, numbers_asked, distinct_ids}
+use Rattle.jmap_arguments.specs.declared.method_error.MethodError.{MethodError}
+use Rattle.jmap_arguments.specs.declared.method_error.MethodError.TheVariants.{RequestTooLarge}
+use Rattle.jmap_arguments.proofs.IdLemmas.{is_here}
 
 module _ {X : Type 0} where
   -- the number has a row

@@ -7,8 +7,8 @@ use Rattle.email_bodies.specs.Asking.{BodyAsk}
 use Rattle.email_objects.specs.EmailObjects.{IsEmailObject, IsParsedObject}
 use Rattle.email_objects.proofs.OneObject.{one_email_object, one_parsed_object}
 use Rattle.email_properties.specs.Wanted.{EmailAsked, needs_body}
-use Rattle.jmap_methods.specs.Gets.{get_data, distinct_ids}
-use Rattle.jmap_methods.specs.declared.method_error.MethodError.{MethodError}
+use Rattle.jmap_arguments.specs.Gets.{get_data, distinct_ids}
+use Rattle.jmap_arguments.specs.declared.method_error.MethodError.{MethodError}
 use Rattle.mail_maps.specs.Rows.{Rows}
 use Rattle.mail_maps.specs.declared.row.EmailRow.{EmailRow}
 use Rattle.message_blobs.specs.BlobIds.{BlobRoot, IsBlobId}

@@ -13,13 +13,13 @@ use Rattle.email_bodies.specs.Asking.{BodyAsk, AreDue}
 use Rattle.email_bodies.specs.declared.error.BodyError.{BodyError}
 use Rattle.email_objects.specs.EmailObjects.{IsParsedObject}
 use Rattle.email_properties.specs.Wanted.{EmailAsked}
-use Rattle.jmap_methods.specs.declared.method_error.MethodError.{MethodError}
+use Rattle.jmap_arguments.specs.declared.method_error.MethodError.{MethodError}
 use Rattle.mail_maps.specs.Rows.{Rows}
 use Rattle.message_blobs.specs.BlobIds.{BlobRoot, IsBlobId}
 use Rattle.email_get.specs.Asked.{FailsAfter, error_by}
 use Rattle.email_get.specs.Blobs.{FindsOctets, NoBlobId, OfBlobId, OctetsFound}
 use Rattle.email_get.specs.EmailParse.{ShowsBlob, NotFound, Parsed, NoBody, message_id}
-use Rattle.jmap_methods.specs.Gets.{distinct_ids}
+use Rattle.jmap_arguments.specs.Gets.{distinct_ids}
 use Rattle.mail_state.specs.History.{MailHistory}
 use Rattle.mail_state.specs.State.{ServedState, IsStateOf}
 use Rattle.email_get.specs.EmailParse.{ParseAsked, parse_asked, parse_answer, AnswersEmailParse, Refused, Shown, Fails, RepliesEmailParse}

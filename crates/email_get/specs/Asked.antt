@@ -4,8 +4,8 @@ use Rattle.email_bodies.specs.Asking.{BodyAsk, AreAsked, AsksInVain}
 use Rattle.email_bodies.specs.declared.source.MessagePlace.{MessagePlace}
 use Rattle.email_bodies.specs.declared.error.BodyError.{BodyError}
 use Rattle.email_bodies.specs.declared.error.BodyError.TheVariants.{Ended, Memory}
-use Rattle.jmap_methods.specs.declared.method_error.MethodError.{MethodError}
-use Rattle.jmap_methods.specs.declared.method_error.MethodError.TheVariants as method
+use Rattle.jmap_arguments.specs.declared.method_error.MethodError.{MethodError}
+use Rattle.jmap_arguments.specs.declared.method_error.MethodError.TheVariants as method
 use Rattle.mail_maps.specs.declared.row.EmailRow.{EmailRow}
 
 -- where the message of an Email is asked

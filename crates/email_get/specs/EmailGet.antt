@@ -7,15 +7,15 @@ use Rattle.email_bodies.specs.Asking.{BodyAsk}
 use Rattle.email_objects.specs.EmailObjects.{IsEmailObject}
 use Rattle.email_properties.specs.Wanted.{EmailAsked, email_wanted_in, needs_body}
 use Rattle.email_properties.specs.declared.defaults.Defaults.TheVariants.{Get}
-use Rattle.jmap_methods.specs.Gets.{GetAsked, NumbersAsked, get_asked, numbers_asked, get_data}
-use Rattle.jmap_methods.specs.Ids.{email_letter}
-use Rattle.jmap_methods.specs.Outcome.{refusal_of}
-use Rattle.jmap_methods.specs.declared.method_error.MethodError.{MethodError}
-use Rattle.jmap_methods.specs.declared.method_error.MethodError.TheVariants.{ServerUnavailable}
+use Rattle.jmap_arguments.specs.Gets.{GetAsked, NumbersAsked, get_asked, numbers_asked, get_data}
+use Rattle.jmap_arguments.specs.Ids.{email_letter}
+use Rattle.jmap_arguments.specs.Outcome.{refusal_of}
+use Rattle.jmap_arguments.specs.declared.method_error.MethodError.{MethodError}
+use Rattle.jmap_arguments.specs.declared.method_error.MethodError.TheVariants.{ServerUnavailable}
 use Rattle.mail_maps.specs.Rows.{Rows}
 use Rattle.mail_maps.specs.declared.row.EmailRow.{EmailRow}
 use Rattle.mail_state.specs.History.{MailHistory}
-use Rattle.read_methods.specs.Replies.{type_state}
+use Rattle.served_types.specs.States.{type_state}
 use Rattle.email_get.specs.Asked.{ask_for}
 use Rattle.email_get.specs.Showing.{ShowsAll}
 

@@ -8,11 +8,11 @@ use Rattle.email_bodies.specs.declared.error.BodyError.{BodyError}
 use Rattle.email_objects.specs.EmailObjects.{IsParsedObject}
 use Rattle.email_properties.specs.Wanted.{EmailAsked, email_wanted_in}
 use Rattle.email_properties.specs.declared.defaults.Defaults.TheVariants.{Parse}
-use Rattle.jmap_methods.specs.Arguments.{text_at, texts_at, account_id, account_check, count_check}
-use Rattle.jmap_methods.specs.Gets.{distinct_ids}
-use Rattle.jmap_methods.specs.Outcome.{refusal_of}
-use Rattle.jmap_methods.specs.declared.method_error.MethodError.{MethodError}
-use Rattle.jmap_methods.specs.declared.method_error.MethodError.TheVariants.{InvalidArguments}
+use Rattle.jmap_arguments.specs.Arguments.{text_at, texts_at, account_id, account_check, count_check}
+use Rattle.jmap_arguments.specs.Gets.{distinct_ids}
+use Rattle.jmap_arguments.specs.Outcome.{refusal_of}
+use Rattle.jmap_arguments.specs.declared.method_error.MethodError.{MethodError}
+use Rattle.jmap_arguments.specs.declared.method_error.MethodError.TheVariants.{InvalidArguments}
 use Rattle.mail_maps.specs.Rows.{Rows}
 use Rattle.mail_state.specs.History.{MailHistory}
 use Rattle.message_blobs.specs.BlobIds.{BlobRoot, IsBlobId}

@@ -10,10 +10,10 @@ ghost use Rattle.email_get.specs.Blobs.{FindsRoot, FindsOctets, FindsBlob};
 
 use blob_store::BlobStore;
 use email_bodies::{BodyError, BodySource, MessagePlace};
-use gate_world::Bytes;
 use mail_maps::EmailRow;
 use mail_state::MailState;
 use message_blobs::{BlobId, ReadBlob, Root, read_blob_id};
+use octets::Bytes;
 use std::alloc::{AllocError, Global};
 
 /// The octets of an upload, shared.

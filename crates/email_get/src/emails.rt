@@ -7,10 +7,10 @@ ghost use Rattle.serde_json.specs.View.{view, items_of};
 ghost use Rattle.serde_json.specs.Written.{has_float, items_have_float};
 ghost use Rattle.change_list.specs.Advance.{row_at};
 ghost use Rattle.email_properties.specs.Wanted.{email_asked, needs_body as needs};
-ghost use Rattle.jmap_methods.specs.Gets.{get_data};
-ghost use Rattle.jmap_methods.specs.Outcome.{Agrees};
-ghost use Rattle.jmap_methods.specs.State.{state_text as text_of_state};
-ghost use Rattle.jmap_methods.specs.declared.method_error.MethodError.TheVariants.{Memory};
+ghost use Rattle.jmap_arguments.specs.Gets.{get_data};
+ghost use Rattle.jmap_arguments.specs.Outcome.{Agrees};
+ghost use Rattle.jmap_arguments.specs.State.{state_text as text_of_state};
+ghost use Rattle.jmap_arguments.specs.declared.method_error.MethodError.TheVariants.{Memory};
 ghost use Rattle.mail_state.specs.History.{MailHistory};
 ghost use Rattle.mail_state.specs.State.{IsStateOf};
 ghost use Rattle.email_get.specs.Asked.{AsksAndMeets};
@@ -22,15 +22,15 @@ use crate::refusals::error_of;
 use email_bodies::BodySource;
 use email_objects::email_value;
 use email_properties::{Defaults, EmailWanted, email_wanted, needs_body};
-use gate_world::Bytes;
-use jmap_methods::{
+use jmap_arguments::{
     AskedNumbers, EMAIL_LETTER, MethodError, asked_numbers, check_account, check_count,
     count_of_ids, get_value, text_at, texts_or_null,
 };
 use mail_maps::EmailRow;
 use mail_state::{MailState, MailType};
-use read_methods::{TypeNumbers, type_text};
+use octets::Bytes;
 use serde_json::Value;
+use served_types::{TypeNumbers, type_text};
 use std::alloc::{AllocError, Global};
 
 /// What a call asks.

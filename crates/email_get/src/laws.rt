@@ -3,7 +3,7 @@
 ghost use Rattle.std.specs.Prelude.{◌≡◌, ◌++◌, ℕ, List, Result};
 ghost use Rattle.serde_json.specs.Data.{Data};
 ghost use Rattle.email_bodies.specs.Asking.{BodyAsk};
-ghost use Rattle.jmap_methods.specs.declared.method_error.MethodError.{MethodError};
+ghost use Rattle.jmap_arguments.specs.declared.method_error.MethodError.{MethodError};
 ghost use Rattle.mail_maps.specs.Rows.{Rows};
 ghost use Rattle.mail_state.specs.History.{MailHistory};
 ghost use Rattle.email_get.specs.Blobs.{FindsBlob, OctetsFound};

@@ -6,9 +6,9 @@ ghost use Rattle.serde_json.specs.View.{view, items_of, members_view};
 ghost use Rattle.serde_json.specs.Written.{has_float, items_have_float, members_have_float};
 ghost use Rattle.email_objects.specs.EmailObjects.{IsParsedObject};
 ghost use Rattle.email_properties.specs.Wanted.{email_asked};
-ghost use Rattle.jmap_methods.specs.Arguments.{texts_at};
-ghost use Rattle.jmap_methods.specs.Outcome.{Agrees};
-ghost use Rattle.jmap_methods.specs.declared.method_error.MethodError.TheVariants.{Memory};
+ghost use Rattle.jmap_arguments.specs.Arguments.{texts_at};
+ghost use Rattle.jmap_arguments.specs.Outcome.{Agrees};
+ghost use Rattle.jmap_arguments.specs.declared.method_error.MethodError.TheVariants.{Memory};
 ghost use Rattle.mail_state.specs.History.{MailHistory};
 ghost use Rattle.mail_state.specs.State.{IsStateOf};
 ghost use Rattle.email_get.specs.Asked.{AsksAndMeets};
@@ -23,12 +23,12 @@ use body_parts::Message;
 use email_bodies::BodySource;
 use email_objects::parsed_value;
 use email_properties::{Defaults, EmailWanted, email_wanted};
-use gate_world::Bytes;
-use jmap_methods::{
+use jmap_arguments::{
     ACCOUNT_ID, MethodError, check_account, check_count, distinct, text_at, texts_or_null,
 };
 use mail_state::MailState;
 use message_blobs::{BlobId, MAX_LEAVES, ReadBlob, read_blob_id};
+use octets::Bytes;
 use serde_json::{Map, Value, json, put};
 use std::alloc::{AllocError, Global};
 

@@ -3,7 +3,7 @@ ghost use Rattle.std.specs.Prelude.{◌≡◌};
 ghost use Rattle.email_get.specs.Asked.{error_by};
 
 use email_bodies::BodyError;
-use jmap_methods::MethodError;
+use jmap_arguments::MethodError;
 
 /// What a method answers where a body isn't there.
 pub(crate) fn error_of(error: BodyError) -> MethodError

@@ -5,7 +5,7 @@ use Rattle.std.specs.Str.Lossy.{utf8_lossy}
 use Rattle.serde_json.specs.Data.{unsigned, Data, null, boolean, number, object, Members, no_members, member, put}
 use Rattle.mail_header.specs.Fields.{NameAndRaw}
 use Rattle.mail_maps.specs.declared.row.EmailRow.{EmailRow}
-use Rattle.jmap_methods.specs.Ids.{mailbox_letter, email_letter, thread_letter, id_text, id_data}
+use Rattle.jmap_arguments.specs.Ids.{mailbox_letter, email_letter, thread_letter, id_text, id_data}
 use Rattle.email_properties.specs.EmailProperties.{email_key}
 use Rattle.email_properties.specs.declared.email_property.EmailProperty.{EmailProperty}
 use Rattle.email_properties.specs.declared.email_property.EmailProperty.TheVariants as property

@@ -8,10 +8,10 @@ ghost use Rattle.email_objects.specs.Properties as spec;
 ghost use Rattle.json_texts.specs.Texts.{optional_text};
 
 use field_values::utc_value;
-use gate_world::Bytes;
-use jmap_methods::{EMAIL_LETTER, MAILBOX_LETTER, THREAD_LETTER, id_text, id_value};
+use jmap_arguments::{EMAIL_LETTER, MAILBOX_LETTER, THREAD_LETTER, id_text, id_value};
 use json_texts::text_value;
 use mail_maps::EmailRow;
+use octets::Bytes;
 use serde_json::{Map, Value, put};
 use std::alloc::{AllocError, Global};
 

@@ -15,7 +15,7 @@ use crate::facts::{message_facts, row_facts};
 use crate::properties::{put_properties, put_property};
 use body_parts::Message;
 use email_properties::{EmailProperty, EmailWanted};
-use jmap_methods::id_text;
+use jmap_arguments::id_text;
 use mail_maps::EmailRow;
 use message_blobs::EMAIL_ROOT;
 use serde_json::{Map, Value};

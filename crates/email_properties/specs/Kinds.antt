@@ -2,9 +2,9 @@
 use Rattle.std.specs.Prelude.{ℕ, Bool, false, List, ℤ, pos, negsuc, Option, Some, None, Result, Ok, Err, ok_or}
 use Rattle.serde_json.specs.Data.{Data, null}
 use Rattle.serde_json.specs.Find.{get, as_bool}
-use Rattle.jmap_methods.specs.Arguments.{texts_at, whole_at}
-use Rattle.jmap_methods.specs.declared.method_error.MethodError.{MethodError}
-use Rattle.jmap_methods.specs.declared.method_error.MethodError.TheVariants.{InvalidArguments}
+use Rattle.jmap_arguments.specs.Arguments.{texts_at, whole_at}
+use Rattle.jmap_arguments.specs.declared.method_error.MethodError.{MethodError}
+use Rattle.jmap_arguments.specs.declared.method_error.MethodError.TheVariants.{InvalidArguments}
 
 abbrev pub null_check : Option Data → Result (Unit {0}) MethodError
 null_check None = Ok tt

@@ -1,8 +1,8 @@
 -- Lists of properties by their names.
 use Rattle.std.specs.Prelude.{ℕ, List, [], ◌∷◌, Option, Some, None, option_map, option_and_then, Result, Ok, Err, ok_or}
-use Rattle.jmap_methods.specs.Gets.{distinct_ids}
-use Rattle.jmap_methods.specs.declared.method_error.MethodError.{MethodError}
-use Rattle.jmap_methods.specs.declared.method_error.MethodError.TheVariants.{InvalidArguments}
+use Rattle.jmap_arguments.specs.Gets.{distinct_ids}
+use Rattle.jmap_arguments.specs.declared.method_error.MethodError.{MethodError}
+use Rattle.jmap_arguments.specs.declared.method_error.MethodError.TheVariants.{InvalidArguments}
 
 module _ {P : Type 0} where
   -- what each of the texts is read as, in their order, where each can be read

@@ -2,8 +2,8 @@
 use Rattle.std.specs.Prelude.{ℕ, Bool, List, codes, Option, Result, Ok, Err}
 use Rattle.std.specs.List.{list_any}
 use Rattle.serde_json.specs.Data.{Data}
-use Rattle.jmap_methods.specs.Arguments.{texts_at}
-use Rattle.jmap_methods.specs.declared.method_error.MethodError.{MethodError}
+use Rattle.jmap_arguments.specs.Arguments.{texts_at}
+use Rattle.jmap_arguments.specs.declared.method_error.MethodError.{MethodError}
 use Rattle.email_properties.specs.EmailProperties.{email_property_in, email_get_defaults, email_parse_defaults, is_of_body}
 use Rattle.email_properties.specs.PartProperties.{part_property_in, part_defaults}
 use Rattle.email_properties.specs.Properties.{those_asked}

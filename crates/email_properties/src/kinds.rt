@@ -2,11 +2,11 @@
 ghost use Rattle.std.specs.Prelude.{◌≡◌, map, option_map};
 ghost use Rattle.serde_json.specs.Find.{get};
 ghost use Rattle.serde_json.specs.View.{view};
-ghost use Rattle.jmap_methods.specs.Outcome.{Agrees};
-ghost use Rattle.jmap_methods.specs.declared.method_error.MethodError.TheVariants.{Memory};
+ghost use Rattle.jmap_arguments.specs.Outcome.{Agrees};
+ghost use Rattle.jmap_arguments.specs.declared.method_error.MethodError.TheVariants.{Memory};
 ghost use Rattle.email_properties.specs.Kinds as spec;
 
-use jmap_methods::{MethodError, texts_or_null, whole_or_null};
+use jmap_arguments::{MethodError, texts_or_null, whole_or_null};
 use serde_json::Value;
 use std::alloc::Global;
 
@@ -34,7 +34,7 @@ pub(crate) fn texts_given<'a>(
 }
 
 /// The Boolean at the key, false where nothing is there, or `InvalidArguments` where something else is.
-pub(crate) fn flag_at(arguments: &Value, key: &str) -> Result<bool, MethodError>
+pub fn flag_at(arguments: &Value, key: &str) -> Result<bool, MethodError>
     ensures { result ≡ spec.flag_at key.now (view arguments.now) }
 {
     match arguments.get(key) {

@@ -22,5 +22,6 @@ pub use defaults::{Defaults, email_defaults, part_defaults};
 pub use email_property::{EmailProperty, email_key, email_property_named};
 pub use header_form::{HeaderForm, is_permitted};
 pub use header_property::{HeaderProperty, header_property_named};
+pub use kinds::flag_at;
 pub use part_property::{PartProperty, part_key, part_property_named};
 pub use wanted::{BodyWanted, EmailWanted, email_wanted, needs_body};

@@ -1,8 +1,8 @@
 // What a call asks of each Email.
 ghost use Rattle.std.specs.Prelude.{◌≡◌, map, option_map};
 ghost use Rattle.serde_json.specs.View.{view};
-ghost use Rattle.jmap_methods.specs.Outcome.{Agrees};
-ghost use Rattle.jmap_methods.specs.declared.method_error.MethodError.TheVariants.{Memory};
+ghost use Rattle.jmap_arguments.specs.Outcome.{Agrees};
+ghost use Rattle.jmap_arguments.specs.declared.method_error.MethodError.TheVariants.{Memory};
 ghost use Rattle.email_properties.specs.Wanted as spec;
 ghost use Rattle.email_properties.specs.Wanted.{email_asked, email_wanted_in};
 
@@ -10,7 +10,7 @@ use crate::defaults::{Defaults, email_defaults, part_defaults};
 use crate::email_property::{EmailProperty, email_properties_named, is_of_body};
 use crate::kinds::{flag_at, natural_at, texts_given};
 use crate::part_property::{PartProperty, part_properties_named};
-use jmap_methods::{MethodError, distinct, texts_or_null};
+use jmap_arguments::{MethodError, distinct, texts_or_null};
 use serde_json::Value;
 use std::alloc::Global;
 

@@ -6,12 +6,12 @@ ghost use Rattle.field_values.specs.Forms as spec;
 
 use crate::moment_text::moment_text;
 use email_properties::HeaderForm;
-use gate_world::{Bytes, Names};
 use header_addresses::{Address, Group};
 use header_dates::as_date;
 use json_texts::{optional_text_value, owned_text_value, text_value};
 use loose_addresses::{as_loose_addresses, as_loose_groups};
 use mail_header::{as_message_ids, as_raw, as_text, as_urls};
+use octets::{Bytes, Names};
 use serde_json::{Value, json};
 use std::alloc::{AllocError, Global};
 

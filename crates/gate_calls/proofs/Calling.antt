@@ -12,15 +12,15 @@ use Rattle.email_bodies.specs.Asking.{BodyAsk, NoneAsked, AreDue, AsksInVain}
 use Rattle.email_bodies.proofs.Joins.{vain_at_once, vain_after, vain_then, vain_more}
 use Rattle.email_bodies.specs.declared.source.MessagePlace.{MessagePlace}
 use Rattle.email_get.specs.Asked.{AsksAnd, AsksAndMeets, FailsAfter}
-use Rattle.jmap_methods.specs.Outcome.{Agrees}
-use Rattle.jmap_methods.specs.declared.using.Using.{Using}
-use Rattle.jmap_methods.specs.declared.method_error.MethodError.{MethodError}
-use Rattle.jmap_methods.specs.declared.method_error.MethodError.TheVariants.{Memory}
+use Rattle.jmap_arguments.specs.Outcome.{Agrees}
+use Rattle.jmap_arguments.specs.declared.using.Using.{Using}
+use Rattle.jmap_arguments.specs.declared.method_error.MethodError.{MethodError}
+use Rattle.jmap_arguments.specs.declared.method_error.MethodError.TheVariants.{Memory}
 use Rattle.result_references.specs.References.{resolved_arguments}
 use Rattle.result_references.specs.Call.{CallData, call_data}
 use Rattle.jmap_core.specs.Response.{IsWhole}
 use Rattle.result_references.specs.declared.call.Call.{Call}
-use Rattle.gate_calls.specs.declared.mail.Over.{Over}
+use Rattle.gate_calls.specs.declared.mail.CallContext.{CallContext}
 use Rattle.gate_calls.specs.declared.method.Method.{Method}
 use Rattle.gate_calls.specs.declared.method.Method.TheVariants.{CoreEcho, MailboxGet, MailboxChanges, MailboxQuery, MailboxQueryChanges, ThreadGet}
 use Rattle.gate_calls.specs.declared.method.Method.TheVariants.{ThreadChanges, EmailGet, EmailChanges, EmailQuery, EmailQueryChanges, EmailParse}
@@ -89,7 +89,7 @@ pub none_asked : {uses : Using} {e : MethodError} {uploads : List (List ℕ)} {c
 none_asked NoCalls = refl
 none_asked (MoreCalls next rest) = (λ i. none_asked rest i ++ call_asks next.answers i)
 
-module _ {S : Type 0} (Answers : S → MessagePlace → Option (List ℕ) → S → Type 0) (Lacks : S → MessagePlace → S → Type 0) (uses : Using) (over : Over) where
+module _ {S : Type 0} (Answers : S → MessagePlace → Option (List ℕ) → S → Type 0) (Lacks : S → MessagePlace → S → Type 0) (uses : Using) (over : CallContext) where
   -- what a call that came to this means, over each mail that the code's is of
   abbrev pub CallIs : List CallData → CallData → List BodyAsk → Result Data MethodError → Type 0
   CallIs earlier call asks r = (o : MailAndUploads) → AreOf o over → AnswersCall uses o earlier call asks r

@@ -7,13 +7,14 @@ use Rattle.email_get.specs.Asked.{FailsAfter}
 use Rattle.email_get.specs.EmailGet.{RepliesEmailGet}
 use Rattle.email_get.specs.EmailParse.{RepliesEmailParse}
 use Rattle.email_get.proofs.Due.{due_get, due_parse}
-use Rattle.jmap_methods.specs.declared.using.Using.{Using}
-use Rattle.jmap_methods.specs.declared.method_error.MethodError.{MethodError}
+use Rattle.jmap_arguments.specs.declared.using.Using.{Using}
+use Rattle.jmap_arguments.specs.declared.method_error.MethodError.{MethodError}
 use Rattle.result_references.specs.Call.{CallData}
 use Rattle.mail_state.specs.History.{MailHistory}
 use Rattle.query_changes.specs.Replies.{RepliesEmailQueryChanges, RepliesMailboxQueryChanges}
 use Rattle.query_core.specs.Answers.{RepliesEmailQuery, RepliesMailboxQuery}
-use Rattle.read_methods.specs.Replies.{type_state, mailbox_get_reply, thread_get_reply, RepliesMailboxChanges, RepliesThreadChanges, RepliesEmailChanges}
+use Rattle.read_methods.specs.Replies.{mailbox_get_reply, thread_get_reply, RepliesMailboxChanges, RepliesThreadChanges, RepliesEmailChanges}
+use Rattle.served_types.specs.States.{type_state}
 use Rattle.gate_calls.specs.Calls.{AnswersCall, NoMethod, Unresolved, Resolved, AnswersCalls, NoCalls, MoreCalls, FirstCallsAsk, answered_call}
 use Rattle.gate_calls.specs.Mailings.{Mailing, MailAndUploads}
 use Rattle.gate_calls.specs.Methods.{AtOnce, OverMail, RepliesTo}

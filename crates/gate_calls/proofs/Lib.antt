@@ -2,4 +2,9 @@ pub mod Meaning
 pub mod Due
 pub mod Calling
 pub mod OneAnswer
+pub mod Bodies
+pub mod Threading
+pub mod Needless
+pub mod OneCourse
+pub mod Through
 pub mod Orders

@@ -7,16 +7,16 @@ use Rattle.email_bodies.specs.Asking.{BodyAsk, NoneAsked}
 use Rattle.email_bodies.specs.declared.source.MessagePlace.{MessagePlace}
 use Rattle.email_bodies.proofs.Joins.{asks_join, vain_at_once, vain_more}
 use Rattle.email_get.specs.Asked.{AsksAnd, AsksAndMeets, FailsAfter}
-use Rattle.jmap_methods.specs.Outcome.{Agrees, IsJust, Meets}
-use Rattle.jmap_methods.specs.declared.method_error.MethodError.{MethodError}
-use Rattle.jmap_methods.specs.declared.method_error.MethodError.TheVariants.{Memory}
-use Rattle.jmap_methods.specs.declared.method_error.MethodError.TheVariants as error
+use Rattle.jmap_arguments.specs.Outcome.{Agrees, IsJust, Meets}
+use Rattle.jmap_arguments.specs.declared.method_error.MethodError.{MethodError}
+use Rattle.jmap_arguments.specs.declared.method_error.MethodError.TheVariants.{Memory}
+use Rattle.jmap_arguments.specs.declared.method_error.MethodError.TheVariants as error
 use Rattle.mail_state.specs.History.{MailHistory}
 use Rattle.mail_state.specs.State.{IsStateOf}
 use Rattle.mail_state.specs.declared.state.MailState.{MailState}
 use Rattle.gate_calls.specs.declared.mail.Mail.{Mail}
 use Rattle.gate_calls.specs.declared.mail.Mail.TheVariants as code
-use Rattle.gate_calls.specs.declared.mail.Over.{Over}
+use Rattle.gate_calls.specs.declared.mail.CallContext.{CallContext}
 use Rattle.gate_calls.specs.declared.method.Method.{Method}
 use Rattle.gate_calls.specs.Mailings.{Mailing, MailAndUploads, IsMailOf, AreOf}
 use Rattle.gate_calls.specs.Methods.{AtOnce, RepliesTo, unless_refused}
@@ -91,14 +91,14 @@ known_meant e P other (inr meant) = meant
 -- ---- what is known of the code's mail
 
 -- where the mail can't be told
-pub over_untold : (m : Method) (d : Data) (asks : List BodyAsk) (r : Result Data MethodError) (o : MailAndUploads) (over : Over) (e : MethodError)
+pub over_untold : (m : Method) (d : Data) (asks : List BodyAsk) (r : Result Data MethodError) (o : MailAndUploads) (over : CallContext) (e : MethodError)
     → ((mail : Mailing) → IsMailOf mail over.mail → mail ≡ Err e) → AreOf o over
     → RepliesTo m (record { mail = Err e; uploads = o.uploads }) d asks r → RepliesTo m o d asks r
 over_untold m d asks r o over e untold of so =
     subst (λ (mail : Mailing). RepliesTo m (record { mail = mail; uploads = o.uploads }) d asks r) (sym (untold o.mail of.mail)) so
 
 -- where it is told
-pub over_told : (m : Method) (d : Data) (asks : List BodyAsk) (r : Result Data MethodError) (over : Over) (state : Bor MailState) → over.mail ≡ code.Told state
+pub over_told : (m : Method) (d : Data) (asks : List BodyAsk) (r : Result Data MethodError) (over : CallContext) (state : Bor MailState) → over.mail ≡ code.Told state
     → ((h : MailHistory) → IsStateOf h state.now → RepliesTo m (record { mail = Ok h; uploads = over.uploads.now }) d asks r) → (o : MailAndUploads) → AreOf o over
     → RepliesTo m o d asks r
 over_told m d asks r over state is replies o of =

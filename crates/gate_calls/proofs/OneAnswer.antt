@@ -1,14 +1,13 @@
--- The calls of a request have one list of responses.
-use Rattle.std.proofs.Common.{arith, ◌≡◌, ◌≤◌, ◌<◌, ◌^◌, ◌++◌, ◌∷◌, ℕ, List, [], length, None, Result, Ok, Err, refl, sym, ap, ◌∙◌, subst, append_assoc}
+-- A call that reads has one answer.
+use Rattle.std.proofs.Common.{arith, ◌≡◌, ◌≤◌, ◌<◌, ◌^◌, ◌++◌, ℕ, List, [], length, None, Result, Ok, Err, refl, sym, ap, ◌∙◌, subst}
 use Rattle.std.specs.Result.{IfOk}
-use Rattle.std.proofs.lemmas.List.{append_cancel_left, length_push, same_from_push}
 use Rattle.serde_json.specs.Data.{Data}
 use Rattle.change_list.specs.History.{entries_of}
 use Rattle.change_list.specs.declared.entries.Entry.{Entry}
 use Rattle.change_list.specs.declared.list.TheConstants.{MAX_PLACE}
 use Rattle.change_list.proofs.HistoryLaws.{length-entries_from}
 use Rattle.served_maps.specs.Past.{Past, place_now}
-use Rattle.jmap_methods.specs.Ids.{mailbox_letter, thread_letter, email_letter}
+use Rattle.jmap_arguments.specs.Ids.{mailbox_letter, thread_letter, email_letter}
 use Rattle.email_bodies.specs.Asking.{BodyAsk}
 use Rattle.email_get.specs.EmailGet.{RepliesEmailGet}
 use Rattle.email_get.specs.EmailParse.{RepliesEmailParse}
@@ -16,8 +15,8 @@ use Rattle.mail_state.specs.History.{MailHistory}
 use Rattle.gate_calls.specs.declared.method.Method.{Method}
 use Rattle.gate_calls.specs.declared.method.Method.TheVariants.{CoreEcho, MailboxGet, MailboxChanges, MailboxQuery, MailboxQueryChanges, ThreadGet}
 use Rattle.gate_calls.specs.declared.method.Method.TheVariants.{ThreadChanges, EmailGet, EmailChanges, EmailQuery, EmailQueryChanges, EmailParse}
-use Rattle.jmap_methods.specs.declared.using.Using.{Using}
-use Rattle.jmap_methods.specs.declared.method_error.MethodError.{MethodError}
+use Rattle.jmap_arguments.specs.declared.using.Using.{Using}
+use Rattle.jmap_arguments.specs.declared.method_error.MethodError.{MethodError}
 use Rattle.result_references.specs.Call.{CallData}
 use Rattle.query_changes.specs.Replies.{RepliesEmailQueryChanges, RepliesMailboxQueryChanges}
 use Rattle.query_core.specs.Answers.{RepliesEmailQuery, RepliesMailboxQuery}
@@ -25,7 +24,7 @@ use Rattle.read_methods.specs.Changes.{AnswersChanges, Further, no_further, upda
 use Rattle.gate_calls.specs.Mailings.{Mailing, MailAndUploads}
 use Rattle.gate_calls.specs.Places.{HasPlaces}
 use Rattle.gate_calls.specs.Methods.{RepliesTo}
-use Rattle.gate_calls.specs.Calls.{AnswersCall, NoMethod, Unresolved, Resolved, answered_call, NextCall, AnswersCalls, NoCalls, MoreCalls}
+use Rattle.gate_calls.specs.Calls.{AnswersCall, NoMethod, Unresolved, Resolved}
 
 -- what is proved of a /changes
 abbrev pub ChangesLaw : Type 0
@@ -133,7 +132,7 @@ module _ (law : ChangesLaw) (gets : IsOneGet) (parses : IsOneParse) (emails : Is
   same_error : (X : Type 0) (e f : MethodError) → (let x : Result X MethodError = Err e in x) ≡ Err f → (let x : Result Data MethodError = Err e in x) ≡ Err f
   same_error X e f is = ap (λ (g : MethodError). let x : Result Data MethodError = Err g in x) (err_is X e f is)
 
-  one_result : (uses : Using) (o : MailAndUploads) (earlier : List CallData) (call : CallData) (asks more also later : List BodyAsk) (r s : Result Data MethodError)
+  pub one_result : (uses : Using) (o : MailAndUploads) (earlier : List CallData) (call : CallData) (asks more also later : List BodyAsk) (r s : Result Data MethodError)
       → HasPlaces o.mail → AnswersCall uses o earlier call asks r → AnswersCall uses o earlier call also s → asks ++ more ≡ also ++ later → Same asks also r s
   one_result uses o earlier call _ more _ later _ _ room (NoMethod e is) (NoMethod f js) same = (refl, same_error Method e f (sym is ∙ js))
   one_result uses o earlier call _ more _ later _ _ room (NoMethod e is) (Unresolved n f js ss) same = absurd (never_both Method e n (sym is ∙ js))
@@ -145,51 +144,3 @@ module _ (law : ChangesLaw) (gets : IsOneGet) (parses : IsOneParse) (emails : Is
   one_result uses o earlier call _ more _ later _ _ room (Resolved m d is rs a) (Unresolved n f js ss) same = absurd (never_both Data f d (sym ss ∙ rs))
   one_result uses o earlier call asks more also later r s room (Resolved m d is rs a) (Resolved n c js ss b) same =
       one_resolved m n o d c asks more also later r s room (ok_is Method n m (sym js ∙ is)) (ok_is Data c d (sym ss ∙ rs)) a b same
-
-  -- ---- calls
-
-  nothing_added : (calls : List CallData) (call : CallData) → [] ≡ calls ++ call ∷ [] → ⊥
-  nothing_added calls call is =
-      let long = length_push calls call in
-      let same : 0 ≡ length (calls ++ call ∷ []) = ap (λ (l : List CallData). length l) is in
-      omega (arith, long, same)
-
-  -- one call more after the same responses
-  one_more : (uses : Using) (o : MailAndUploads) (xs ys : List CallData) (next : NextCall uses o xs) (other : NextCall uses o ys) (more later : List BodyAsk) → HasPlaces o.mail
-      → xs ≡ ys → next.call ≡ other.call → next.asks ++ more ≡ other.asks ++ later
-      → (next.asks ≡ other.asks) × (xs ++ answered_call next.call next.result ∷ [] ≡ ys ++ answered_call other.call other.result ∷ [])
-  one_more uses o xs ys next other more later room before call same =
-      let there : AnswersCall uses o xs next.call other.asks other.result =
-      subst (λ (c : CallData). AnswersCall uses o xs c other.asks other.result) (sym call)
-      (subst (λ (e : List CallData). AnswersCall uses o e other.call other.asks other.result) (sym before) other.answers) in
-      let result : Same next.asks other.asks next.result other.result =
-      one_result uses o xs next.call next.asks more other.asks later next.result other.result room next.answers there same in (
-        result.0,
-        ap (λ (l : List CallData). l ++ answered_call next.call next.result ∷ []) before
-            ∙ ap (λ (c : CallData). ys ++ answered_call c next.result ∷ []) call
-            ∙ ap (λ (r : Result Data MethodError). ys ++ answered_call other.call r ∷ []) result.1,
-      )
-
-  -- whatever is asked after them
-  lists : (uses : Using) (o : MailAndUploads) → HasPlaces o.mail → {calls others xs ys : List CallData} {asks also : List BodyAsk} (more later : List BodyAsk)
-      → AnswersCalls uses o calls asks xs → AnswersCalls uses o others also ys → calls ≡ others → asks ++ more ≡ also ++ later → (asks ≡ also) × (xs ≡ ys)
-  lists uses o room more later NoCalls NoCalls is same = (refl, refl)
-  lists uses o room more later NoCalls (MoreCalls {calls = others} other those) is same = absurd (nothing_added others other.call is)
-  lists uses o room more later (MoreCalls {calls = calls} next rest) NoCalls is same = absurd (nothing_added calls next.call (sym is))
-  lists uses o room more later (MoreCalls {calls = calls} {responses = xs} {asks = asks} next rest)
-      (MoreCalls {calls = others} {responses = ys} {asks = also} other those) is same =
-      let both = same_from_push calls others next.call other.call is in
-      let apart : asks ++ (next.asks ++ more) ≡ also ++ (other.asks ++ later) =
-      sym (append_assoc asks next.asks more) ∙ same ∙ append_assoc also other.asks later in
-      let before = lists uses o room (next.asks ++ more) (other.asks ++ later) rest those both.0 apart in
-      let last : next.asks ++ more ≡ other.asks ++ later =
-      append_cancel_left also (next.asks ++ more) (other.asks ++ later)
-      (ap (λ (l : List BodyAsk). l ++ (next.asks ++ more)) (sym before.0) ∙ apart) in
-      let now = one_more uses o xs ys next other more later room before.1 both.1 last in (
-        ap (λ (l : List BodyAsk). l ++ next.asks) before.0 ∙ ap (λ (l : List BodyAsk). also ++ l) now.0,
-        now.1,
-      )
-
-  pub one_list : (uses : Using) (o : MailAndUploads) (calls : List CallData) (asks more also later : List BodyAsk) (xs ys : List CallData) → HasPlaces o.mail
-      → AnswersCalls uses o calls asks xs → AnswersCalls uses o calls also ys → asks ++ more ≡ also ++ later → (asks ≡ also) × (xs ≡ ys)
-  one_list uses o calls asks more also later xs ys room a b same = lists uses o room more later a b refl same

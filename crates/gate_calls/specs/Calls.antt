@@ -1,13 +1,13 @@
--- The answers to a request's calls, one after another, and the bodies that they ask (RFC 8620 sections 3.2 to 3.7).
+-- The answers to calls that read, one after another over one mail, and the bodies that they ask (RFC 8620 sections 3.2 to 3.7).
 use Rattle.std.specs.Prelude.{◌≡◌, ◌++◌, Bool, List, [], ◌∷◌, Result, Ok, Err, codes}
 use Rattle.std.specs.List.{list_any}
 use Rattle.serde_json.specs.Data.{Data}
 use Rattle.email_bodies.specs.Asking.{BodyAsk}
-use Rattle.jmap_methods.specs.Errors.{error_data}
+use Rattle.jmap_arguments.specs.Errors.{error_data}
 use Rattle.gate_calls.specs.MethodNames.{method_asked, needs_mail_by}
 use Rattle.gate_calls.specs.declared.method.Method.{Method}
-use Rattle.jmap_methods.specs.declared.using.Using.{Using}
-use Rattle.jmap_methods.specs.declared.method_error.MethodError.{MethodError}
+use Rattle.jmap_arguments.specs.declared.using.Using.{Using}
+use Rattle.jmap_arguments.specs.declared.method_error.MethodError.{MethodError}
 use Rattle.result_references.specs.References.{resolved_arguments}
 use Rattle.result_references.specs.Call.{CallData}
 use Rattle.gate_calls.specs.Mailings.{MailAndUploads}
@@ -33,7 +33,7 @@ pub record NextCall (uses : Using) (over : MailAndUploads) (earlier : List CallD
   pub result : Result Data MethodError
   pub answers : AnswersCall uses over earlier call asks result
 
--- The responses to the calls of a request in order, each after those to the calls before it, and the bodies that they ask on the way.
+-- The responses to calls in order over one mail, each after those to the calls before it, and the bodies that they ask on the way.
 pub data AnswersCalls (uses : Using) (over : MailAndUploads) : List CallData → List BodyAsk → List CallData → Type 0 where
   NoCalls : AnswersCalls uses over [] [] []
   MoreCalls : {calls responses : List CallData} {asks : List BodyAsk} (next : NextCall uses over responses) → AnswersCalls uses over calls asks responses

@@ -1,9 +1,12 @@
--- Calls has what each call of a request comes to, one after another, over the mail that is served; Asking how bodies are asked meanwhile; Places is for
--- the law that this is one list.
+-- Calls has what calls come to, one after another over one mail; Calling the calls of a request, each over the mail of its moment; Asking how bodies
+-- are asked meanwhile; Places is for the law that this is one list.
 pub mod MethodNames
 pub mod Mailings
 pub mod Methods
 pub mod Calls
+pub mod Calling
+pub mod OneMail
+pub mod ToldBodies
 pub mod Asking
 pub mod Places
 pub mod reading

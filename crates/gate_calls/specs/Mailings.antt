@@ -1,24 +1,25 @@
--- The mail over which the calls of a request are answered, after its link life (RFC 8620 section 3.6.2).
+-- The mail over which the calls of a request are answered (RFC 8620 section 3.6.2).
 use Rattle.std.specs.Prelude.{◌≡◌, ℕ, List, Option, Some, None, Result, Ok, Err}
-use Rattle.jmap_methods.specs.declared.method_error.MethodError.{MethodError}
-use Rattle.jmap_methods.specs.declared.method_error.MethodError.TheVariants.{ServerUnavailable, ServerFail}
+use Rattle.jmap_arguments.specs.declared.method_error.MethodError.{MethodError}
+use Rattle.jmap_arguments.specs.declared.method_error.MethodError.TheVariants.{ServerUnavailable, ServerFail}
 use Rattle.mail_state.specs.History.{MailHistory}
 use Rattle.mail_state.specs.State.{IsStateOf}
 use Rattle.gate_machine.specs.History.{KnownMail}
-use Rattle.gate_machine.specs.declared.standing.Fall.{Fall}
-use Rattle.gate_machine.specs.declared.standing.Fall.TheVariants.{Linked, Spent}
-use Rattle.gate_machine.specs.declared.standing.Standing.{Standing}
-use Rattle.gate_machine.specs.declared.standing.Standing.TheVariants as standing
+use Rattle.gate_machine.specs.Progress.{Progress}
+use Rattle.gate_machine.specs.declared.standing.MailFailure.{MailFailure}
+use Rattle.gate_machine.specs.declared.standing.MailFailure.TheVariants.{Linked, Spent}
+use Rattle.gate_machine.specs.declared.standing.MailStatus.{MailStatus}
+use Rattle.gate_machine.specs.declared.standing.MailStatus.TheVariants as standing
 use Rattle.gate_calls.specs.declared.mail.Mail.{Mail}
 use Rattle.gate_calls.specs.declared.mail.Mail.TheVariants as code
-use Rattle.gate_calls.specs.declared.mail.Over.{Over}
+use Rattle.gate_calls.specs.declared.mail.CallContext.{CallContext}
 
 -- what has become of the mail; or the error of each call that isn't refused by its name or its arguments
 abbrev pub Mailing : Type 0
 Mailing = Result MailHistory MethodError
 
 -- the error of a call that needs the mail, where that can't be told
-abbrev pub error_of : Fall → MethodError
+abbrev pub error_of : MailFailure → MethodError
 error_of (Linked e) = ServerUnavailable
 error_of Spent = ServerFail
 
@@ -27,10 +28,14 @@ history_of (Some k) = Ok k.history
 history_of None = Err ServerUnavailable
 
 -- the mail over which calls are answered, where the round stands
-abbrev pub mailing_by : Standing → Option KnownMail → Mailing
+abbrev pub mailing_by : MailStatus → Option KnownMail → Mailing
 mailing_by standing.Stands known = history_of known
-mailing_by (standing.Fell why) known = Err (error_of why)
+mailing_by (standing.Unserved why) known = Err (error_of why)
 mailing_by standing.OutOfMemory known = Err ServerUnavailable
+
+-- the mail at this moment of the work on a request
+abbrev pub mail_at : Progress → Mailing
+mail_at p = mailing_by p.standing p.machine.known
 
 -- the mail, and the uploads that are kept
 pub record MailAndUploads : Type 0 where
@@ -45,6 +50,6 @@ IsMailOf (Ok h) (code.Told state) = IsStateOf h state.now
 IsMailOf (Err e) (code.Untold error) = error ≡ e
 IsMailOf _ _ = ⊥
 
-pub record AreOf (over : MailAndUploads) (c : Over) : Type 0 where
+pub record AreOf (over : MailAndUploads) (c : CallContext) : Type 0 where
   pub mail : IsMailOf over.mail c.mail
   pub uploads : c.uploads.now ≡ over.uploads

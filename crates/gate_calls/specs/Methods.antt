@@ -5,8 +5,8 @@ use Rattle.serde_json.specs.Data.{Data}
 use Rattle.email_bodies.specs.Asking.{BodyAsk}
 use Rattle.email_get.specs.EmailGet.{RepliesEmailGet, get_emails_refused}
 use Rattle.email_get.specs.EmailParse.{RepliesEmailParse, parse_refused}
-use Rattle.jmap_methods.specs.Echo.{echoed}
-use Rattle.jmap_methods.specs.declared.method_error.MethodError.{MethodError}
+use Rattle.jmap_arguments.specs.Echo.{echoed}
+use Rattle.jmap_arguments.specs.declared.method_error.MethodError.{MethodError}
 use Rattle.mail_state.specs.History.{MailHistory}
 use Rattle.query_arguments.specs.Asked.{email_query_refused, email_query_changes_refused, mailbox_query_refused, mailbox_query_changes_refused}
 use Rattle.query_changes.specs.Replies.{RepliesEmailQueryChanges, RepliesMailboxQueryChanges}

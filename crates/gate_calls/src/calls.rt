@@ -3,8 +3,8 @@ ghost use Rattle.std.specs.Prelude.{◌≡◌, Err, Ok, IfOk, All, map, false};
 ghost use Rattle.serde_json.specs.View.{view};
 ghost use Rattle.serde_json.specs.Written.{has_float};
 ghost use Rattle.email_get.specs.Asked.{AsksAndMeets, FailsAfter};
-ghost use Rattle.jmap_methods.specs.declared.using.Using.{Using as using_type};
-ghost use Rattle.jmap_methods.specs.declared.method_error.MethodError.TheVariants.{Memory};
+ghost use Rattle.jmap_arguments.specs.declared.using.Using.{Using as using_type};
+ghost use Rattle.jmap_arguments.specs.declared.method_error.MethodError.TheVariants.{Memory};
 ghost use Rattle.result_references.specs.Call.{call_data};
 ghost use Rattle.jmap_core.specs.Response.{IsWhole};
 ghost use Rattle.gate_calls.specs.Asking.{AsksAndMakes};
@@ -13,12 +13,12 @@ ghost use Rattle.gate_calls.specs.MethodNames.{method_asked};
 ghost use Rattle.gate_calls.specs.Calls.{AnswersCall, AnswersCalls, FirstCallsAsk, answered_call};
 ghost use Rattle.gate_calls.specs.reading.Responding.{IsResponseTo, RespondsTo};
 
-use crate::mail::Over;
+use crate::mail::CallContext;
 use crate::method::{Method, method_named};
 use crate::methods::reply;
 use email_bodies::BodySource;
-use gate_world::Text;
-use jmap_methods::{MethodError, Using, error_arguments};
+use jmap_arguments::{MethodError, Using, error_arguments};
+use octets::Text;
 use result_references::{Call, resolve};
 use serde_json::Value;
 use std::alloc::{AllocError, Global};
@@ -26,7 +26,7 @@ use std::alloc::{AllocError, Global};
 // What a call of this method comes to.
 fn method_result<W, B: BodySource<W>>(
     alloc: Global,
-    over: &Over<'_>,
+    over: &CallContext<'_>,
     bodies: &mut B,
     world: &mut W,
     method: Method,
@@ -47,7 +47,7 @@ fn method_result<W, B: BodySource<W>>(
 // What a call comes to.
 fn call_result<W, B: BodySource<W>>(
     alloc: Global,
-    over: &Over<'_>,
+    over: &CallContext<'_>,
     bodies: &mut B,
     world: &mut W,
     uses: Using,
@@ -104,7 +104,7 @@ fn response_of(
 // The one response to a call.
 fn response_to<W, B: BodySource<W>>(
     alloc: Global,
-    over: &Over<'_>,
+    over: &CallContext<'_>,
     bodies: &mut B,
     world: &mut W,
     uses: Using,
@@ -123,7 +123,7 @@ fn response_to<W, B: BodySource<W>>(
 /// The responses to calls, in order. Bodies are asked of the source, in the outside, as the calls need them.
 pub fn responses_to<W, B: BodySource<W>>(
     alloc: Global,
-    over: &Over<'_>,
+    over: &CallContext<'_>,
     bodies: &mut B,
     world: &mut W,
     uses: Using,

@@ -1,4 +1,4 @@
-//! The calls of a request: whether they need the mail, and what each is answered over the mail that is served.
+//! The calls of a request: whether they need the mail, and what each is answered over the mail that is served at its moment.
 #![tactic(auto)]
 
 // Methods, and what they are answered over.
@@ -14,7 +14,7 @@ mod needs;
 mod laws;
 
 pub use calls::responses_to;
-pub use laws::{one_list_of_responses, orders_offered_are_taken};
-pub use mail::{Mail, Over};
+pub use laws::{calls_have_one_course, orders_offered_are_taken, reading_calls_have_one_mail};
+pub use mail::{CallContext, Mail};
 pub use method::{Method, method_named, name_needs_mail};
 pub use needs::needs_mail;

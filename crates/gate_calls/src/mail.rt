@@ -1,7 +1,7 @@
 // What calls are answered over.
 
 use blob_store::BlobStore;
-use jmap_methods::MethodError;
+use jmap_arguments::MethodError;
 use mail_state::MailState;
 
 /// The mail over which calls are answered.
@@ -15,7 +15,7 @@ pub enum Mail<'a> {
 
 /// What calls are answered over.
 #[derive(Clone, Copy)]
-pub struct Over<'a> {
+pub struct CallContext<'a> {
     /// The mail.
     pub mail: Mail<'a>,
     /// The uploads that are kept.

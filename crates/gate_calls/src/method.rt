@@ -2,7 +2,7 @@
 ghost use Rattle.std.specs.Prelude.{◌≡◌};
 ghost use Rattle.gate_calls.specs.MethodNames.{is_used, method_of, method_asked, needs_mail_by};
 
-use jmap_methods::{MethodError, Using};
+use jmap_arguments::{MethodError, Using};
 
 /// A method that a call can ask.
 #[derive(Clone, Copy, Debug, PartialEq, Eq)]

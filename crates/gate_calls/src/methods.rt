@@ -3,20 +3,20 @@ ghost use Rattle.std.specs.Prelude.{◌≡◌, ℕ, List, [], Err, Ok, IfOk, OnO
 ghost use Rattle.serde_json.specs.View.{view};
 ghost use Rattle.serde_json.specs.Written.{has_float};
 ghost use Rattle.email_get.specs.Asked.{AsksAndMeets};
-ghost use Rattle.jmap_methods.specs.Outcome.{Agrees, Meets};
-ghost use Rattle.jmap_methods.specs.declared.method_error.MethodError.{MethodError as error_type};
-ghost use Rattle.jmap_methods.specs.declared.method_error.MethodError.TheVariants.{Memory};
+ghost use Rattle.jmap_arguments.specs.Outcome.{Agrees, Meets};
+ghost use Rattle.jmap_arguments.specs.declared.method_error.MethodError.{MethodError as error_type};
+ghost use Rattle.jmap_arguments.specs.declared.method_error.MethodError.TheVariants.{Memory};
 ghost use Rattle.mail_state.specs.History.{MailHistory};
 ghost use Rattle.mail_state.specs.State.{IsStateOf};
 ghost use Rattle.gate_calls.specs.Mailings.{AreOf, MailAndUploads};
 ghost use Rattle.gate_calls.specs.Methods.{AtOnce, RepliesTo, unless_refused};
 
-use crate::mail::{Mail, Over};
+use crate::mail::{CallContext, Mail};
 use crate::method::Method;
 use blob_store::BlobStore;
 use email_bodies::BodySource;
 use email_get::{check_email_get, check_email_parse, email_get, email_parse};
-use jmap_methods::{MethodError, echo};
+use jmap_arguments::{MethodError, echo};
 use mail_state::MailState;
 use query_changes::{
     check_email_query_changes, check_mailbox_query_changes, email_query_changes,
@@ -104,7 +104,7 @@ fn reply_over<W, B: BodySource<W>>(
 /// A method over its arguments.
 pub fn reply<W, B: BodySource<W>>(
     alloc: Global,
-    over: &Over<'_>,
+    over: &CallContext<'_>,
     bodies: &mut B,
     world: &mut W,
     method: Method,

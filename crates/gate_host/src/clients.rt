@@ -6,7 +6,8 @@ ghost use Rattle.gate_world.specs.declared.outside.Failed.{Failed as failed};
 
 use gate_world::Failed;
 
-/// Clients, one after another. Each Err is one fault.
+/// Clients, one after another. Each Err is one fault; after one of `recv` or of `send` octets of this client may be lost, so that
+/// nothing more is asked of it but `finish`.
 pub trait Clients: Drop {
     /// How often a call has failed; the last number stays.
     ghost client_faults: { Self → ℕ };
@@ -69,7 +70,8 @@ pub trait Clients: Drop {
         ensures finishes { finishes self.old self.new }
         ensures faults { client_faults self.new ≡ client_faults self.old };
 
-    /// No client is accepted any more: waits for those whose answer is whole and that have not read it yet, for a short time.
+    /// For the end of a program: waits for those whose answer is whole and that have not read it yet, for a short time. Those that
+    /// come meanwhile aren't served.
     fn end(&mut self)
         ensures ends { ends self.old self.new }
         ensures faults { client_faults self.new ≡ client_faults self.old };

@@ -8,7 +8,8 @@ ghost use Rattle.gate_host.specs.Faults.{one_more};
 ghost use Rattle.gate_host.specs.Streams.{known_of};
 
 use crate::{Clients, ErrorConsole, Host, TcpLink, random_word};
-use gate_world::{Bytes, Chance, Console, Failed, Front, Link, Secrets, Taped, Text, World};
+use gate_world::{Chance, Console, Failed, Front, Link, Secrets, Taped, World};
+use octets::{Bytes, Text};
 
 /// A world on a host: the store over TCP, and clients. It tells no tape.
 #[derive(Drop)]

@@ -1,12 +1,14 @@
 // The clients of a listener.
 ghost use Rattle.std.specs.Prelude.{◌≡◌, ◌≤◌, ◌<◌, None, Some, take, length, IsNone, IsErr, IfOk, OnOk, OnErr};
+ghost use Rattle.client_front.specs.Accepting.{nobody_yet, state};
+ghost use Rattle.client_front.specs.Handing.{NoneOrBothSo};
 ghost use Rattle.gate_host.specs.Faults.{one_more};
 
 use crate::Clients;
 use crate::faults::raised;
 use client_front::{ClientFront, ClientListener, Ticks};
 use gate_world::Failed;
-use std::alloc::Global;
+use std::alloc::{AllocError, Global};
 
 /// The clients of a listener, or of none where there is no listening at the address that was asked for: then each call
 /// fails.
@@ -19,15 +21,20 @@ pub struct ListenerFront<L: ClientListener + Drop, C: Ticks + Drop> {
 }
 
 impl<L: ClientListener + Drop, C: Ticks + Drop> ListenerFront<L, C> {
-    /// A front that has accepted nobody.
-    pub fn new(alloc: Global, listener: Option<L>, clock: C) -> ListenerFront<L, C>
-        ensures faults { result.faults ≡ 0 }
+    /// A front of the listener, where there is one, that has accepted nobody.
+    pub fn new(
+        alloc: Global,
+        listener: Option<L>,
+        clock: C,
+    ) -> Result<ListenerFront<L, C>, AllocError>
+        ensures clients { IfOk result (λ front. NoneOrBothSo (λ given clients. (state clients.acceptor ≡ nobody_yet given clock) × IsNone clients.current) listener front.clients) }
+        ensures faults { IfOk result (λ front. front.faults ≡ 0) }
     {
         let clients = match listener {
-            Some(listener) => Some(ClientFront::new(alloc, listener, clock)),
+            Some(listener) => Some(ClientFront::new(alloc, listener, clock)?),
             None => None,
         };
-        ListenerFront { clients, faults: 0 }
+        Ok(ListenerFront { clients, faults: 0 })
     }
 
     fn fail(&mut self) -> Failed
@@ -48,13 +55,13 @@ impl<L: ClientListener + Drop, C: Ticks + Drop> Clients for ListenerFront<L, C> 
 
     ghost use Rattle.std.specs.Prelude.{◌≡◌, true, IsNone, MatchResult};
     ghost use Rattle.client_front.specs.Accepting.{HandsOnFirst, HandsOnNobody, state, world};
-    ghost use Rattle.client_front.specs.Finishing.{Ends, Finishes};
+    ghost use Rattle.client_front.specs.Finishing.{ClosesServed, Ends, Finishes};
     ghost use Rattle.client_front.specs.Handing.{BothSo, IfServed, NoneOrBothSo, ReceivesInTime, ReceivesNothing, SendsInTime, SendsNothing};
 
     // The client is the first whose head was whole; where none is given there is no listener, or it or the clock failed.
     ghost accepts = { λ old result new. MatchResult result
-        (λ came. (came ≡ true) × BothSo (λ before after. IfServed (HandsOnFirst (world L.Stream.shows L.Stream.gives C.reads L.waits L.comes) (state before.acceptor) (state after.acceptor)) after.current) old.clients new.clients)
-        (λ _. NoneOrBothSo (λ before after. HandsOnNobody (world L.Stream.shows L.Stream.gives C.reads L.waits L.comes) (state before.acceptor) (state after.acceptor) × IsNone after.current) old.clients new.clients) };
+        (λ came. (came ≡ true) × BothSo (λ before after. IfServed (HandsOnFirst (world L.Stream.shows L.Stream.closes L.Stream.gives C.reads L.waits L.comes) (state before.acceptor) (state after.acceptor)) after.current × ClosesServed L.Stream.closes before.current) old.clients new.clients)
+        (λ _. NoneOrBothSo (λ before after. HandsOnNobody (world L.Stream.shows L.Stream.closes L.Stream.gives C.reads L.waits L.comes) (state before.acceptor) (state after.acceptor) × IsNone after.current × ClosesServed L.Stream.closes before.current) old.clients new.clients) };
 
     // The octets are just those that came for the client that is served, or that it took, in time. The listener and those who wait stay as they
     // are.
@@ -67,10 +74,10 @@ impl<L: ClientListener + Drop, C: Ticks + Drop> Clients for ListenerFront<L, C> 
     ghost sends_nothing = { λ old new. NoneOrBothSo (λ before after. NoneOrBothSo (SendsNothing L.Stream.sends C.reads before.acceptor.clock after.acceptor.clock) before.current after.current × (after.acceptor ≡ record before.acceptor { clock = after.acceptor.clock })) old.clients new.clients };
 
     // Who waits, the listener and the next key stay as they are, and nobody is served.
-    ghost finishes = { λ old new. NoneOrBothSo (λ before after. Finishes L.Stream.ends L.Stream.gives C.reads before.current (state before.acceptor) (state after.acceptor) × IsNone after.current) old.clients new.clients };
+    ghost finishes = { λ old new. NoneOrBothSo (λ before after. Finishes L.Stream.ends L.Stream.closes L.Stream.gives C.reads before.current (state before.acceptor) (state after.acceptor) × IsNone after.current) old.clients new.clients };
 
     // Clients are looked at until none is open whose response is whole, or the listener or the clock failed.
-    ghost ends = { λ old new. NoneOrBothSo (λ before after. Ends (world L.Stream.shows L.Stream.gives C.reads L.waits L.comes) (state before.acceptor) (state after.acceptor) × IsNone after.current) old.clients new.clients };
+    ghost ends = { λ old new. NoneOrBothSo (λ before after. Ends (world L.Stream.shows L.Stream.closes L.Stream.gives C.reads L.waits L.comes) (state before.acceptor) (state after.acceptor) × IsNone after.current × ClosesServed L.Stream.closes before.current) old.clients new.clients };
 
     fn accept(&mut self) -> Result<bool, Failed> {
         let accepted = match &mut self.clients {

@@ -8,7 +8,8 @@ ghost use Rattle.gate_host.specs.Streams.{known_of};
 use crate::Dialer;
 use crate::faults::raised;
 use crate::streams::{read_some, write_some};
-use gate_world::{Failed, Text};
+use gate_world::Failed;
+use octets::Text;
 use std::net::{Ipv4Addr, SocketAddr, SocketAddrV4};
 
 /// How many seconds a dial, a read or a write may wait.

@@ -8,7 +8,7 @@ use Rattle.gate_world.specs.Causes.{Faults, no_faults}
 use Rattle.gate_world.specs.Octets.{store_gave_in, Talk}
 use Rattle.gate_world.specs.declared.event.Event.{Event}
 use Rattle.gate_world.specs.declared.event.Event.TheVariants.{LinkEnded}
-use Rattle.imap_syntax.specs.declared.response.Response.{Response}
+use Rattle.imap_types.specs.declared.response.Response.{Response}
 use Rattle.imap_grammar.proofs.Spellings.{need_more_none, bad_none}
 use Rattle.told_folder.specs.declared.exchange.Exchange.{Exchange}
 use Rattle.imap_exchange.specs.declared.link_end.LinkEnd.{LinkEnd}
@@ -25,8 +25,8 @@ use Rattle.gate_machine.specs.History.{KnownMail, IsSpent, served_anew}
 use Rattle.gate_machine.specs.Machine.{MachineState}
 use Rattle.gate_machine.specs.Obeying.{given_by, ObeysIn, Welcomes, IsRoundObeyed, IsObeyedBeginning, IsServed}
 use Rattle.gate_machine.specs.Progress.{Progress, standing_by, lost_by, blame_link}
-use Rattle.gate_machine.specs.declared.standing.Fall.TheVariants.{Linked}
-use Rattle.gate_machine.specs.declared.standing.Standing.TheVariants.{Stands, Fell, OutOfMemory}
+use Rattle.gate_machine.specs.declared.standing.MailFailure.TheVariants.{Linked}
+use Rattle.gate_machine.specs.declared.standing.MailStatus.TheVariants.{Stands, Unserved, OutOfMemory}
 
 -- how a plan that is obeyed ends
 abbrev pub EndsWell : Result (Unit {0}) LinkEnd → Type 0
@@ -138,7 +138,7 @@ by_round {before} {after} a asks (inl ok) room none =
     let stands : a.told.standing ≡ Stands = ap (λ (p : Progress). p.standing) asks.after_is ∙ ap standing_by ok in
     elim a.settles [ inl skips ↦ absurd (skips.0 stands) | inr settles ↦ settled_ends settles room ]
 by_round {before} {after} a asks (inr (inl lost)) room none =
-    let fell : a.told.standing ≡ Fell (Linked end.Lost) = ap (λ (p : Progress). p.standing) asks.after_is ∙ ap standing_by lost in
+    let fell : a.told.standing ≡ Unserved (Linked end.Lost) = ap (λ (p : Progress). p.standing) asks.after_is ∙ ap standing_by lost in
     let blames : a.told.blamed ≡ blame_link 1 before.blamed = ap (λ (p : Progress). p.blamed) asks.after_is ∙ ap
     (λ (r : Result (Unit {0}) LinkEnd). blame_link (lost_by r) before.blamed) lost in
     absurd (blamed_once before.blamed after a.told blames (settles_nothing a (λ is. cc)) none)
@@ -162,7 +162,7 @@ by_dial : {user password : List ℕ} {before : MachineState} {events : List Even
     → IsServed after ⊎ (after.standing ≡ OutOfMemory)
 by_dial law b obeyed dials (inl ok) none = rounds_end law b.asks obeyed.round obeyed.room (ap (λ (p : Progress). p.standing) dials.after_is ∙ ap standing_by ok) none
 by_dial {after = after} law b obeyed dials (inr (inl lost)) none =
-    let fell : b.connected.standing ≡ Fell (Linked end.Lost) = ap (λ (p : Progress). p.standing) dials.after_is ∙ ap standing_by lost in
+    let fell : b.connected.standing ≡ Unserved (Linked end.Lost) = ap (λ (p : Progress). p.standing) dials.after_is ∙ ap standing_by lost in
     let blames : b.connected.blamed ≡ blame_link 1 b.ready.blamed = ap (λ (p : Progress). p.blamed) dials.after_is ∙ ap
     (λ (r : Result (Unit {0}) LinkEnd). blame_link (lost_by r) b.ready.blamed) lost in
     absurd (blamed_once b.ready.blamed after b.connected blames (asks_nothing b.asks (λ is. cc)) none)

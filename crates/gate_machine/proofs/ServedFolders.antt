@@ -27,7 +27,7 @@ use Rattle.gate_machine.specs.Machine.{MachineState}
 use Rattle.gate_machine.specs.Progress.{Progress}
 use Rattle.gate_machine.specs.ServedFolders.{Serves, HasFoldersTold, TellsServedFolders}
 use Rattle.gate_machine.specs.Sources.{KnowsExchanges}
-use Rattle.gate_machine.specs.declared.standing.Standing.TheVariants.{OutOfMemory, Stands}
+use Rattle.gate_machine.specs.declared.standing.MailStatus.TheVariants.{OutOfMemory, Stands}
 use Rattle.gate_machine.proofs.Sources.{knows_on_way}
 
 one_known : (j k : KnownMail) → Some j ≡ Some k → j ≡ k

@@ -23,9 +23,9 @@ use Rattle.gate_machine.specs.Machine.{MachineState, opened, hearing, committed,
 use Rattle.gate_machine.specs.Progress.{Progress, CameTo, Bears, StandsInLife, idle, ended_after, out_of_memory, is_up, standing_by, machine_by, kept_by, lost_by, blame_link}
 use Rattle.gate_machine.specs.Beginning.{Readies, Ready, Restart, LacksRoom, ReadiesTo, Dials, RunsRound, Settles, Same, Moves, Spends, Lacks, AsksThen, DialsTo, BeginsTo}
 use Rattle.gate_machine.specs.declared.machine.Machine.{Machine}
-use Rattle.gate_machine.specs.declared.standing.Fall.TheVariants.{Spent}
-use Rattle.gate_machine.specs.declared.standing.Standing.{Standing}
-use Rattle.gate_machine.specs.declared.standing.Standing.TheVariants as standing
+use Rattle.gate_machine.specs.declared.standing.MailFailure.TheVariants.{Spent}
+use Rattle.gate_machine.specs.declared.standing.MailStatus.{MailStatus}
+use Rattle.gate_machine.specs.declared.standing.MailStatus.TheVariants as standing
 
 -- ---- counts
 
@@ -145,7 +145,7 @@ holds_connected (Lived life a lives) ended_after = holds_lived lives ended_after
 
 -- the life begins
 pub dialed : {user password : List ℕ} {left : Option LinkLife} {client : ClientState} {result : Result (Unit {0}) LinkEnd} {events : List Event} (before : MachineState)
-    (old machine : Machine) (how : Standing) (was now : Faults) → HoldsMachine before old
+    (old machine : Machine) (how : MailStatus) (was now : Faults) → HoldsMachine before old
     → Connects user password left client result events → OnErr result (client ≡ fresh) → LinkAlone was now → (IsErrOf result end.Lost → Rose was.link now.link)
     → how ≡ standing_by result → machine ≡ kept_by result old
     → (after : Progress) × Dials user password (idle before) events after × CameTo machine client how was now after
@@ -184,7 +184,7 @@ next_told joins goes_on k a told exchanges kept is =
 
 -- a round in the life of a client that is alive takes the work to where the round's end leaves it
 pub asked : {client next : ClientState} {result : Result (Unit {0}) LinkEnd} {events : List Event} → NextJoins → TellingGoesOn → (before : Progress) (machine after : Machine)
-    (how : Standing) (was then now : Faults) (a b : KeptMail)
+    (how : MailStatus) (was then now : Faults) (a b : KeptMail)
     → CameTo machine client standing.Stands was then before → machine.known ≡ Some a → client.alive ≡ true
     → ((life : LinkLife) → Stands client life → (left : LinkLife) × (rounds : Rounds a.told.mail b.told.mail life left next result events)
     × KeepsCount a.told b.told result rounds.exchanges)
@@ -275,11 +275,11 @@ settled before client was now machine after a b came known commits after_is =
 -- where new mail was told and no place is left for it, forgetting the mail settles the work, which fell
 pub spent : (before : Progress) (client : ClientState) (was now : Faults) (machine after : Machine) (a : KeptMail)
     → CameTo machine client standing.Stands was now before → machine.known ≡ Some a → ((k : KnownMail) → IsKeptOf k a → IsNewMail k × IsSpent k) → after.known ≡ None
-    → (p : Progress) × Settles before [] p × CameTo after client (standing.Fell Spent) was now p
+    → (p : Progress) × Settles before [] p × CameTo after client (standing.Unserved Spent) was now p
 spent before client was now machine after a came known spends after_is =
     let here = held_ready before.machine machine a came.held known in
     let so = spends here.0 here.2 in (
-      record before { machine = forgotten before.machine; standing = standing.Fell Spent },
+      record before { machine = forgotten before.machine; standing = standing.Unserved Spent },
       Spends (record { known = here.0; stands = came.standing_is; ready = here.1; is_new = so.0 }) so.1 refl refl,
       record { held = holds_none before.machine after after_is; standing_is = refl; in_life = came.in_life; bears = came.bears },
     )
@@ -297,7 +297,7 @@ lacked before client was now machine after came after_is = (
 -- ---- one after another
 
 -- the round, and then what it told
-pub asked_then : {before : Progress} {events : List Event} {client : ClientState} {machine after : Machine} {how : Standing} {was now : Faults}
+pub asked_then : {before : Progress} {events : List Event} {client : ClientState} {machine after : Machine} {how : MailStatus} {was now : Faults}
     → (p : Progress) × RunsRound before events p × CameTo machine client standing.Stands was now p
     → ((p : Progress) → CameTo machine client standing.Stands was now p → (q : Progress) × Settles p [] q × CameTo after client how was now q)
     → (q : Progress) × AsksThen before events q × CameTo after client how was now q
@@ -305,11 +305,11 @@ asked_then {events = events} asks settles =
     let s = settles asks.0 asks.2 in
     (s.0, record { told = asks.0; asking = events; settling = []; asks = inr asks.1; settles = inr s.1; whole = sym (append-nil events) }, s.2)
 
-fell_is_not : (p : Progress) (how : Standing) → p.standing ≡ how → (how ≡ standing.Stands → ⊥) → p.standing ≢ standing.Stands
+fell_is_not : (p : Progress) (how : MailStatus) → p.standing ≡ how → (how ≡ standing.Stands → ⊥) → p.standing ≢ standing.Stands
 fell_is_not p how is other stands = other (sym is ∙ stands)
 
 -- the round, which doesn't stand
-pub asked_only : {before : Progress} {events : List Event} {client : ClientState} {machine : Machine} {how : Standing} {was now : Faults}
+pub asked_only : {before : Progress} {events : List Event} {client : ClientState} {machine : Machine} {how : MailStatus} {was now : Faults}
     → (how ≡ standing.Stands → ⊥) → (p : Progress) × RunsRound before events p × CameTo machine client how was now p
     → (q : Progress) × AsksThen before events q × CameTo machine client how was now q
 asked_only {events = events} {how = how} other asks = (
@@ -326,7 +326,7 @@ asked_only {events = events} {how = how} other asks = (
 )
 
 -- the dial, and then the round
-pub dialed_then : {user password : List ℕ} {before : MachineState} {mid machine : Machine} {client next : ClientState} {how : Standing} {was then now : Faults} {xs ys : List Event}
+pub dialed_then : {user password : List ℕ} {before : MachineState} {mid machine : Machine} {client next : ClientState} {how : MailStatus} {was then now : Faults} {xs ys : List Event}
     → (p : Progress) × Dials user password (idle before) xs p × CameTo mid client standing.Stands was then p
     → ((p : Progress) (first : Faults) → CameTo mid client standing.Stands first then p → (q : Progress) × AsksThen p ys q × CameTo machine next how first now q)
     → DialsTo user password before machine next how was now (xs ++ ys)
@@ -335,7 +335,7 @@ dialed_then {was = was} {xs = xs} {ys = ys} dials asks =
     record { connected = dials.0; after = a.0; connecting = xs; asking = ys; dials = dials.1; asks = a.1; whole = refl; came = a.2 }
 
 -- the dial, which comes to nothing
-pub dialed_only : {user password : List ℕ} {before : MachineState} {machine : Machine} {client : ClientState} {how : Standing} {was now : Faults} {xs : List Event}
+pub dialed_only : {user password : List ℕ} {before : MachineState} {machine : Machine} {client : ClientState} {how : MailStatus} {was now : Faults} {xs : List Event}
     → (how ≡ standing.Stands → ⊥) → (p : Progress) × Dials user password (idle before) xs p × CameTo machine client how was now p
     → DialsTo user password before machine client how was now xs
 dialed_only {how = how} {xs = xs} other dials =
@@ -352,7 +352,7 @@ dialed_only {how = how} {xs = xs} other dials =
     }
 
 -- the machine is ready, and then the dial
-pub begun_by : {user password : List ℕ} {before ready : MachineState} {machine : Machine} {client : ClientState} {how : Standing} {was now : Faults} (xs ys : List Event)
+pub begun_by : {user password : List ℕ} {before ready : MachineState} {machine : Machine} {client : ClientState} {how : MailStatus} {was now : Faults} (xs ys : List Event)
     → Readies before xs (idle ready) → DialsTo user password ready machine client how was now ys → BeginsTo user password before machine client how was now (xs ++ ys)
 begun_by {ready = ready} xs ys readies dials =
     record {

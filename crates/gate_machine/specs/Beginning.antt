@@ -17,9 +17,9 @@ use Rattle.gate_machine.specs.Holding.{HoldsMachine}
 use Rattle.gate_machine.specs.Machine.{MachineState, opened, hearing, committed, forgotten}
 use Rattle.gate_machine.specs.Progress.{Progress, CameTo, idle, ended_after, out_of_memory}
 use Rattle.gate_machine.specs.declared.machine.Machine.{Machine}
-use Rattle.gate_machine.specs.declared.standing.Fall.TheVariants.{Spent}
-use Rattle.gate_machine.specs.declared.standing.Standing.{Standing}
-use Rattle.gate_machine.specs.declared.standing.Standing.TheVariants.{Stands, Fell}
+use Rattle.gate_machine.specs.declared.standing.MailFailure.TheVariants.{Spent}
+use Rattle.gate_machine.specs.declared.standing.MailStatus.{MailStatus}
+use Rattle.gate_machine.specs.declared.standing.MailStatus.TheVariants.{Stands, Unserved}
 
 -- A machine that isn't ready draws an epoch, and begins with no mail; or there is no memory for that.
 pub data Readies (before : MachineState) (events : List Event) (after : Progress) : Type 0 where
@@ -72,7 +72,7 @@ pub data Settles (before : Progress) (events : List Event) (after : Progress) : 
   Moves : (new : HasNewMail before) (next : MailHistory) → GoesOnTo new.known next → HasRoom next → events ≡ []
       → after ≡ record before { machine = committed before.machine (served_anew new.known next) } → Settles before events after
   Spends : (new : HasNewMail before) → IsSpent new.known → events ≡ []
-      → after ≡ record before { machine = forgotten before.machine; standing = Fell Spent } → Settles before events after
+      → after ≡ record before { machine = forgotten before.machine; standing = Unserved Spent } → Settles before events after
   Lacks : before.standing ≡ Stands → events ≡ [] → after ≡ out_of_memory before → Settles before events after
 
 -- the round, and what it told is served where it stands
@@ -104,7 +104,7 @@ ReadiesTo before kept (Ok _) events = (m : MachineState) × Readies before event
 ReadiesTo before kept (Err _) events = Readies before events (out_of_memory (idle before)) × HoldsMachine (forgotten before) kept
 
 -- from a machine that is ready
-pub record DialsTo (user password : List ℕ) (before : MachineState) (kept : Machine) (client : ClientState) (how : Standing) (was now : Faults)
+pub record DialsTo (user password : List ℕ) (before : MachineState) (kept : Machine) (client : ClientState) (how : MailStatus) (was now : Faults)
     (events : List Event) : Type 0 where
   pub connected : Progress
   pub after : Progress
@@ -116,7 +116,7 @@ pub record DialsTo (user password : List ℕ) (before : MachineState) (kept : Ma
   pub came : CameTo kept client how was now after
 
 -- the whole way
-pub record BeginsTo (user password : List ℕ) (before : MachineState) (kept : Machine) (client : ClientState) (how : Standing) (was now : Faults)
+pub record BeginsTo (user password : List ℕ) (before : MachineState) (kept : Machine) (client : ClientState) (how : MailStatus) (was now : Faults)
     (events : List Event) : Type 0 where
   pub after : Progress
   pub begins : PreparesMail user password before events after

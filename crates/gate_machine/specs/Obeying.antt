@@ -3,7 +3,7 @@ use Rattle.std.specs.Prelude.{◌≡◌, ◌++◌, ℕ, Bool, List, [], ◌∷�
 use Rattle.std.specs.List.{flat_map}
 use Rattle.gate_world.specs.Octets.{store_gave_in}
 use Rattle.gate_world.specs.declared.event.Event.{Event}
-use Rattle.imap_syntax.specs.declared.response.Response.{Response}
+use Rattle.imap_types.specs.declared.response.Response.{Response}
 use Rattle.email_bodies.specs.Asking.{BodyAsk}
 use Rattle.email_bodies.specs.declared.source.MessagePlace.{MessagePlace}
 use Rattle.imap_exchange.specs.Begins.{Begins as begins_with}
@@ -19,7 +19,7 @@ use Rattle.gate_machine.specs.Fetching.{AsksStore, AsksBody, IsKept, IsTold, End
 use Rattle.gate_machine.specs.History.{KnownMail, IsSpent}
 use Rattle.gate_machine.specs.Progress.{Progress}
 use Rattle.gate_machine.specs.Machine.{MachineState}
-use Rattle.gate_machine.specs.declared.standing.Standing.TheVariants.{Stands}
+use Rattle.gate_machine.specs.declared.standing.MailStatus.TheVariants.{Stands}
 
 -- what these events give of the store's octets
 abbrev pub given_by : List Event → List ℕ

@@ -7,15 +7,15 @@ use Rattle.imap_client.specs.LinkLife.{LinkLife, ClientState, Stands}
 use Rattle.gate_machine.specs.Holding.{HoldsMachine, unready}
 use Rattle.gate_machine.specs.Machine.{MachineState, forgotten}
 use Rattle.gate_machine.specs.declared.machine.Machine.{Machine}
-use Rattle.gate_machine.specs.declared.standing.Fall.TheVariants as fall
-use Rattle.gate_machine.specs.declared.standing.Standing.{Standing}
-use Rattle.gate_machine.specs.declared.standing.Standing.TheVariants as standing
+use Rattle.gate_machine.specs.declared.standing.MailFailure.TheVariants as failure
+use Rattle.gate_machine.specs.declared.standing.MailStatus.{MailStatus}
+use Rattle.gate_machine.specs.declared.standing.MailStatus.TheVariants as standing
 
 -- The machine; whether all that was begun stands; the link life as it was left, where there was one; and the faults that are
 -- blamed.
 pub record Progress : Type 0 where
   pub machine : MachineState
-  pub standing : Standing
+  pub standing : MailStatus
   pub left : Option LinkLife
   pub blamed : Faults
 
@@ -34,10 +34,10 @@ is_up (Some life) = life.goes_on
 
 -- ---- what the end of a call over the link does
 
-abbrev pub standing_by : Result (Unit {0}) LinkEnd → Standing
+abbrev pub standing_by : Result (Unit {0}) LinkEnd → MailStatus
 standing_by (Ok _) = standing.Stands
 standing_by (Err end.Memory) = standing.OutOfMemory
-standing_by (Err e) = standing.Fell (fall.Linked e)
+standing_by (Err e) = standing.Unserved (failure.Linked e)
 
 abbrev pub machine_by : Result (Unit {0}) LinkEnd → MachineState → MachineState
 machine_by (Err end.Memory) m = forgotten m
@@ -80,7 +80,7 @@ kept_by (Err end.Memory) kept = unready kept
 kept_by _ kept = kept
 
 -- The work came so far: by the machine that is held and the client that there are now, and by the counts of faults since it began.
-pub record CameTo (machine : Machine) (client : ClientState) (how : Standing) (was now : Faults) (p : Progress) : Type 0 where
+pub record CameTo (machine : Machine) (client : ClientState) (how : MailStatus) (was now : Faults) (p : Progress) : Type 0 where
   pub held : HoldsMachine p.machine machine
   pub standing_is : p.standing ≡ how
   pub in_life : StandsInLife p.left client

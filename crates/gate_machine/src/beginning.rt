@@ -10,7 +10,7 @@ ghost use Rattle.gate_machine.specs.Progress.{Progress, CameTo, idle};
 ghost use Rattle.gate_machine.specs.Beginning.{Dials, RunsRound, Settles, AsksThen, DialsTo, BeginsTo};
 
 use crate::machine::Machine;
-use crate::standing::{CommitEnd, Fall, Standing};
+use crate::standing::{CommitEnd, MailFailure, MailStatus};
 use gate_world::{Chance, Link, Secrets};
 use imap_client::Client;
 use std::alloc::Global;
@@ -22,13 +22,13 @@ fn dial<W: Link + Secrets>(
     client: &mut Client,
     world: &mut W,
     user: &[u8],
-) -> Standing
+) -> MailStatus
     requires { client.old.alive ≡ false }
     ensures run { Adds (W.tape world.old) (W.tape world.new) (λ es. (before : MachineState) → HoldsMachine before machine.old → (after : Progress)
         × Dials user.now (W.hidden world.old).password (idle before) es after
         × CameTo machine.new client.new result (W.faults world.old) (W.faults world.new) after) }
-    ensures alive { result ≡ Standing.Stands → client.new.alive ≡ true }
-    ensures machine { result ≡ Standing.Stands → machine.new ≡ machine.old }
+    ensures alive { result ≡ MailStatus.Stands → client.new.alive ≡ true }
+    ensures machine { result ≡ MailStatus.Stands → machine.new ≡ machine.old }
     ensures alone { LinkAlone (W.faults world.old) (W.faults world.new) }
     ensures hidden { W.hidden world.new ≡ W.hidden world.old }
 {
@@ -37,13 +37,13 @@ fn dial<W: Link + Secrets>(
 }
 
 // The round.
-fn ask<L: Link>(machine: &mut Machine, client: &mut Client, link: &mut L) -> Standing
+fn ask<L: Link>(machine: &mut Machine, client: &mut Client, link: &mut L) -> MailStatus
     requires alive { client.old.alive ≡ true }
     requires ready { IsSome machine.old.known }
     ensures run { Adds (L.tape link.old) (L.tape link.new) (λ es. (before : Progress) (was : Faults)
-        → CameTo machine.old client.old Standing.Stands was (L.faults link.old) before
+        → CameTo machine.old client.old MailStatus.Stands was (L.faults link.old) before
         → (after : Progress) × RunsRound before es after × CameTo machine.new client.new result was (L.faults link.new) after) }
-    ensures ready { result ≡ Standing.Stands → IsSome machine.new.known }
+    ensures ready { result ≡ MailStatus.Stands → IsSome machine.new.known }
     ensures alone { LinkAlone (L.faults link.old) (L.faults link.new) }
     ensures hidden { L.hidden link.new ≡ L.hidden link.old }
 {
@@ -57,11 +57,11 @@ fn ask<L: Link>(machine: &mut Machine, client: &mut Client, link: &mut L) -> Sta
 }
 
 // What the round told is served.
-fn settle(machine: &mut Machine) -> Standing
+fn settle(machine: &mut Machine) -> MailStatus
     requires { IsSome machine.old.known }
-    ensures run { (before : Progress) (client : ClientState) (was now : Faults) → CameTo machine.old client Standing.Stands was now before
+    ensures run { (before : Progress) (client : ClientState) (was now : Faults) → CameTo machine.old client MailStatus.Stands was now before
         → (after : Progress) × Settles before [] after × CameTo machine.new client result was now after }
-    ensures ready { result ≡ Standing.Stands → IsSome machine.new.known }
+    ensures ready { result ≡ MailStatus.Stands → IsSome machine.new.known }
 {
     let Some(known) = machine.known.take() else {
         unreachable!()
@@ -69,28 +69,28 @@ fn settle(machine: &mut Machine) -> Standing
     match known.commit() {
         Ok(known) => {
             machine.known = Some(known);
-            Standing::Stands
+            MailStatus::Stands
         }
-        Err(CommitEnd::Spent) => Standing::Fell(Fall::Spent),
-        Err(CommitEnd::Memory) => Standing::OutOfMemory,
+        Err(CommitEnd::Spent) => MailStatus::Unserved(MailFailure::Spent),
+        Err(CommitEnd::Memory) => MailStatus::OutOfMemory,
     }
 }
 
 // The round, and what it told is served.
-fn ask_and_settle<L: Link>(machine: &mut Machine, client: &mut Client, link: &mut L) -> Standing
+fn ask_and_settle<L: Link>(machine: &mut Machine, client: &mut Client, link: &mut L) -> MailStatus
     requires alive { client.old.alive ≡ true }
     requires ready { IsSome machine.old.known }
     ensures run { Adds (L.tape link.old) (L.tape link.new) (λ es. (before : Progress) (was : Faults)
-        → CameTo machine.old client.old Standing.Stands was (L.faults link.old) before
+        → CameTo machine.old client.old MailStatus.Stands was (L.faults link.old) before
         → (after : Progress) × AsksThen before es after × CameTo machine.new client.new result was (L.faults link.new) after) }
-    ensures ready { result ≡ Standing.Stands → IsSome machine.new.known }
+    ensures ready { result ≡ MailStatus.Stands → IsSome machine.new.known }
     ensures alone { LinkAlone (L.faults link.old) (L.faults link.new) }
     ensures hidden { L.hidden link.new ≡ L.hidden link.old }
 {
     match ask(machine, client, link) {
-        Standing::Stands => settle(machine),
-        Standing::Fell(why) => Standing::Fell(why),
-        Standing::OutOfMemory => Standing::OutOfMemory,
+        MailStatus::Stands => settle(machine),
+        MailStatus::Unserved(why) => MailStatus::Unserved(why),
+        MailStatus::OutOfMemory => MailStatus::OutOfMemory,
     }
 }
 
@@ -100,19 +100,19 @@ fn live<W: Link + Secrets>(
     client: &mut Client,
     world: &mut W,
     user: &[u8],
-) -> Standing
+) -> MailStatus
     requires dead { client.old.alive ≡ false }
     requires ready { IsSome machine.old.known }
     ensures run { Adds (W.tape world.old) (W.tape world.new) (λ es. (before : MachineState) → HoldsMachine before machine.old
         → DialsTo user.now (W.hidden world.old).password before machine.new client.new result (W.faults world.old) (W.faults world.new) es) }
-    ensures ready { result ≡ Standing.Stands → IsSome machine.new.known }
+    ensures ready { result ≡ MailStatus.Stands → IsSome machine.new.known }
     ensures alone { LinkAlone (W.faults world.old) (W.faults world.new) }
     ensures hidden { W.hidden world.new ≡ W.hidden world.old }
 {
     match dial(machine, client, world, user) {
-        Standing::Stands => ask_and_settle(machine, client, world),
-        Standing::Fell(why) => Standing::Fell(why),
-        Standing::OutOfMemory => Standing::OutOfMemory,
+        MailStatus::Stands => ask_and_settle(machine, client, world),
+        MailStatus::Unserved(why) => MailStatus::Unserved(why),
+        MailStatus::OutOfMemory => MailStatus::OutOfMemory,
     }
 }
 
@@ -124,16 +124,16 @@ pub fn begin<W: Link + Chance + Secrets>(
     client: &mut Client,
     world: &mut W,
     user: &[u8],
-) -> Standing
+) -> MailStatus
     requires { client.old.alive ≡ false }
     ensures run { Adds (W.tape world.old) (W.tape world.new) (λ es. (before : MachineState) → HoldsMachine before machine.old
         → BeginsTo user.now (W.hidden world.old).password before machine.new client.new result (W.faults world.old) (W.faults world.new) es) }
-    ensures ready { result ≡ Standing.Stands → IsSome machine.new.known }
+    ensures ready { result ≡ MailStatus.Stands → IsSome machine.new.known }
     ensures alone { LinkAlone (W.faults world.old) (W.faults world.new) }
     ensures hidden { W.hidden world.new ≡ W.hidden world.old }
 {
     match machine.make_ready(alloc, world) {
         Ok(()) => live(machine, client, world, user),
-        Err(_) => Standing::OutOfMemory,
+        Err(_) => MailStatus::OutOfMemory,
     }
 }

@@ -5,8 +5,9 @@ ghost use Rattle.email_bodies.specs.declared.error.BodyError.TheVariants as fail
 ghost use Rattle.gate_machine.specs.Lending.{AnswersBody, RunsOut};
 
 use email_bodies::{BodyCache, BodyError, BodySource, MessagePlace};
-use gate_world::{Bytes, Link};
+use gate_world::Link;
 use imap_client::{Client, LinkEnd};
+use octets::Bytes;
 use std::alloc::AllocError;
 use std::marker::Model;
 use told_mail::Mirror;

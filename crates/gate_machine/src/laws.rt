@@ -19,7 +19,7 @@ ghost use Rattle.gate_machine.specs.Progress.{Progress, is_up};
 ghost use Rattle.gate_machine.specs.ServedFolders.{HasFoldersTold, Serves, TellsServedFolders};
 ghost use Rattle.gate_machine.specs.Sources.{KnowsExchanges};
 ghost use Rattle.gate_machine.specs.Staying.{KeepsMaps, KeepsTouches};
-ghost use Rattle.gate_machine.specs.declared.standing.Standing.TheVariants.{OutOfMemory, Stands};
+ghost use Rattle.gate_machine.specs.declared.standing.MailStatus.TheVariants.{OutOfMemory, Stands};
 
 use imap_client::{fetches_keep_folders, finished_lives_go_on, obeyed_plans_end_ok};
 use mail_state::laws::emails_have_their_messages;

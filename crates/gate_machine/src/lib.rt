@@ -26,4 +26,4 @@ pub use laws::{
     served_folders_are_told, touches_stay,
 };
 pub use machine::Machine;
-pub use standing::{CommitEnd, Fall, Standing};
+pub use standing::{CommitEnd, MailFailure, MailStatus};

@@ -12,7 +12,7 @@ ghost use Rattle.gate_machine.specs.Beginning.{ReadiesTo};
 
 use crate::fetching::Fetching;
 use crate::known::{Known, Served};
-use crate::standing::{Fall, Standing};
+use crate::standing::{MailFailure, MailStatus};
 use gate_world::Chance;
 use imap_client::{Client, LinkEnd};
 use std::alloc::{AllocError, Global};
@@ -41,33 +41,33 @@ impl Machine {
     }
 
     /// What came to this end over the link stands, or not. Out of memory leaves the machine not ready.
-    pub(crate) fn end(&mut self, ended: Result<(), LinkEnd>) -> Standing
+    pub(crate) fn end(&mut self, ended: Result<(), LinkEnd>) -> MailStatus
         ensures standing { result ≡ standing_by ended }
         ensures machine { self.new ≡ kept_by ended self.old }
     {
         match ended {
-            Ok(()) => Standing::Stands,
+            Ok(()) => MailStatus::Stands,
             Err(end) => self.end_by(end),
         }
     }
 
-    fn end_by(&mut self, end: LinkEnd) -> Standing
+    fn end_by(&mut self, end: LinkEnd) -> MailStatus
         ensures standing { result ≡ standing_by (Err end) }
         ensures machine { self.new ≡ kept_by (Err end) self.old }
     {
         match end {
             LinkEnd::Memory => {
                 self.forget();
-                Standing::OutOfMemory
+                MailStatus::OutOfMemory
             }
-            _ => Standing::Fell(Fall::Linked(end)),
+            _ => MailStatus::Unserved(MailFailure::Linked(end)),
         }
     }
 
     /// What calls look at, and where they get bodies over this client's link life. The machine isn't ready until it is taken back.
     pub fn lend(&mut self, client: Client) -> (Served, Fetching)
         requires { IsSome self.old.known }
-        ensures lent { (p : Progress) (was now : Faults) → CameTo self.old client Standing.Stands was now p
+        ensures lent { (p : Progress) (was now : Faults) → CameTo self.old client MailStatus.Stands was now p
             → (k : KnownMail) × (p.machine.known ≡ Some k) × IsLentOf k result.0 × HoldsSource p result.1 was now }
         ensures same { IsSameSince result.0 result.1.told }
         ensures client { result.1.client ≡ client }

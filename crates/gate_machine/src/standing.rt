@@ -3,7 +3,7 @@ use imap_client::LinkEnd;
 
 /// Why the mail of a request can't be told.
 #[derive(Clone, Copy, Debug, PartialEq, Drop)]
-pub enum Fall {
+pub enum MailFailure {
     /// Connecting, or the round, came to this end, which is not out of memory.
     Linked(LinkEnd),
     /// The mail is new, and the place of the history would pass the last one.
@@ -12,11 +12,11 @@ pub enum Fall {
 
 /// Whether what was begun for a request stands.
 #[derive(Clone, Copy, Debug, PartialEq, Drop)]
-pub enum Standing {
+pub enum MailStatus {
     /// All of it does, the round too once it was made.
     Stands,
     /// Not all of it does, for this reason.
-    Fell(Fall),
+    Unserved(MailFailure),
     /// Not all of it does, as an allocation was refused.
     OutOfMemory,
 }

@@ -9,7 +9,7 @@ use Rattle.gate_world.specs.Sending.{Sends}
 use Rattle.gate_world.specs.declared.event.Event.{Event}
 use Rattle.gate_world.specs.declared.event.Event.TheVariants.{Accepted, NoMore, ClientDone, FrontFailed}
 use Rattle.gate_world.specs.declared.outside.Failed.{Failed}
-use Rattle.http_door.specs.declared.asking.AskError.TheVariants as unread
+use Rattle.http_requests.specs.declared.asking.AskError.TheVariants as unread
 use Rattle.gate_world.specs.Tape.{Adds}
 use Rattle.gate_world.proofs.Joins.{join}
 use Rattle.email_bodies.specs.Asking.{BodyAsk, AreAsked, NoneAsked, OneMore, AreTried, AllAnswered, LastLacks, AreDue}
@@ -20,10 +20,10 @@ use Rattle.imap_client.specs.LinkLife.{ClientState}
 use Rattle.imap_client.specs.Rounds.{CountsOn}
 use Rattle.mail_state.specs.History.{MailHistory}
 use Rattle.mail_state.specs.State.{IsStateOf}
-use Rattle.jmap_methods.specs.declared.method_error.MethodError.{MethodError}
-use Rattle.jmap_methods.specs.declared.method_error.MethodError.TheVariants.{ServerUnavailable}
-use Rattle.gate_machine.specs.Progress.{Progress, Bears, CameTo, idle}
-use Rattle.gate_machine.specs.Beginning.{BeginsTo}
+use Rattle.jmap_arguments.specs.declared.method_error.MethodError.{MethodError}
+use Rattle.jmap_arguments.specs.declared.method_error.MethodError.TheVariants.{ServerUnavailable}
+use Rattle.gate_machine.specs.Progress.{Progress, Bears, CameTo, idle, is_up}
+use Rattle.gate_machine.specs.Beginning.{BeginsTo, PreparesMail}
 use Rattle.gate_machine.specs.Fetching.{AllAsked, NoBodies}
 use Rattle.gate_machine.specs.History.{KnownMail}
 use Rattle.gate_machine.specs.Kept.{ServedMail}
@@ -31,30 +31,33 @@ use Rattle.gate_machine.specs.Lending.{KeepsOutside, HoldsSource, IsLentOf, Mome
 use Rattle.gate_machine.specs.Holding.{HoldsMachine, unready}
 use Rattle.gate_machine.specs.Machine.{MachineState, forgotten}
 use Rattle.gate_machine.specs.declared.machine.Machine.{Machine}
-use Rattle.gate_machine.specs.declared.standing.Standing.{Standing}
-use Rattle.gate_machine.specs.declared.standing.Standing.TheVariants.{Stands, Fell, OutOfMemory}
-use Rattle.gate_machine.specs.declared.standing.Fall.{Fall}
+use Rattle.gate_machine.specs.declared.standing.MailStatus.{MailStatus}
+use Rattle.gate_machine.specs.declared.standing.MailStatus.TheVariants.{Stands, Unserved, OutOfMemory}
+use Rattle.gate_machine.specs.declared.standing.MailFailure.{MailFailure}
 use Rattle.gate_machine.proofs.Asking.{AsksShort, AsksThese, Answers, Lacks, asked_in_vain, asked_these, bodies_stay}
 use Rattle.gate_machine.proofs.Stages.{holds_none, stays_borne, up_is}
-use Rattle.gate_calls.specs.declared.mail.Over.{Over}
+use Rattle.gate_calls.specs.declared.mail.CallContext.{CallContext}
 use Rattle.gate_calls.specs.Asking.{AsksAndMakes}
-use Rattle.gate_calls.specs.Mailings.{Mailing, MailAndUploads, AreOf, error_of, mailing_by}
+use Rattle.gate_calls.specs.Mailings.{Mailing, MailAndUploads, AreOf, error_of, mail_at, mailing_by}
 use Rattle.gate_calls.proofs.Calling.{none_asked}
 use Rattle.gate_serving.specs.declared.door.Door.{Door}
 use Rattle.gate_serving.specs.declared.gate.Gate.{Gate}
 use Rattle.gate_serving.specs.declared.response.Response.{Response}
-use Rattle.gate_serving.specs.declared.served.Served.{Served}
-use Rattle.gate_serving.specs.declared.served.Served.TheVariants as served
-use Rattle.gate_serving.specs.Answers.{Answer, AsksFirst, IsAnswer, IsResponse, KeepsUpload, MayKeepUpload, TakesMemory, no_memory_text, spelled}
+use Rattle.gate_serving.specs.declared.outcomes.ClientOutcome.{ClientOutcome}
+use Rattle.gate_serving.specs.declared.outcomes.ClientOutcome.TheVariants as served
+use Rattle.gate_serving.specs.Answers.{Answer, KeepsUpload, MayKeepUpload, TakesMemory, no_memory_text, spelled}
+use Rattle.gate_serving.specs.Doing.{Does, RunsOut}
 use Rattle.gate_serving.specs.GateState.{GateState, unready_state}
 use Rattle.gate_serving.specs.Requests.{Account, Asking, Calls, Problem, Session, Upload, Download, Refused, ReadsAsking, asks_for_mail}
 use Rattle.gate_serving.specs.Segment.{Replies, Answered, LacksReading, LacksAnswering, Segment, NoneComes, NotAccepted, Left, Unasked, Replied, reply_blamed, blamed, went, unsent}
 use Rattle.gate_serving.specs.Segment.{blame_front}
 use Rattle.gate_serving.specs.Run.{AddsSegment}
-use Rattle.gate_serving.specs.Work.{NoMail, WithMail}
-use Rattle.gate_serving.specs.reading.Replying.{Finishes, IsMadeOver, IsMade, AnswersTo, machine_left, RepliesToAsking, IsUnread, RepliesBy, SendsReply, Serves}
+use Rattle.gate_serving.specs.RequestWork.{RequestWork, NoMail, WithMail}
+use Rattle.gate_serving.specs.reading.OneMail.{AsksFirst, IsAnswer, IsResponse}
+use Rattle.gate_serving.specs.reading.Replying.{Finishes, IsMade, AnswersTo, machine_left, RepliesToAsking, IsUnread, RepliesBy, SendsReply, Serves}
 use Rattle.gate_serving.specs.Gates.{GateHolds, RestStays, account_by}
 use Rattle.gate_serving.specs.reading.Texts.{text_sent}
+use Rattle.gate_serving.proofs.Doing.{all_asked, does_over_mail, does_without, lacks_over_mail, lacks_without}
 use Rattle.gate_serving.proofs.Gates.{same_account}
 
 -- ---- counts
@@ -135,58 +138,68 @@ keeps_for_mail (Refused refusal) uploads needs = refl
 abbrev came_to : Progress → Result Response AllocError → Gate → GateState
 came_to done result gate = record { machine = machine_left result done.machine; uploads = gate.uploads }
 
-made_over : (door : Door) (account : Account) (asking : Asking) (begun answered : Progress) (asks : List BodyAsk) (before after : GateState) (gone : List (List ℕ))
-    (result : Result Response AllocError) → asks_for_mail asking ≡ true → gone ≡ before.uploads → after.uploads ≡ before.uploads
-    → IsMadeOver door account gone asking begun asks answered result
-    → IsMade door account (mailing_by begun.standing begun.machine.known) asking asks before after (record answered { left = None }) result
-made_over door account asking begun answered asks before after gone (Ok r) needs same stays made = (
-  subst (λ (u : List (List ℕ)). IsResponse door account (record { mail = mailing_by begun.standing begun.machine.known; uploads = u }) asking asks (text_sent r))
-      (same ∙ sym stays) made.0,
-  made.1,
-  subst (λ (u : List (List ℕ)). KeepsUpload asking before.uploads u) (sym stays) (keeps_for_mail asking before.uploads needs),
-)
-made_over door account asking begun answered asks before after gone (Err e) needs same stays made = (
-  takes_for_mail asking true needs refl,
-  subst (λ (u : List (List ℕ)). AreDue (AsksFirst (record { mail = mailing_by begun.standing begun.machine.known; uploads = u }) asking) asks) same made,
-)
+-- the work on what needs the mail, where it came to this
+worked : {account : Account} {asking : Asking} {machine : MachineState} {begun answered : Progress} {xs ys doing : List Event} {came : Option Answer}
+    (ending : List Event) (uploads : List (List ℕ)) → asks_for_mail asking ≡ true → PreparesMail account.user account.password machine xs begun
+    → Does account uploads asking begun doing answered came → HangsUp (is_up answered.left) ending → ys ≡ doing ++ ending
+    → RequestWork account uploads machine asking (xs ++ ys) came (record answered { left = None })
+worked {begun = begun} {answered = answered} {xs = xs} {doing = doing} ending uploads needs prepares does hangs whole =
+    WithMail needs (record {
+      begun = begun;
+      answered = answered;
+      beginning = xs;
+      doing = doing;
+      ending = ending;
+      prepares = prepares;
+      does = does;
+      hangs_up = hangs;
+      whole = ap (λ (l : List Event). xs ++ l) whole;
+      after_is = refl;
+    })
+
+made_over : {door : Door} {account : Account} {asking : Asking} {begun : Progress} {kept : Machine} {was now : Faults} {xs ys : List Event} (before after : GateState)
+    (gone : List (List ℕ)) (result : Result Response AllocError) → asks_for_mail asking ≡ true → gone ≡ before.uploads → after.uploads ≡ before.uploads
+    → PreparesMail account.user account.password before.machine xs begun → (finishes : Finishes door account gone asking begun kept was now result ys)
+    → IsMade door account asking before after (xs ++ ys) (record finishes.answered { left = None }) result
+made_over {account = account} {asking = asking} {begun = begun} before after gone (Ok r) needs same stays prepares finishes =
+    let response = finishes.made.0 in
+    let is_answer : IsAnswer account (record { mail = mail_at begun; uploads = after.uploads }) asking finishes.asks response.answer =
+    subst (λ (u : List (List ℕ)). IsAnswer account (record { mail = mail_at begun; uploads = u }) asking finishes.asks response.answer) (same ∙ sym stays) response.is_answer in (
+      response.answer,
+      worked finishes.ending after.uploads needs prepares
+          (does_over_mail account after.uploads asking response.answer needs is_answer (all_asked finishes.calls_ask finishes.made.1)) finishes.hangs_up finishes.whole,
+      response.text_is,
+      finishes.made.1,
+      subst (λ (u : List (List ℕ)). KeepsUpload asking before.uploads u) (sym stays) (keeps_for_mail asking before.uploads needs),
+    )
+made_over {asking = asking} {begun = begun} before after gone (Err e) needs same stays prepares finishes =
+    let due : AreDue (AsksFirst (record { mail = mail_at begun; uploads = before.uploads }) asking) finishes.asks =
+    subst (λ (u : List (List ℕ)). AreDue (AsksFirst (record { mail = mail_at begun; uploads = u }) asking) finishes.asks) same finishes.made in (
+      takes_for_mail asking true needs refl,
+      worked finishes.ending before.uploads needs prepares (RunsOut (lacks_over_mail before.uploads asking needs due finishes.calls_ask)) finishes.hangs_up finishes.whole,
+    )
 
 -- the way to the mail, and then the answer over it
-pub answers_over : {machine : Machine} {client : ClientState} {how : Standing} {was then now : Faults} {xs ys : List Event} (gate before : Gate) (secrets : Hidden)
+pub answers_over : {machine : Machine} {client : ClientState} {how : MailStatus} {was then now : Faults} {xs ys : List Event} (gate before : Gate) (secrets : Hidden)
     (asking : Asking) (result : Result Response AllocError) (s : GateState) (begun : BeginsTo before.user secrets.password s.machine machine client how was then xs)
     → Finishes before.door (account_by before secrets) before.uploads asking begun.after gate.machine was now result ys → GateHolds s before
     → asks_for_mail asking ≡ true → gate.uploads ≡ before.uploads
     → (t : GateState) × GateHolds t gate × AnswersTo before.door (account_by before secrets) asking s t was now result (xs ++ ys)
-answers_over {xs = xs} gate before secrets asking result s begun finishes holds needs same =
+answers_over gate before secrets asking result s begun finishes holds needs same =
     let after : GateState = came_to finishes.answered result gate in (
       after,
       record { machine = finishes.held; uploads = refl },
       record {
-        mail = mailing_by begun.after.standing begun.after.machine.known;
-        asks = finishes.asks;
         done = record finishes.answered { left = None };
-        work = WithMail needs (record {
-          begun = begun.after;
-          answered = finishes.answered;
-          beginning = xs;
-          fetching = finishes.fetching;
-          ending = finishes.ending;
-          prepares = begun.begins;
-          mail_is = refl;
-          calls_ask = finishes.calls_ask;
-          hangs_up = finishes.hangs_up;
-          whole = ap (λ (l : List Event). xs ++ l) finishes.whole;
-          after_is = refl;
-        });
         machine_is = refl;
         bears = finishes.bears;
         may = inl (same ∙ holds.uploads);
-        made = made_over before.door (account_by before secrets) asking begun.after finishes.answered finishes.asks s after before.uploads result needs holds.uploads
-            (same ∙ holds.uploads) finishes.made;
+        made = made_over s after before.uploads result needs holds.uploads (same ∙ holds.uploads) begun.begins finishes;
       },
     )
 
 -- memory ran out on the way: the link life is over, and the machine isn't ready
-pub finishes_nothing : {door : Door} {account : Account} {uploads : List (List ℕ)} {asking : Asking} {machine : Machine} {client : ClientState} {how : Standing}
+pub finishes_nothing : {door : Door} {account : Account} {uploads : List (List ℕ)} {asking : Asking} {machine : Machine} {client : ClientState} {how : MailStatus}
     {p : Progress} {was then now : Faults} {ys : List Event} (kept : Machine) (e : AllocError) → CameTo machine client how was then p → kept.known ≡ None
     → HangsUp client.alive ys → NoFault then now → Finishes door account uploads asking p kept was now (Err e) ys
 finishes_nothing {uploads = uploads} {asking = asking} {client = client} {p = p} {was = was} {then = then} {now = now} {ys = ys} kept e came none hangs same =
@@ -200,11 +213,11 @@ finishes_nothing {uploads = uploads} {asking = asking} {client = client} {p = p}
       whole = refl;
       held = holds_none (forgotten p.machine) kept none;
       bears = stays_borne p.blamed was then now came.bears same;
-      made = none_due (AsksFirst (record { mail = mailing_by p.standing p.machine.known; uploads = uploads }) asking);
+      made = none_due (AsksFirst (record { mail = mail_at p; uploads = uploads }) asking);
     }
 
 -- the way to the mail, and then what finishes the answer, whoever's the user's text and the secrets were called
-pub answers_on : {machine : Machine} {client : ClientState} {how : Standing} {was then now : Faults} {xs ys : List Event} {user : List ℕ} {h : Hidden} (gate before : Gate)
+pub answers_on : {machine : Machine} {client : ClientState} {how : MailStatus} {was then now : Faults} {xs ys : List Event} {user : List ℕ} {h : Hidden} (gate before : Gate)
     (secrets : Hidden) (asking : Asking) (result : Result Response AllocError) (s : GateState) → user ≡ before.user → h ≡ secrets → asks_for_mail asking ≡ true
     → gate.uploads ≡ before.uploads → BeginsTo user secrets.password s.machine machine client how was then xs
     → ((p : Progress) → CameTo machine client how was then p → Finishes before.door (account_by before h) before.uploads asking p gate.machine was now result ys)
@@ -217,7 +230,7 @@ answers_on {machine} {client} {how} {was} {then} {now} {xs} {ys} gate before sec
     (finishes begun.after begun.came)) holds needs same
 
 -- the same where the answer is known to be none
-pub finishes_lacking : {door : Door} {account : Account} {uploads : List (List ℕ)} {asking : Asking} {machine : Machine} {client : ClientState} {how : Standing}
+pub finishes_lacking : {door : Door} {account : Account} {uploads : List (List ℕ)} {asking : Asking} {machine : Machine} {client : ClientState} {how : MailStatus}
     {p : Progress} {was then now : Faults} {ys : List Event} {e : AllocError} (kept : Machine) (result : Result Response AllocError) → result ≡ Err e
     → CameTo machine client how was then p → OnErr result (kept.known ≡ None) → HangsUp client.alive ys → NoFault then now
     → Finishes door account uploads asking p kept was now result ys
@@ -226,14 +239,14 @@ finishes_lacking kept (Err f) is came none hangs same = finishes_nothing kept f 
 
 -- ---- over the mail that was told
 
-holds_stands : (p : Progress) (k : KnownMail) → p.standing ≡ Stands → p.machine.known ≡ Some k → mailing_by p.standing p.machine.known ≡ Ok k.history
+holds_stands : (p : Progress) (k : KnownMail) → p.standing ≡ Stands → p.machine.known ≡ Some k → mail_at p ≡ Ok k.history
 holds_stands p k stands ready = (λ i. mailing_by (stands i) (ready i))
 
 not_lacking : (p q : Progress) → q.standing ≡ p.standing → p.standing ≡ Stands → q.standing ≢ OutOfMemory
 not_lacking p q same stands out = let both : Stands ≡ OutOfMemory = sym (same ∙ stands) ∙ out in cc
 
 -- what was lent, and what was asked of it
-module _ {door : Door} {account : Account} {uploads : List (List ℕ)} {asking : Asking} {machine kept : Machine} {client : ClientState} {served : ServedMail} {over : Over}
+module _ {door : Door} {account : Account} {uploads : List (List ℕ)} {asking : Asking} {machine kept : Machine} {client : ClientState} {served : ServedMail} {over : CallContext}
     {m n : Moment} {tape : Option (List Event)} {now : Faults}
     (lent : (p : Progress) (was then : Faults) → CameTo machine client Stands was then p
     → (k : KnownMail) × (p.machine.known ≡ Some k) × IsLentOf k served × HoldsSource p m.source was then)
@@ -363,9 +376,9 @@ no_asks account e uploads (Download blob media) asks answer is = is.0
 no_asks account e uploads (Refused refusal) asks answer is = is.0
 
 -- the response without mail, once the link life is over
-pub finished_untold : {door : Door} {account : Account} {uploads : List (List ℕ)} {asking : Asking} {machine kept : Machine} {client : ClientState} {how : Fall} {p : Progress}
-    {was then now : Faults} {ys : List Event} {over : Over} (error : MethodError) (result : Result Response AllocError) → asks_for_mail asking ≡ true
-    → CameTo machine client (Fell how) was then p → error ≡ error_of how → HangsUp client.alive ys → NoFault then now
+pub finished_untold : {door : Door} {account : Account} {uploads : List (List ℕ)} {asking : Asking} {machine kept : Machine} {client : ClientState} {how : MailFailure} {p : Progress}
+    {was then now : Faults} {ys : List Event} {over : CallContext} (error : MethodError) (result : Result Response AllocError) → asks_for_mail asking ≡ true
+    → CameTo machine client (Unserved how) was then p → error ≡ error_of how → HangsUp client.alive ys → NoFault then now
     → ((r : Response) → result ≡ Ok r → (asks : List BodyAsk) × ((o : MailAndUploads) → AreOf o over → IsResponse door account o asking asks (text_sent r)))
     → AreOf (record { mail = Err error; uploads = uploads }) over → HoldsMachine (machine_left result p.machine) kept
     → Finishes door account uploads asking p kept was now result ys
@@ -381,15 +394,15 @@ finished_untold {uploads = uploads} {asking = asking} {client = client} {p = p} 
       whole = refl;
       held = held;
       bears = stays_borne p.blamed was then now came.bears same;
-      made = none_due (AsksFirst (record { mail = mailing_by p.standing p.machine.known; uploads = uploads }) asking);
+      made = none_due (AsksFirst (record { mail = mail_at p; uploads = uploads }) asking);
     }
 finished_untold {door} {account} {uploads} {asking} {client = client} {how = how} {p = p} {was = was} {then = then} {now = now} {ys = ys} error
     (Ok r) needs came is hangs same made of held =
     let so = made r refl in
     let response : IsResponse door account (record { mail = Err error; uploads = uploads }) asking so.0 (text_sent r) = so.1 (record { mail = Err error; uploads = uploads }) of in
     let none : so.0 ≡ [] = no_asks account error uploads asking so.0 response.answer response.is_answer in
-    let mail_is : mailing_by p.standing p.machine.known ≡ Err error =
-    ap (λ (s : Standing). mailing_by s p.machine.known) came.standing_is ∙ ap (λ (x : MethodError). let y : Mailing = Err x in y) (sym is) in
+    let mail_is : mail_at p ≡ Err error =
+    ap (λ (s : MailStatus). mailing_by s p.machine.known) came.standing_is ∙ ap (λ (x : MethodError). let y : Mailing = Err x in y) (sym is) in
     record {
       asks = [];
       answered = p;
@@ -403,13 +416,13 @@ finished_untold {door} {account} {uploads} {asking} {client = client} {how = how
       made = (
         subst (λ (x : Mailing). IsResponse door account (record { mail = x; uploads = uploads }) asking [] (text_sent r)) (sym mail_is)
             (subst (λ (asks : List BodyAsk). IsResponse door account (record { mail = Err error; uploads = uploads }) asking asks (text_sent r)) none response),
-        (λ out. let both : Fell how ≡ OutOfMemory = sym came.standing_is ∙ out in cc),
+        (λ out. let both : Unserved how ≡ OutOfMemory = sym came.standing_is ∙ out in cc),
       );
     }
 
 -- the response that was made, whoever's account it was called
 pub made_untold : {S : Type 0} (A : S → MessagePlace → Option (List ℕ) → S → Type 0) (L : S → MessagePlace → S → Type 0) (before after : S) {door : Door} {asking : Asking}
-    {over : Over} (AreAll : List BodyAsk → Type 0) (made result : Result Response AllocError) (answered_by : Hidden → Account) (secrets : Hidden) → result ≡ made
+    {over : CallContext} (AreAll : List BodyAsk → Type 0) (made result : Result Response AllocError) (answered_by : Hidden → Account) (secrets : Hidden) → result ≡ made
     → AsksAndMakes A L before after made (λ r asks. (h : Hidden) (o : MailAndUploads) → AreOf o over → IsResponse door (answered_by h) o asking asks (text_sent r)) AreAll
     → (r : Response) → result ≡ Ok r
     → (asks : List BodyAsk) × ((o : MailAndUploads) → AreOf o over → IsResponse door (answered_by secrets) o asking asks (text_sent r))
@@ -439,32 +452,29 @@ answers_at_once gate before secrets asking (Err e) f s holds needless rest held 
   record { machine = forgotten s.machine; uploads = gate.uploads },
   record { machine = held; uploads = refl },
   record {
-    mail = Err ServerUnavailable;
-    asks = [];
     done = idle s.machine;
-    work = NoMail needless refl refl refl refl;
     machine_is = refl;
     bears = bears_none f f (later_same f f refl);
     may = subst (λ (u : List (List ℕ)). MayKeepUpload asking u gate.uploads) holds.uploads may;
-    made = (takes, none_due (AsksFirst (record { mail = Err ServerUnavailable; uploads = s.uploads }) asking));
+    made = (takes, NoMail needless (RunsOut (lacks_without s.uploads asking s.machine needless)) refl refl);
   },
 )
 answers_at_once gate before secrets asking (Ok r) f s holds needless rest held may made takes =
-    let response = made.1 secrets in (
+    let response = made.1 secrets in
+    let same_answer : IsAnswer (account_by before secrets) (record { mail = Err ServerUnavailable; uploads = gate.uploads }) asking response.0 response.1.answer =
+    subst (λ (a : Account). IsAnswer a (record { mail = Err ServerUnavailable; uploads = gate.uploads }) asking response.0 response.1.answer)
+    (same_account {h = secrets} rest refl) response.1.is_answer in (
       record { machine = s.machine; uploads = gate.uploads },
       record { machine = held; uploads = refl },
       record {
-        mail = Err ServerUnavailable;
-        asks = response.0;
         done = idle s.machine;
-        work = NoMail needless (no_asks (account_by gate secrets) ServerUnavailable gate.uploads asking response.0 response.1.answer response.1.is_answer) refl refl refl;
         machine_is = refl;
         bears = bears_none f f (later_same f f refl);
         may = subst (λ (u : List (List ℕ)). MayKeepUpload asking u gate.uploads) holds.uploads may;
         made = (
-          subst (λ (d : Door). IsResponse d (account_by before secrets) (record { mail = Err ServerUnavailable; uploads = gate.uploads }) asking response.0 (text_sent r)) rest.door
-              (subst (λ (a : Account). IsResponse gate.door a (record { mail = Err ServerUnavailable; uploads = gate.uploads }) asking response.0 (text_sent r))
-              (same_account rest refl) response.1),
+          response.1.answer,
+          NoMail needless (does_without (account_by before secrets) gate.uploads asking s.machine response.0 response.1.answer needless same_answer) refl refl,
+          response.1.text_is ∙ ap (λ (d : Door). spelled d response.1.answer) rest.door,
           (λ out. cc),
           subst (λ (u : List (List ℕ)). KeepsUpload asking u gate.uploads) holds.uploads made.0,
         );
@@ -525,16 +535,15 @@ replied {asking = asking} {events = events} response a =
           asked = read;
           worked = events;
           asking = asking;
-          mail = a.mail;
-          asks = a.asks;
+          answer = a.made.0;
           done = a.done;
           whole = refl;
           reads = reads;
-          work = a.work;
-          stands = a.made.1;
+          work = a.made.1;
+          stands = a.made.3;
           machine_is = a.machine_is;
-          keeps = a.made.2;
-          is_response = a.made.0;
+          keeps = a.made.4;
+          text_is = a.made.2;
         },
         a.bears,
       );
@@ -551,14 +560,11 @@ replied_lacking {asking = asking} {events = events} e text text_is a =
           asked = read;
           worked = events;
           asking = asking;
-          mail = a.mail;
-          asks = a.asks;
           done = a.done;
           whole = refl;
           reads = reads;
           takes = a.made.0;
-          work = a.work;
-          due = a.made.1;
+          work = a.made.1;
           text_is = text_is;
           machine_is = ap (λ (m : MachineState). forgotten m) a.machine_is;
           may_keep = a.may;
@@ -585,7 +591,7 @@ read_lacking before was now response later reads text_is = (LacksReading reads t
 
 -- ---- sending
 
-unsent_rose : (sent : Result (Unit {0}) Failed) (how : Served) (mid now : ℕ) → mid ≤ now → how ≡ went sent → (how ≢ served.Whole → Rose mid now) → RoseBy (unsent sent) mid now
+unsent_rose : (sent : Result (Unit {0}) Failed) (how : ClientOutcome) (mid now : ℕ) → mid ≤ now → how ≡ went sent → (how ≢ served.Whole → Rose mid now) → RoseBy (unsent sent) mid now
 unsent_rose (Ok u) how mid now later is cause = omega arith
 unsent_rose (Err e) how mid now later is cause = cause (λ whole. cc)
 
@@ -604,7 +610,7 @@ bears_front n b was mid now bears alone rose =
 
 -- a client was sent its reply, and is done with
 sent_client : {door : Door} {account : Account} {before after : GateState} {was mid now : Faults} {xs : List Event} (ys : List Event) (text : List ℕ)
-    (sent : Result (Unit {0}) Failed) (how : Served)
+    (sent : Result (Unit {0}) Failed) (how : ClientOutcome)
     → (replies : Replies door account before xs text after) → Bears (reply_blamed replies) was mid → FrontAlone mid now → (how ≢ served.Whole → Rose mid.front now.front)
     → Sends text sent ys → how ≡ went sent
     → Serves door account before after was now how ((xs ++ ys) ++ ClientDone ∷ [])
@@ -621,14 +627,14 @@ pub bears_failed : (was mid : Faults) → Later was mid → Rose was.front mid.f
 bears_failed was mid later rose =
     record { link = rose_none was.link mid.link later.link; keep = rose_none was.keep mid.keep later.keep; front = rose; say = rose_none was.say mid.say later.say }
 
-not_none : (response : Response) (how : Served) (mid now : ℕ) → (how ≢ served.Whole → (Some response ≡ None) ⊎ Rose mid now) → how ≢ served.Whole → Rose mid now
+not_none : (response : Response) (how : ClientOutcome) (mid now : ℕ) → (how ≢ served.Whole → (Some response ≡ None) ⊎ Rose mid now) → how ≢ served.Whole → Rose mid now
 not_none response how mid now cause part = elim (cause part) [ inl none ↦ absurd (cc none) | inr rose ↦ rose ]
 
 -- all events of a client that isn't sent anything
 unsent_events : (all xs ys : List Event) → all ≡ Accepted ∷ ((xs ++ ys) ++ ClientDone ∷ []) → ys ≡ [] → all ≡ Accepted ∷ (xs ++ ClientDone ∷ [])
 unsent_events all xs ys is none = is ∙ (λ i. Accepted ∷ ((ap (λ (l : List Event). xs ++ l) none ∙ append-nil xs) i ++ ClientDone ∷ []))
 
-unread_client : (door : Door) (account : Account) (before after : GateState) (was mid now : Faults) (xs ys all : List Event) (how : Served) → Later was mid → FrontAlone mid now
+unread_client : (door : Door) (account : Account) (before after : GateState) (was mid now : Faults) (xs ys all : List Event) (how : ClientOutcome) → Later was mid → FrontAlone mid now
     → IsUnread door account.token was mid xs → after ≡ before → how ≡ served.Part → all ≡ Accepted ∷ (xs ++ ClientDone ∷ [])
     → (segment : Segment door account before all how after) × Bears (blamed segment) was now
 unread_client door account before after was mid now xs ys all how later alone (inl ended) same is all_is = (
@@ -641,7 +647,7 @@ unread_client door account before after was mid now xs ys all how later alone (i
 )
 
 -- a client that came is answered
-pub serves_reply : (door : Door) (account : Account) (before after : GateState) (was mid now : Faults) (xs ys : List Event) (r : Option Response) (how : Served)
+pub serves_reply : (door : Door) (account : Account) (before after : GateState) (was mid now : Faults) (xs ys : List Event) (r : Option Response) (how : ClientOutcome)
     → Later was mid → FrontAlone mid now → (how ≢ served.Whole → (r ≡ None) ⊎ Rose mid.front now.front)
     → RepliesBy door account before after was mid r xs → SendsReply r how ys → Serves door account before after was now how ((xs ++ ys) ++ ClientDone ∷ [])
 serves_reply door account before after was mid now xs ys (Some response) how later alone cause replies sends =
@@ -662,7 +668,7 @@ pub steps_none : {door : Door} {account : Account} {events : List Event} (s : Ga
 steps_none s was now is alone = record { segment = NoneComes is refl refl; bears = bears_none was now (later_front was now alone) }
 
 -- a client comes, and then what serving it adds
-pub steps_client : {door : Door} {account : Account} {before after : GateState} {mid now : Faults} {xs ys : List Event} (was : Faults) (how : Served) → xs ≡ Accepted ∷ []
+pub steps_client : {door : Door} {account : Account} {before after : GateState} {mid now : Faults} {xs ys : List Event} (was : Faults) (how : ClientOutcome) → xs ≡ Accepted ∷ []
     → FrontAlone was mid
     → Serves door account before after mid now how ys → AddsSegment door account before after was now how (xs ++ ys)
 steps_client {mid = mid} {now = now} {xs = xs} {ys = ys} was how is alone serves =
@@ -674,15 +680,15 @@ pub rose_earlier : (was mid now : ℕ) → was ≤ mid → Rose mid now → Rose
 rose_earlier was mid now later rose = omega arith
 
 -- a client that came isn't one that couldn't be accepted
-pub not_refused : (how : Served) → (how ≡ served.Whole) ⊎ (how ≡ served.Part) → how ≡ served.AcceptFault → ⊥
+pub not_refused : (how : ClientOutcome) → (how ≡ served.Whole) ⊎ (how ≡ served.Part) → how ≡ served.AcceptFault → ⊥
 not_refused how (inl whole) fault = let both : served.Whole ≡ served.AcceptFault = sym whole ∙ fault in cc
 not_refused how (inr part) fault = let both : served.Part ≡ served.AcceptFault = sym part ∙ fault in cc
 
-part_not_whole : (how : Served) → how ≡ served.Part → how ≡ served.Whole → ⊥
+part_not_whole : (how : ClientOutcome) → how ≡ served.Part → how ≡ served.Whole → ⊥
 part_not_whole how part whole = let both : served.Part ≡ served.Whole = sym part ∙ whole in cc
 
 -- the front failed where a client that came at the bare door isn't served whole
-pub part_rose : (r : Option Response) (how : Served) (was mid now : Faults) → Later was mid → FrontAlone mid now → (r ≡ None → Rose was.front mid.front)
+pub part_rose : (r : Option Response) (how : ClientOutcome) (was mid now : Faults) → Later was mid → FrontAlone mid now → (r ≡ None → Rose was.front mid.front)
     → (how ≢ served.Whole → (r ≡ None) ⊎ Rose mid.front now.front) → how ≡ served.Part → Rose was.front now.front
 part_rose r how was mid now later alone failed cause part = elim (cause (part_not_whole how part)) [
   | inl none ↦ later_rose 1 was.front mid.front now.front (failed none) alone.front

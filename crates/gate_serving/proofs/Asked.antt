@@ -3,11 +3,11 @@ use Rattle.std.proofs.Common.{arith, ◌≡◌, ◌⊎◌, ◌<◌, ◌≤◌, �
 use Rattle.std.proofs.lemmas.Bool.Decides.{nat_tests}
 use Rattle.gate_world.specs.declared.event.Event.{Event}
 use Rattle.blob_store.specs.declared.store.TheConstants.{MAX_UPLOAD_OCTETS}
-use Rattle.http_door.specs.Asking.{AsksOverHttp}
-use Rattle.http_door.specs.declared.asking.AskError.{AskError}
-use Rattle.http_door.specs.declared.asking.AskError.TheVariants as unread
-use Rattle.http_door.specs.declared.asking.HttpAsking.{HttpAsking}
-use Rattle.http_door.specs.declared.asking.HttpAsking.TheVariants as http
+use Rattle.http_requests.specs.Asking.{AsksOverHttp}
+use Rattle.http_requests.specs.declared.asking.AskError.{AskError}
+use Rattle.http_requests.specs.declared.asking.AskError.TheVariants as unread
+use Rattle.http_requests.specs.declared.asking.HttpAsking.{HttpAsking}
+use Rattle.http_requests.specs.declared.asking.HttpAsking.TheVariants as http
 use Rattle.jmap_core.specs.Request.{RequestData, requested}
 use Rattle.jmap_core.specs.declared.request.LimitName.TheVariants.{MaxSizeUpload}
 use Rattle.jmap_core.specs.declared.request.RequestError.{RequestError}
@@ -17,7 +17,7 @@ use Rattle.gate_serving.specs.declared.asking.Asking.TheVariants as asked
 use Rattle.gate_serving.specs.declared.door.Door.TheVariants.{Bare, Http}
 use Rattle.gate_serving.specs.Front.{GivesRequest}
 use Rattle.gate_serving.specs.Requests.{Asking, Calls, Problem, Upload, asked_by, upload_asked}
-use Rattle.jmap_methods.specs.Arguments.{account_id}
+use Rattle.jmap_arguments.specs.Arguments.{account_id}
 use Rattle.gate_serving.specs.reading.Askings.{AsksInBody, IsNoRequest, AsksOf, ReadsInto}
 
 -- ---- a body

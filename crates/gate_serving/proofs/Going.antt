@@ -1,8 +1,7 @@
 -- Histories go on from client to client, unless another epoch is drawn.
-use Rattle.std.proofs.Common.{◌++◌, ◌∷◌, List, [], ℕ, sym, ap, subst, inl, inr}
+use Rattle.std.proofs.Common.{◌++◌, ◌∷◌, List, [], ℕ, Option, refl, sym, ap, subst, inl, inr}
 use Rattle.gate_world.specs.declared.event.Event.{Event}
 use Rattle.gate_world.specs.declared.event.Event.TheVariants.{Accepted, ClientDone}
-use Rattle.gate_calls.specs.Mailings.{Mailing}
 use Rattle.email_bodies.specs.Asking.{BodyAsk}
 use Rattle.gate_machine.specs.Beginning.{PreparesMail}
 use Rattle.gate_machine.specs.Fetching.{CallsAsk}
@@ -11,13 +10,16 @@ use Rattle.gate_machine.specs.Machine.{MachineState}
 use Rattle.gate_machine.specs.Progress.{Progress}
 use Rattle.gate_machine.proofs.Going.{goes_after, goes_before, goes_both, goes_by_events, goes_nowhere, goes_still}
 use Rattle.gate_serving.specs.declared.door.Door.{Door}
-use Rattle.gate_serving.specs.declared.served.Served.{Served}
+use Rattle.gate_serving.specs.declared.outcomes.ClientOutcome.{ClientOutcome}
 use Rattle.gate_serving.specs.GateState.{GateState}
 use Rattle.gate_serving.specs.Histories.{WasHeld, IsRunKept}
 use Rattle.gate_serving.specs.Requests.{Account, Asking}
 use Rattle.gate_serving.specs.Run.{Run, Begun, Then}
 use Rattle.gate_serving.specs.Segment.{Replies, Answered, LacksReading, LacksAnswering, Segment, NoneComes, NotAccepted, Left, Unasked, Replied}
-use Rattle.gate_serving.specs.Work.{Work, NoMail, WithMail}
+use Rattle.gate_serving.specs.Answers.{Answer}
+use Rattle.gate_serving.specs.Doing.{Does}
+use Rattle.gate_serving.specs.RequestWork.{RequestWork, NoMail, WithMail}
+use Rattle.gate_serving.proofs.Doing.{does_through}
 
 -- what is proved of a request's way to the mail
 abbrev pub Law : Type 0
@@ -29,18 +31,26 @@ abbrev pub CallsLaw : Type 0
 CallsLaw = (before : Progress) (asks : List BodyAsk) (events : List Event) (after : Progress) → CallsAsk before asks events after
     → MachineGoesOn before.machine events after.machine
 
-works_on : Law → CallsLaw → {account : Account} {before : MachineState} {asking : Asking} {events : List Event} {mail : Mailing} {asks : List BodyAsk} {after : Progress}
-    → Work account before asking events mail asks after → MachineGoesOn before events after.machine
-works_on law calls {before = before} {events = events} {after = after} (NoMail apart no_asks none mail is) =
+-- what is done for what is asked
+does_on : CallsLaw → (account : Account) (uploads : List (List ℕ)) (asking : Asking) (p : Progress) (events : List Event) (q : Progress) (came : Option Answer)
+    → Does account uploads asking p events q came → MachineGoesOn p.machine events q.machine
+does_on calls =
+    does_through (λ p events q. MachineGoesOn p.machine events q.machine) (λ p. goes_still p.machine p.machine [] refl) calls
+    (λ p q r es fs one two. goes_both p.machine q.machine r.machine es fs one two)
+
+works_on : Law → CallsLaw → {account : Account} {uploads : List (List ℕ)} {before : MachineState} {asking : Asking} {events : List Event} {came : Option Answer}
+    {after : Progress} → RequestWork account uploads before asking events came after → MachineGoesOn before events after.machine
+works_on law calls {before = before} {events = events} {after = after} (NoMail apart does none is) =
     goes_still before after.machine events (ap (λ (p : Progress). p.machine) is)
-works_on law calls {account} {before} {events = events} {asks = asks} (WithMail needs work) =
+works_on law calls {account} {uploads} {before} {asking} {events} {came} (WithMail needs work) =
     let prepared : MachineGoesOn before work.beginning work.begun.machine =
     law account.user account.password before work.beginning work.begun work.prepares in
-    let answered : MachineGoesOn work.begun.machine work.fetching work.answered.machine = calls work.begun asks work.fetching work.answered work.calls_ask in
+    let answered : MachineGoesOn work.begun.machine work.doing work.answered.machine =
+    does_on calls account uploads asking work.begun work.doing work.answered came work.does in
     subst (λ (p : Progress). MachineGoesOn before events p.machine) (sym work.after_is)
-    (goes_by_events before work.answered.machine (work.beginning ++ (work.fetching ++ work.ending)) events work.whole
-    (goes_both before work.begun.machine work.answered.machine work.beginning (work.fetching ++ work.ending) prepared
-    (goes_after work.begun.machine work.answered.machine work.fetching work.ending answered)))
+    (goes_by_events before work.answered.machine (work.beginning ++ (work.doing ++ work.ending)) events work.whole
+    (goes_both before work.begun.machine work.answered.machine work.beginning (work.doing ++ work.ending) prepared
+    (goes_after work.begun.machine work.answered.machine work.doing work.ending answered)))
 
 replies_on : Law → CallsLaw → {door : Door} {account : Account} {before after : GateState} {events : List Event} {text : List ℕ} → Replies door account before events text after
     → MachineGoesOn before.machine events after.machine
@@ -61,7 +71,7 @@ goes_within a b replied heard goes =
     (goes_after a b (replied ++ heard) (ClientDone ∷ []) (goes_after a b replied heard goes))
 
 -- one client, or that there is none
-segment_on : Law → CallsLaw → {door : Door} {account : Account} {before after : GateState} {events : List Event} {how : Served} → Segment door account before events how after
+segment_on : Law → CallsLaw → {door : Door} {account : Account} {before after : GateState} {events : List Event} {how : ClientOutcome} → Segment door account before events how after
     → MachineGoesOn before.machine events after.machine
 segment_on law calls {before = before} {after = after} {events = events} (NoneComes is how_is same) =
     goes_still before.machine after.machine events (ap (λ (s : GateState). s.machine) same)
@@ -76,7 +86,7 @@ segment_on law calls {before = before} {after = after} {events = events} (Replie
     (goes_within before.machine after.machine a.replied a.heard (replies_on law calls a.replies))
 
 -- from a moment of a run to its end
-held_on : Law → CallsLaw → {door : Door} {account : Account} {before after : GateState} {events : List Event} {went : List Served} (run : Run door account before events went after)
+held_on : Law → CallsLaw → {door : Door} {account : Account} {before after : GateState} {events : List Event} {went : List ClientOutcome} (run : Run door account before events went after)
     (s : GateState) (since : List Event) → WasHeld run s since → MachineGoesOn s.machine since after.machine
 held_on law calls {before = before} Begun s since held =
     goes_still s.machine before.machine since (ap (λ (t : GateState). t.machine) (sym held.0))
@@ -87,7 +97,7 @@ held_on law calls (Then next run) s since held = elim held [
 ]
 
 -- from each moment of a run to each later one
-pub run_kept : Law → CallsLaw → {door : Door} {account : Account} {before after : GateState} {events : List Event} {went : List Served}
+pub run_kept : Law → CallsLaw → {door : Door} {account : Account} {before after : GateState} {events : List Event} {went : List ClientOutcome}
     (run : Run door account before events went after)
     → IsRunKept run
 run_kept law calls Begun = tt

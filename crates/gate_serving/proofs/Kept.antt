@@ -1,22 +1,29 @@
 -- The bodies that are kept were told, from client to client.
-use Rattle.std.proofs.Common.{◌≡◌, ◌⊎◌, ℕ, List, Option, Some, None, sym, ◌∙◌, ap, subst, inl, inr}
+use Rattle.std.proofs.Common.{◌≡◌, ◌⊎◌, ℕ, List, Option, Some, None, Result, sym, ◌∙◌, ap, subst, inl, inr}
 use Rattle.gate_world.specs.declared.event.Event.{Event}
 use Rattle.email_bodies.specs.Asking.{BodyAsk}
-use Rattle.gate_calls.specs.Mailings.{Mailing}
+use Rattle.serde_json.specs.Data.{Data}
+use Rattle.result_references.specs.Call.{CallData}
+use Rattle.jmap_arguments.specs.declared.method_error.MethodError.{MethodError}
+use Rattle.jmap_arguments.specs.declared.using.Using.{Using}
+use Rattle.gate_calls.specs.Calling.{Asked, CallsState, DoesCall, Reads, DoesCalls, NoCalls, MoreCalls, ReadsInVain, LacksNext, AfterLast, InCall, LacksCalls}
+use Rattle.gate_calls.specs.ToldBodies.{CallTells, DoneTell, LacksTells}
 use Rattle.gate_machine.specs.Beginning.{PreparesMail}
-use Rattle.gate_machine.specs.Fetching.{CallsAsk}
+use Rattle.gate_machine.specs.Fetching.{AllAsked, CallsAsk}
 use Rattle.gate_machine.specs.History.{KnownMail}
 use Rattle.gate_machine.specs.KeptBodies.{CallsTell, KeepsBody}
 use Rattle.gate_machine.specs.Machine.{MachineState}
 use Rattle.gate_machine.specs.Progress.{Progress}
-use Rattle.gate_serving.specs.KeptBodies.{ReplyTells, RunTells, SegmentTells, WorkTells}
+use Rattle.gate_serving.specs.Answers.{Answer}
+use Rattle.gate_serving.specs.Doing.{Does, Comes, RunsOut}
+use Rattle.gate_serving.specs.KeptBodies.{DoesTell, ReplyTells, RunTells, SegmentTells, WorkTells}
 use Rattle.gate_serving.specs.declared.door.Door.{Door}
-use Rattle.gate_serving.specs.declared.served.Served.{Served}
+use Rattle.gate_serving.specs.declared.outcomes.ClientOutcome.{ClientOutcome}
 use Rattle.gate_serving.specs.GateState.{GateState}
-use Rattle.gate_serving.specs.Requests.{Account, Asking}
+use Rattle.gate_serving.specs.Requests.{Account, Asking, Calls, Problem, Session, Upload, Download, Refused}
 use Rattle.gate_serving.specs.Run.{Run, Begun, Then}
 use Rattle.gate_serving.specs.Segment.{Replies, Answered, LacksReading, LacksAnswering, Segment, NoneComes, NotAccepted, Left, Unasked, Replied}
-use Rattle.gate_serving.specs.Work.{Work, NoMail, WithMail}
+use Rattle.gate_serving.specs.RequestWork.{RequestWork, NoMail, WithMail}
 
 -- what is proved of a request's way to the mail, and of its calls
 abbrev pub PreparedLaw : Type 0
@@ -37,15 +44,66 @@ module _ (law : PreparedLaw) (calls : CallsLaw) (b : ℕ × List ℕ) where
   keeps_none : (m : MachineState) → m.known ≡ None → KeepsBody m b → ⊥
   keeps_none m none (k, known, among) = none_known k (sym none ∙ known)
 
-  work_keeps : {account : Account} {before : MachineState} {asking : Asking} {events : List Event} {mail : Mailing} {asks : List BodyAsk} {after : Progress}
-      (work : Work account before asking events mail asks after) → KeepsBody after.machine b → KeepsBody before b ⊎ WorkTells work b
-  work_keeps {before = before} {after = after} (NoMail apart no_asks none mail is) keeps = inl (keeps_same before after.machine (ap (λ (p : Progress). p.machine) is) keeps)
-  work_keeps {account} {before} {asks = asks} {after = after} (WithMail needs work) keeps =
-      elim (calls work.begun asks work.fetching work.answered work.calls_ask b
+  -- ---- calls
+
+  call_keeps : {uses : Using} {uploads : List (List ℕ)} {earlier : List CallData} {call : CallData} {s t : CallsState} {asks : List Asked} {result : Result Data MethodError}
+      {events : List Event} (does : DoesCall uses uploads earlier call s asks result events t) → KeepsBody t.progress.machine b
+      → KeepsBody s.progress.machine b ⊎ CallTells does b
+  call_keeps {s = s} {t = t} {events = events} (Reads bodies answers asked is created) keeps = calls s.progress bodies events t.progress (AllAsked asked) b keeps
+
+  done_keep : {uses : Using} {uploads : List (List ℕ)} {s t : CallsState} {cs responses : List CallData} {asks : List Asked} {events : List Event}
+      (does : DoesCalls uses uploads s cs asks responses events t) → KeepsBody t.progress.machine b → KeepsBody s.progress.machine b ⊎ DoneTell does b
+  done_keep NoCalls keeps = inl keeps
+  done_keep (MoreCalls next rest) keeps = elim (call_keeps next.does keeps) [
+    | inr told ↦ inr (inr told)
+    | inl mid ↦ elim (done_keep rest mid) [ inl first ↦ inl first | inr told ↦ inr (inl told) ]
+  ]
+
+  next_keeps : {uses : Using} {uploads : List (List ℕ)} {earlier later : List CallData} {mid : CallsState} {events : List Event} {q : Progress}
+      (lacks : LacksNext uses uploads earlier mid events q later) → KeepsBody q.machine b → KeepsBody mid.progress.machine b ⊎ LacksTells lacks b
+  next_keeps {mid = mid} {q = q} (AfterLast none is) keeps = inl (keeps_same mid.progress.machine q.machine (ap (λ (p : Progress). p.machine) is) keeps)
+  next_keeps {mid = mid} {events = events} {q = q} (InCall (ReadsInVain tried asked due)) keeps = calls mid.progress tried events q asked b keeps
+
+  lacks_keep : {uses : Using} {uploads : List (List ℕ)} {cs : List CallData} {s : CallsState} {events : List Event} {q : Progress}
+      (lacks : LacksCalls uses uploads s cs events q) → KeepsBody q.machine b
+      → KeepsBody s.progress.machine b ⊎ (DoneTell lacks.does b ⊎ LacksTells lacks.lacks b)
+  lacks_keep lacks keeps = elim (next_keeps lacks.lacks keeps) [
+    | inr told ↦ inr (inr told)
+    | inl mid ↦ elim (done_keep lacks.does mid) [ inl first ↦ inl first | inr told ↦ inr (inl told) ]
+  ]
+
+  -- ---- the work
+
+  nothing_keeps : (p q : Progress) → q ≡ p → KeepsBody q.machine b → KeepsBody p.machine b
+  nothing_keeps p q is keeps = keeps_same p.machine q.machine (ap (λ (x : Progress). x.machine) is) keeps
+
+  does_keep : (account : Account) (uploads : List (List ℕ)) (asking : Asking) (p : Progress) (events : List Event) (q : Progress) (came : Option Answer)
+      (does : Does account uploads asking p events q came) → KeepsBody q.machine b → KeepsBody p.machine b ⊎ DoesTell asking does b
+  does_keep account uploads (Calls request) p events q came (Comes asks answer does) keeps =
+      done_keep does.does (nothing_keeps does.done.progress q does.after_is keeps)
+  does_keep account uploads (Problem e) p events q came (Comes asks answer does) keeps = inl (nothing_keeps p q does.after_is keeps)
+  does_keep account uploads Session p events q came (Comes asks answer does) keeps = inl (nothing_keeps p q does.after_is keeps)
+  does_keep account uploads (Upload media octets) p events q came (Comes asks answer does) keeps = inl (nothing_keeps p q does.after_is keeps)
+  does_keep account uploads (Download blob media) p events q came (Comes asks answer does) keeps = calls p does.bodies events q (AllAsked does.asked) b keeps
+  does_keep account uploads (Refused refusal) p events q came (Comes asks answer does) keeps = inl (nothing_keeps p q does.after_is keeps)
+  does_keep account uploads (Calls request) p events q came (RunsOut lacks) keeps = lacks_keep lacks keeps
+  does_keep account uploads (Problem e) p events q came (RunsOut lacks) keeps = inl (nothing_keeps p q lacks.1 keeps)
+  does_keep account uploads Session p events q came (RunsOut lacks) keeps = inl (nothing_keeps p q lacks.1 keeps)
+  does_keep account uploads (Upload media octets) p events q came (RunsOut lacks) keeps = inl (nothing_keeps p q lacks.1 keeps)
+  does_keep account uploads (Download blob media) p events q came (RunsOut lacks) keeps = calls p lacks.tried events q lacks.asked b keeps
+  does_keep account uploads (Refused refusal) p events q came (RunsOut lacks) keeps = inl (nothing_keeps p q lacks.1 keeps)
+
+  work_keeps : {account : Account} {uploads : List (List ℕ)} {before : MachineState} {asking : Asking} {events : List Event} {came : Option Answer} {after : Progress}
+      (work : RequestWork account uploads before asking events came after) → KeepsBody after.machine b → KeepsBody before b ⊎ WorkTells work b
+  work_keeps {before = before} {after = after} (NoMail apart does none is) keeps = inl (keeps_same before after.machine (ap (λ (p : Progress). p.machine) is) keeps)
+  work_keeps {account} {uploads} {before} {asking} {came = came} {after = after} (WithMail needs work) keeps =
+      elim (does_keep account uploads asking work.begun work.doing work.answered came work.does
       (keeps_same work.answered.machine after.machine (ap (λ (p : Progress). p.machine) work.after_is) keeps)) [
         | inl begun ↦ inl (law account.user account.password before work.beginning work.begun work.prepares b begun)
         | inr told ↦ inr told
       ]
+
+  -- ---- clients
 
   replies_keep : {door : Door} {account : Account} {before after : GateState} {events : List Event} {text : List ℕ} (replies : Replies door account before events text after)
       → KeepsBody after.machine b → KeepsBody before.machine b ⊎ ReplyTells replies b
@@ -56,7 +114,7 @@ module _ (law : PreparedLaw) (calls : CallsLaw) (b : ℕ × List ℕ) where
   same_state : {before after : GateState} → after ≡ before → KeepsBody after.machine b → KeepsBody before.machine b
   same_state {before} {after} is keeps = keeps_same before.machine after.machine (ap (λ (s : GateState). s.machine) is) keeps
 
-  segment_keeps : {door : Door} {account : Account} {before after : GateState} {events : List Event} {how : Served} (segment : Segment door account before events how after)
+  segment_keeps : {door : Door} {account : Account} {before after : GateState} {events : List Event} {how : ClientOutcome} (segment : Segment door account before events how after)
       → KeepsBody after.machine b → KeepsBody before.machine b ⊎ SegmentTells segment b
   segment_keeps (NoneComes is how_is same) keeps = inl (same_state same keeps)
   segment_keeps (NotAccepted is how_is same) keeps = inl (same_state same keeps)
@@ -64,7 +122,7 @@ module _ (law : PreparedLaw) (calls : CallsLaw) (b : ℕ × List ℕ) where
   segment_keeps (Unasked asked is reads how_is same) keeps = inl (same_state same keeps)
   segment_keeps (Replied a) keeps = replies_keep a.replies keeps
 
-  run_keeps : {door : Door} {account : Account} {before after : GateState} {events : List Event} {went : List Served} (run : Run door account before events went after)
+  run_keeps : {door : Door} {account : Account} {before after : GateState} {events : List Event} {went : List ClientOutcome} (run : Run door account before events went after)
       → KeepsBody after.machine b → KeepsBody before.machine b ⊎ RunTells run b
   run_keeps Begun keeps = inl keeps
   run_keeps (Then next run) keeps = elim (segment_keeps next.segment keeps) [
@@ -73,6 +131,6 @@ module _ (law : PreparedLaw) (calls : CallsLaw) (b : ℕ × List ℕ) where
   ]
 
 -- a body that is kept after a run was kept before it, or a fetch in it told it
-pub bodies_told : PreparedLaw → CallsLaw → (door : Door) (account : Account) (before after : GateState) (events : List Event) (went : List Served)
+pub bodies_told : PreparedLaw → CallsLaw → (door : Door) (account : Account) (before after : GateState) (events : List Event) (went : List ClientOutcome)
     (run : Run door account before events went after) (b : ℕ × List ℕ) → KeepsBody after.machine b → KeepsBody before.machine b ⊎ RunTells run b
 bodies_told law calls door account before after events went run b keeps = run_keeps law calls b run keeps

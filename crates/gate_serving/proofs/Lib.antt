@@ -5,9 +5,10 @@ pub mod Answering
 mod Gates
 mod Ids
 mod Running
+mod Doing
 mod Needs
 mod Going
-mod OneResponse
+mod OneAnswer
 mod Knowing
 mod Kept
 mod ServedAnswers

@@ -13,9 +13,9 @@ use Rattle.email_get.specs.Blobs.{FindsBlob, OctetsFound}
 use Rattle.email_get.proofs.Due.{due_blob}
 use Rattle.jmap_core.specs.Request.{RequestData}
 use Rattle.result_references.specs.Call.{CallData}
-use Rattle.jmap_methods.specs.declared.method_error.MethodError.{MethodError}
+use Rattle.jmap_arguments.specs.declared.method_error.MethodError.{MethodError}
 use Rattle.gate_calls.specs.declared.mail.Mail.TheVariants as code
-use Rattle.gate_calls.specs.declared.mail.Over.{Over}
+use Rattle.gate_calls.specs.declared.mail.CallContext.{CallContext}
 use Rattle.gate_calls.specs.Asking.{AsksAndMakes}
 use Rattle.gate_calls.specs.Calls.{AnswersCalls, FirstCallsAsk}
 use Rattle.mail_maps.specs.Rows.{Rows}
@@ -28,13 +28,14 @@ use Rattle.gate_calls.proofs.Due.{due_calls}
 use Rattle.gate_calls.proofs.Meaning.{mail_untold}
 use Rattle.gate_serving.specs.declared.door.Door.{Door}
 use Rattle.gate_serving.specs.declared.response.Response.{Response}
-use Rattle.gate_serving.specs.Answers.{Answer, AsksFirst, DownloadAsks, IsDownload, IsResponse, calls_text, found_answer, json_answer, problem_answer, spelled, untold_problem}
+use Rattle.gate_serving.specs.Answers.{Answer, DownloadAsks, IsDownload, calls_text, found_answer, json_answer, problem_answer, spelled, untold_problem}
 use Rattle.gate_serving.specs.Requests.{Account, Asking, Calls, Download}
+use Rattle.gate_serving.specs.reading.OneMail.{AsksFirst, IsResponse}
 use Rattle.gate_serving.specs.reading.Texts.{text_sent}
 use Rattle.gate_serving.proofs.Answering.{NoAnswer, NoLack}
 
 -- the rows of the code's mail are those of the mail
-told_rows : (over : Over) (state : Bor MailState) → over.mail ≡ code.Told state → (o : MailAndUploads) → AreOf o over
+told_rows : (over : CallContext) (state : Bor MailState) → over.mail ≡ code.Told state → (o : MailAndUploads) → AreOf o over
     → (h : MailHistory) × (o.mail ≡ Ok h) × (state.now.rows.numbered.rows ≡ h.numbered.rows)
 told_rows over state is o of = by o.mail (subst (λ (x : Mail). IsMailOf o.mail x) is of.mail)
   where
@@ -43,7 +44,7 @@ told_rows over state is o of = by o.mail (subst (λ (x : Mail). IsMailOf o.mail 
     by (Err e) never = absurd never
 
 -- what is found in them is found in the mail
-finds_over : (over : Over) (state : Bor MailState) (o : MailAndUploads) → AreOf o over → (h : MailHistory) → state.now.rows.numbered.rows ≡ h.numbered.rows
+finds_over : (over : CallContext) (state : Bor MailState) (o : MailAndUploads) → AreOf o over → (h : MailHistory) → state.now.rows.numbered.rows ≡ h.numbered.rows
     → {blob : List ℕ} {asks : List BodyAsk} {found : OctetsFound} → FindsBlob state.now.rows.numbered.rows over.uploads.now blob asks found
     → FindsBlob h.numbered.rows o.uploads blob asks found
 finds_over over state o of h rows {blob} {asks} {found} finds =
@@ -79,7 +80,7 @@ module _ {S : Type 0} (Answers : S → MessagePlace → Option (List ℕ) → S 
       vain_after Answers Lacks (FailsAfter (FindsBlob emails uploads id)) before after gives.asks gives.asked (due_blob emails uploads id gives.asks found gives.meant)
 
   -- where the mail can't be told
-  pub untold_made : (s : S) (door : Door) (over : Over) (e : MethodError) (blob : List ℕ) (media : Option (List ℕ)) (made : Result Response AllocError)
+  pub untold_made : (s : S) (door : Door) (over : CallContext) (e : MethodError) (blob : List ℕ) (media : Option (List ℕ)) (made : Result Response AllocError)
       → over.mail ≡ code.Untold e → IfOk made (λ r. text_sent r ≡ spelled door (problem_answer 404 (compact_text untold_problem)))
       → AsksAndMakes Answers Lacks s s made
       (λ r asks. (o : MailAndUploads) → AreOf o over → (answer : Answer) × IsDownload o.mail o.uploads blob media asks answer × (text_sent r ≡ spelled door answer))
@@ -99,7 +100,7 @@ module _ {S : Type 0} (Answers : S → MessagePlace → Option (List ℕ) → S 
       vain_at_once Answers Lacks (λ asks. (o : MailAndUploads) → AreOf o over → DownloadAsks o.mail o.uploads blob asks) s
 
   -- where it is told, by the state
-  pub told_made : (before after : S) (door : Door) (over : Over) (state : Bor MailState) (blob : List ℕ) (media : Option (List ℕ)) (made : Result Response AllocError)
+  pub told_made : (before after : S) (door : Door) (over : CallContext) (state : Bor MailState) (blob : List ℕ) (media : Option (List ℕ)) (made : Result Response AllocError)
       → over.mail ≡ code.Told state
       → AsksAndMakes Answers Lacks before after made (λ r asks. (found : OctetsFound) × FindsBlob state.now.rows.numbered.rows over.uploads.now blob asks found
       × (text_sent r ≡ spelled door (found_answer found media))) (FailsAfter (FindsBlob state.now.rows.numbered.rows over.uploads.now blob))
@@ -126,7 +127,7 @@ module _ {S : Type 0} (Answers : S → MessagePlace → Option (List ℕ) → S 
       subst (λ (mail : Mailing). DownloadAsks mail o.uploads blob asks) (sym t.1) (fails.0, finds_over over state o of t.0 t.2 fails.1)) makes
 
   -- the same as the response to what was asked
-  pub download_over : (before after : S) (door : Door) (account : Hidden → Account) (over : Over) (asking : Asking) (blob also : List ℕ) (media same : Option (List ℕ))
+  pub download_over : (before after : S) (door : Door) (account : Hidden → Account) (over : CallContext) (asking : Asking) (blob also : List ℕ) (media same : Option (List ℕ))
       (made : Result Response AllocError) → asking ≡ Download blob media → also ≡ blob → same ≡ media
       → AsksAndMakes Answers Lacks before after made
       (λ r asks. (o : MailAndUploads) → AreOf o over → (answer : Answer) × IsDownload o.mail o.uploads also same asks answer × (text_sent r ≡ spelled door answer))
@@ -157,12 +158,12 @@ module _ {S : Type 0} (Answers : S → MessagePlace → Option (List ℕ) → S 
   -- ---- calls
 
   -- the text of an answer that has the responses to calls
-  pub calls_made : (before after : S) (door : Door) (user base : List ℕ) (over : Over) (request : RequestData) (calls : List CallData) (responses shown : List CallData)
+  pub calls_made : (before after : S) (door : Door) (user base : List ℕ) (over : CallContext) (request : RequestData) (calls : List CallData) (responses shown : List CallData)
       (made : Result Response AllocError) → calls ≡ request.calls → shown ≡ responses
       → AsksAnd Answers Lacks before after (λ asks. (o : MailAndUploads) → AreOf o over → AnswersCalls request.uses o calls asks responses)
-      → IfOk made (λ r. text_sent r ≡ spelled door (json_answer 200 (calls_text user base shown request)))
+      → IfOk made (λ r. text_sent r ≡ spelled door (json_answer 200 (calls_text user base shown request.created)))
       → AsksAndMakes Answers Lacks before after made (λ r asks. (o : MailAndUploads) → AreOf o over → (responses : List CallData)
-      × AnswersCalls request.uses o request.calls asks responses × (text_sent r ≡ spelled door (json_answer 200 (calls_text user base responses request))))
+      × AnswersCalls request.uses o request.calls asks responses × (text_sent r ≡ spelled door (json_answer 200 (calls_text user base responses request.created))))
       (λ asks. (o : MailAndUploads) → AreOf o over → FirstCallsAsk request.uses o request.calls asks)
   calls_made before after door user base over request calls responses shown (Ok r) calls_are shown_is gives text_is =
       record {
@@ -171,7 +172,7 @@ module _ {S : Type 0} (Answers : S → MessagePlace → Option (List ℕ) → S 
         meant = λ o of. (
           responses,
           subst (λ (cs : List CallData). AnswersCalls request.uses o cs gives.asks responses) calls_are (gives.meant o of),
-          text_is ∙ ap (λ (rs : List CallData). spelled door (json_answer 200 (calls_text user base rs request))) shown_is,
+          text_is ∙ ap (λ (rs : List CallData). spelled door (json_answer 200 (calls_text user base rs request.created))) shown_is,
         );
       }
   calls_made before after door user base over request calls responses shown (Err e) calls_are shown_is gives text_is =
@@ -180,7 +181,7 @@ module _ {S : Type 0} (Answers : S → MessagePlace → Option (List ℕ) → S 
       (due_calls (gives.meant o of) firsts last is))
 
   -- there was no memory for the responses
-  pub calls_lacked : {X : Type 0} (Means : X → List BodyAsk → Type 0) (before after : S) (over : Over) (request : RequestData) (calls : List CallData)
+  pub calls_lacked : {X : Type 0} (Means : X → List BodyAsk → Type 0) (before after : S) (over : CallContext) (request : RequestData) (calls : List CallData)
       (result : Result X AllocError) (e : AllocError) → result ≡ Err e → calls ≡ request.calls
       → AsksInVain Answers Lacks (λ asks. (o : MailAndUploads) → AreOf o over → FirstCallsAsk request.uses o calls asks) before after
       → AsksAndMakes Answers Lacks before after result Means (λ asks. (o : MailAndUploads) → AreOf o over → FirstCallsAsk request.uses o request.calls asks)
@@ -191,10 +192,10 @@ module _ {S : Type 0} (Answers : S → MessagePlace → Option (List ℕ) → S 
 
 -- the response to method calls that were asked
 pub calls_over : {S : Type 0} (Answers : S → MessagePlace → Option (List ℕ) → S → Type 0) (Lacks : S → MessagePlace → S → Type 0) (before after : S) (door : Door)
-    (account : Hidden → Account) (user base : List ℕ) (over : Over) (asking : Asking) (request : RequestData) (made : Result Response AllocError)
+    (account : Hidden → Account) (user base : List ℕ) (over : CallContext) (asking : Asking) (request : RequestData) (made : Result Response AllocError)
     → ((h : Hidden) → (user ≡ (account h).user) × (base ≡ (account h).base)) → asking ≡ Calls request
     → AsksAndMakes Answers Lacks before after made (λ r asks. (o : MailAndUploads) → AreOf o over → (responses : List CallData)
-    × AnswersCalls request.uses o request.calls asks responses × (text_sent r ≡ spelled door (json_answer 200 (calls_text user base responses request))))
+    × AnswersCalls request.uses o request.calls asks responses × (text_sent r ≡ spelled door (json_answer 200 (calls_text user base responses request.created))))
     (λ asks. (o : MailAndUploads) → AreOf o over → FirstCallsAsk request.uses o request.calls asks)
     → AsksAndMakes Answers Lacks before after made
     (λ r asks. (h : Hidden) (o : MailAndUploads) → AreOf o over → IsResponse door (account h) o asking asks (text_sent r))
@@ -208,9 +209,9 @@ calls_over Answers Lacks before after door account user base over asking request
           let texts = named h in
           subst (λ (a : Asking). IsResponse door (account h) o a makes.asks (text_sent r)) (sym is)
           (record {
-            answer = json_answer 200 (calls_text (account h).user (account h).base so.0 request);
+            answer = json_answer 200 (calls_text (account h).user (account h).base so.0 request.created);
             is_answer = (so.0, so.1, refl);
-            text_is = so.2 ∙ (λ i. spelled door (json_answer 200 (calls_text (texts.0 i) (texts.1 i) so.0 request)));
+            text_is = so.2 ∙ (λ i. spelled door (json_answer 200 (calls_text (texts.0 i) (texts.1 i) so.0 request.created)));
           });
     }
 calls_over Answers Lacks before after door account user base over asking request (Err e) named is makes =
@@ -219,10 +220,10 @@ calls_over Answers Lacks before after door account user base over asking request
     (λ asks first o of. subst (λ (a : Asking). AsksFirst o a asks) (sym is) (first o of)) makes
 
 -- the response to calls that need no mail
-pub calls_without : {S : Type 0} (before after : S) (door : Door) (account : Hidden → Account) (user base : List ℕ) (over : Over) (o : MailAndUploads) (request : RequestData)
+pub calls_without : {S : Type 0} (before after : S) (door : Door) (account : Hidden → Account) (user base : List ℕ) (over : CallContext) (o : MailAndUploads) (request : RequestData)
     (made : Result Response AllocError) → ((h : Hidden) → (user ≡ (account h).user) × (base ≡ (account h).base)) → AreOf o over
     → AsksAndMakes NoAnswer NoLack before after made (λ r asks. (o : MailAndUploads) → AreOf o over → (responses : List CallData)
-    × AnswersCalls request.uses o request.calls asks responses × (text_sent r ≡ spelled door (json_answer 200 (calls_text user base responses request))))
+    × AnswersCalls request.uses o request.calls asks responses × (text_sent r ≡ spelled door (json_answer 200 (calls_text user base responses request.created))))
     (λ asks. (o : MailAndUploads) → AreOf o over → FirstCallsAsk request.uses o request.calls asks)
     → IfOk made (λ r. (h : Hidden) → (asks : List BodyAsk) × IsResponse door (account h) o (Calls request) asks (text_sent r))
 calls_without before after door account user base over o request (Ok r) named of makes = λ h.
@@ -230,9 +231,9 @@ calls_without before after door account user base over o request (Ok r) named of
     let is = named h in (
       makes.asks,
       record {
-        answer = json_answer 200 (calls_text (account h).user (account h).base so.0 request);
+        answer = json_answer 200 (calls_text (account h).user (account h).base so.0 request.created);
         is_answer = (so.0, so.1, refl);
-        text_is = so.2 ∙ (λ i. spelled door (json_answer 200 (calls_text (is.0 i) (is.1 i) so.0 request)));
+        text_is = so.2 ∙ (λ i. spelled door (json_answer 200 (calls_text (is.0 i) (is.1 i) so.0 request.created)));
       },
     )
 calls_without before after door account user base over o request (Err e) named of makes = tt

@@ -5,8 +5,8 @@ use Rattle.std.proofs.lemmas.Grind.{common_steps}
 use Rattle.gate_world.specs.Causes.{Faults, RoseBy, no_faults}
 use Rattle.gate_world.specs.declared.event.Event.{Event}
 use Rattle.gate_machine.specs.Progress.{Bears}
-use Rattle.gate_serving.specs.declared.served.Served.{Served}
-use Rattle.gate_serving.specs.declared.served.Served.TheVariants as served
+use Rattle.gate_serving.specs.declared.outcomes.ClientOutcome.{ClientOutcome}
+use Rattle.gate_serving.specs.declared.outcomes.ClientOutcome.TheVariants as served
 use Rattle.gate_serving.specs.declared.door.Door.{Door}
 use Rattle.gate_serving.specs.GateState.{GateState}
 use Rattle.gate_serving.specs.Requests.{Account}
@@ -33,7 +33,7 @@ bears_both f g was mid now a b =
 one_more : {X : Type 0} (xs : List X) (x : X) → length (xs ++ x ∷ []) ≡ length xs + 1
 one_more xs x = grind (arith, common_steps)
 
-all_one : (s : Served) → IsClient s → All IsClient (s ∷ [])
+all_one : (s : ClientOutcome) → IsClient s → All IsClient (s ∷ [])
 all_one s here = search rules
 
 -- none yet
@@ -41,7 +41,7 @@ pub begun : (door : Door) (account : Account) (s : GateState) (f : Faults) → R
 begun door account s f = record { went = []; run = Begun; came = search rules; counted = refl; bears = bears_none f }
 
 -- one more that came
-pub then_client : {door : Door} {account : Account} {s t u : GateState} {n : ℕ} {was mid now : Faults} {how : Served} {xs ys : List Event} {d : Door} {b : Account}
+pub then_client : {door : Door} {account : Account} {s t u : GateState} {n : ℕ} {was mid now : Faults} {how : ClientOutcome} {xs ys : List Event} {d : Door} {b : Account}
     → d ≡ door → b ≡ account → IsClient how → RunsTo door account s t n was mid xs → AddsSegment d b t u mid now how ys → RunsTo door account s u (n + 1) was now (xs ++ ys)
 then_client {door} {account} {s} {t} {u} {was = was} {mid = mid} {now = now} {how = how} {ys = ys} {b = b} here same client r steps =
     let step : AddsSegment door account t u mid now how ys = subst (λ (a : Account). AddsSegment door a t u mid now how ys) same
@@ -55,8 +55,8 @@ then_client {door} {account} {s} {t} {u} {was = was} {mid = mid} {now = now} {ho
     }
 
 -- the last
-pub then_last : {door : Door} {account : Account} {s t u : GateState} {n : ℕ} {was mid now : Faults} {how : Served} {xs ys : List Event} {d : Door} {b : Account} (most status : ℕ)
-    → d ≡ door → b ≡ account → ((went : List Served) → All IsClient went → length went ≡ n → Ends most (went ++ how ∷ []) status) → RunsTo door account s t n was mid xs
+pub then_last : {door : Door} {account : Account} {s t u : GateState} {n : ℕ} {was mid now : Faults} {how : ClientOutcome} {xs ys : List Event} {d : Door} {b : Account} (most status : ℕ)
+    → d ≡ door → b ≡ account → ((went : List ClientOutcome) → All IsClient went → length went ≡ n → Ends most (went ++ how ∷ []) status) → RunsTo door account s t n was mid xs
     → AddsSegment d b t u mid now how ys → IsServingRun door account s u most was now status (xs ++ ys)
 then_last {door} {account} {s} {t} {u} {was = was} {mid = mid} {now = now} {how = how} {ys = ys} {b = b} most status here same ends r steps =
     let step : AddsSegment door account t u mid now how ys = subst (λ (a : Account). AddsSegment door a t u mid now how ys) same
@@ -69,9 +69,9 @@ then_last {door} {account} {s} {t} {u} {was = was} {mid = mid} {now = now} {how 
     }
 
 -- a run ends with status 0 where fewer clients came than may, and no more come
-pub none_left : (n most : ℕ) → n < most → (went : List Served) → All IsClient went → length went ≡ n → Ends most (went ++ served.NoMore ∷ []) 0
+pub none_left : (n most : ℕ) → n < most → (went : List ClientOutcome) → All IsClient went → length went ≡ n → Ends most (went ++ served.NoMore ∷ []) 0
 none_left n most less went came counted = NoneLeft went refl came (omega (arith, counted)) refl
 
 -- a run ends with status 6 where fewer clients came than may, and accepting fails
-pub not_accepted : (n most : ℕ) → n < most → (went : List Served) → All IsClient went → length went ≡ n → Ends most (went ++ served.AcceptFault ∷ []) 6
+pub not_accepted : (n most : ℕ) → n < most → (went : List ClientOutcome) → All IsClient went → length went ≡ n → Ends most (went ++ served.AcceptFault ∷ []) 6
 not_accepted n most less went came counted = NotAccepted went refl came (omega (arith, counted)) refl

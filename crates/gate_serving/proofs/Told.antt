@@ -6,10 +6,10 @@ use Rattle.gate_world.specs.Sending.{Sends}
 use Rattle.gate_world.specs.declared.event.Event.{Event}
 use Rattle.gate_world.specs.declared.event.Event.TheVariants.{Accepted, ClientDone}
 use Rattle.gate_world.specs.declared.outside.Failed.{Failed}
-use Rattle.gate_machine.specs.declared.standing.Standing.TheVariants.{OutOfMemory}
+use Rattle.gate_machine.specs.declared.standing.MailStatus.TheVariants.{OutOfMemory}
 use Rattle.gate_serving.specs.declared.door.Door.{Door}
-use Rattle.gate_serving.specs.declared.served.Served.{Served}
-use Rattle.gate_serving.specs.declared.served.Served.TheVariants as served
+use Rattle.gate_serving.specs.declared.outcomes.ClientOutcome.{ClientOutcome}
+use Rattle.gate_serving.specs.declared.outcomes.ClientOutcome.TheVariants as served
 use Rattle.gate_serving.specs.Complete.{IsAnsweredFrom, IsReplyObeyed, IsSegmentObeyed, IsClientTold, NobodyComes, EndsEarly, IsAnswered, LacksMemory, IsRunTold}
 use Rattle.gate_serving.specs.Complete.{AreObeyedTold}
 use Rattle.gate_serving.specs.GateState.{GateState}
@@ -38,34 +38,31 @@ blameless f is = λ i. record {
 blamed_once : (f : Faults) → blame_front 1 f ≡ no_faults → ⊥
 blamed_once f is = never f.front (ap (λ (g : Faults). g.front) is)
 
-takes : (door : Door) (account : Account) (events replied heard : List Event) (text : List ℕ) (how : Served) (before after : GateState)
+takes : (door : Door) (account : Account) (events replied heard : List Event) (text : List ℕ) (how : ClientOutcome) (before after : GateState)
     → events ≡ Accepted ∷ ((replied ++ heard) ++ ClientDone ∷ []) → (a : AnswersAsking door account before replied text after) → Hears text heard → how ≡ served.Whole
-    → IsAnsweredFrom a.asking a.mail a.asks a.done ⊎ (a.done.standing ≡ OutOfMemory) → IsClientTold door account events how after
+    → IsAnsweredFrom account after.uploads a.asking a.answer a.done ⊎ (a.done.standing ≡ OutOfMemory) → IsClientTold door account events how after
 takes door account events replied heard text how before after is a hears whole (inl from) =
     IsAnswered record {
       asked = a.asked;
       worked = a.worked;
       heard = heard;
       asking = a.asking;
-      mail = a.mail;
-      asks = a.asks;
+      answer = a.answer;
       done = a.done;
-      text = text;
       whole = is ∙ (λ i. Accepted ∷ ((a.whole i ++ heard) ++ ClientDone ∷ []));
       reads = a.reads;
       answered = from;
       machine_is = a.machine_is;
-      is_response = a.is_response;
-      hears = hears;
+      hears = subst (λ (t : List ℕ). Hears t heard) a.text_is hears;
     } whole
 takes door account events replied heard text how before after is a hears whole (inr out) = absurd (a.stands out)
 
-told_by : AnsweredLaw → (door : Door) (account : Account) (before : GateState) (events replied heard : List Event) (text : List ℕ) (how : Served) (after : GateState)
+told_by : AnsweredLaw → (door : Door) (account : Account) (before : GateState) (events replied heard : List Event) (text : List ℕ) (how : ClientOutcome) (after : GateState)
     → events ≡ Accepted ∷ ((replied ++ heard) ++ ClientDone ∷ []) → (replies : Replies door account before replied text after) → Hears text heard → how ≡ served.Whole
     → IsReplyObeyed replies → reply_blamed replies ≡ no_faults → IsClientTold door account events how after
 told_by law door account before events replied heard text how after is (Answered a) hears whole obeyed none =
     takes door account events replied heard text how before after is a hears whole
-    (law account before.machine a.asking a.worked a.mail a.asks a.done a.work obeyed none)
+    (law account after.uploads before.machine a.asking a.worked a.answer a.done a.work obeyed none)
 told_by law door account before events replied heard text how after is (LacksReading reads text_is after_is) hears whole obeyed none =
     LacksMemory replied heard is (subst (λ (t : List ℕ). Hears t heard) text_is hears) whole
 told_by law door account before events replied heard text how after is (LacksAnswering a) hears whole obeyed none =
@@ -73,7 +70,7 @@ told_by law door account before events replied heard text how after is (LacksAns
 
 -- what was sent whole is told; what wasn't is blamed on the front
 told_sent : AnsweredLaw → (door : Door) (account : Account) (before : GateState) (events replied heard : List Event) (text : List ℕ) (sent : Result (Unit {0}) Failed)
-    (how : Served)
+    (how : ClientOutcome)
     (after : GateState) → events ≡ Accepted ∷ ((replied ++ heard) ++ ClientDone ∷ []) → (replies : Replies door account before replied text after) → Sends text sent heard
     → how ≡ went sent → IsReplyObeyed replies → blame_front (unsent sent) (reply_blamed replies) ≡ no_faults → IsClientTold door account events how after
 told_sent law door account before events replied heard text (Ok u) how after is replies sends how_is obeyed none =
@@ -81,7 +78,7 @@ told_sent law door account before events replied heard text (Ok u) how after is 
 told_sent law door account before events replied heard text (Err e) how after is replies sends how_is obeyed none = absurd (blamed_once (reply_blamed replies) none)
 
 -- what comes of one client or none, where the store obeyed and nothing is blamed
-pub told : AnsweredLaw → (door : Door) (account : Account) (before : GateState) (events : List Event) (how : Served) (after : GateState)
+pub told : AnsweredLaw → (door : Door) (account : Account) (before : GateState) (events : List Event) (how : ClientOutcome) (after : GateState)
     (segment : Segment door account before events how after) → IsSegmentObeyed segment → blamed segment ≡ no_faults → IsClientTold door account events how after
 told law door account before events how after (NoneComes is how_is same) obeyed none = NobodyComes is how_is
 told law door account before events how after (NotAccepted is how_is same) obeyed none = absurd (blamed_once no_faults none)
@@ -94,11 +91,11 @@ told law door account before events how after (Replied a) obeyed none =
 
 -- what is proved of each client
 abbrev pub ToldLaw : Type 0
-ToldLaw = (door : Door) (account : Account) (before : GateState) (events : List Event) (how : Served) (after : GateState)
+ToldLaw = (door : Door) (account : Account) (before : GateState) (events : List Event) (how : ClientOutcome) (after : GateState)
     (segment : Segment door account before events how after) → IsSegmentObeyed segment → blamed segment ≡ no_faults → IsClientTold door account events how after
 
 -- what comes of each client of a run for whom the store obeyed and of whom nothing is blamed
-pub run_told : ToldLaw → {door : Door} {account : Account} {before after : GateState} {events : List Event} {went : List Served} (run : Run door account before events went after)
+pub run_told : ToldLaw → {door : Door} {account : Account} {before after : GateState} {events : List Event} {went : List ClientOutcome} (run : Run door account before events went after)
     → IsRunTold run
 run_told law Begun = tt
 run_told law {door} {account} (Then next run) =
@@ -128,7 +125,7 @@ parts_none f g is = (
 )
 
 -- what comes of each client for whom the store obeyed, where nothing is blamed over the run
-pub run_quiet : ToldLaw → {door : Door} {account : Account} {before after : GateState} {events : List Event} {went : List Served} (run : Run door account before events went after)
+pub run_quiet : ToldLaw → {door : Door} {account : Account} {before after : GateState} {events : List Event} {went : List ClientOutcome} (run : Run door account before events went after)
     → run_blamed run ≡ no_faults → AreObeyedTold run
 run_quiet law Begun none = tt
 run_quiet law {door} {account} (Then next run) none =

@@ -4,22 +4,19 @@ use Rattle.serde_json.specs.Data.{unsigned, Data, number, string, object, no_mem
 use Rattle.serde_json.specs.Written.{compact_text}
 use Rattle.blob_store.specs.Uploads.{blob_id, TakesUpload}
 use Rattle.blob_store.specs.declared.store.TheConstants.{MAX_KEPT_OCTETS}
-use Rattle.http_door.specs.Responses.{http_response, json_media, problem_media, download_media}
-use Rattle.http_service.specs.Refusals.{refusal_status}
-use Rattle.jmap_core.specs.Problem.{text_of_problem, status_of as problem_status}
-use Rattle.jmap_core.specs.Request.{RequestData}
+use Rattle.http_requests.specs.Responses.{http_response, json_media, problem_media, download_media}
+use Rattle.jmap_core.specs.CreatedIds.{Ids}
 use Rattle.result_references.specs.Call.{CallData}
 use Rattle.jmap_core.specs.Response.{response_data}
-use Rattle.jmap_core.specs.Session.{session_data, session_state_text}
-use Rattle.gate_calls.specs.Calls.{AnswersCalls, FirstCallsAsk}
+use Rattle.jmap_core.specs.Session.{session_state_text}
 use Rattle.email_bodies.specs.Asking.{BodyAsk}
 use Rattle.email_get.specs.Asked.{FailsAfter}
 use Rattle.email_get.specs.Blobs.{FindsBlob, OctetsFound}
-use Rattle.gate_calls.specs.Mailings.{Mailing, MailAndUploads}
+use Rattle.gate_calls.specs.Mailings.{Mailing}
 use Rattle.gate_serving.specs.declared.door.Door.{Door}
 use Rattle.gate_serving.specs.declared.door.Door.TheVariants.{Bare, Http}
-use Rattle.gate_serving.specs.Requests.{Account, Asking, Calls, Problem, Session, Upload, Download, Refused}
-use Rattle.jmap_methods.specs.Arguments.{account_id}
+use Rattle.gate_serving.specs.Requests.{Asking, Upload, Refused}
+use Rattle.jmap_arguments.specs.Arguments.{account_id}
 
 -- a status of HTTP, and a body of this type
 pub record Answer : Type 0 where
@@ -38,9 +35,9 @@ empty_answer status = record { status = status; media = []; body = [] }
 
 -- ---- method calls
 
--- these responses to a request's calls, with the Session's state of this user and base
-unfoldable pub calls_text : List ℕ → List ℕ → List CallData → RequestData → List ℕ
-calls_text user base responses request = compact_text (response_data responses request.created (session_state_text user base))
+-- these responses to a request's calls and the ids that were created by then, with the Session's state of this user and base
+unfoldable pub calls_text : List ℕ → List ℕ → List CallData → Option Ids → List ℕ
+calls_text user base responses created = compact_text (response_data responses created (session_state_text user base))
 
 -- ---- uploads and downloads
 
@@ -83,25 +80,7 @@ abbrev pub DownloadAsks : Mailing → List (List ℕ) → List ℕ → List Body
 DownloadAsks (Ok h) uploads blob asks = FailsAfter (FindsBlob h.numbered.rows uploads blob) asks
 DownloadAsks (Err e) uploads blob asks = ⊥
 
--- ---- what is answered
-
--- The answer over this mail and these uploads, for which these bodies are asked: to method calls it has the responses to them.
-abbrev pub IsAnswer : Account → MailAndUploads → Asking → List BodyAsk → Answer → Type 0
-IsAnswer account over (Calls request) asks answer =
-    (responses : List CallData) × AnswersCalls request.uses over request.calls asks responses
-    × (answer ≡ json_answer 200 (calls_text account.user account.base responses request))
-IsAnswer account over (Problem e) asks answer = (asks ≡ []) × (answer ≡ problem_answer (problem_status e) (text_of_problem e))
-IsAnswer account over Session asks answer = (asks ≡ []) × (answer ≡ json_answer 200 (compact_text (session_data account.user account.base)))
-IsAnswer account over (Upload media octets) asks answer = (asks ≡ []) × (answer ≡ json_answer 201 (compact_text (upload_data media octets)))
-IsAnswer account over (Download blob media) asks answer = IsDownload over.mail over.uploads blob media asks answer
-IsAnswer account over (Refused refusal) asks answer = (asks ≡ []) × (answer ≡ empty_answer (refusal_status refusal))
-
--- These bodies are asked over this mail and these uploads for what is asked, of which the last one doesn't come: for a download, or for the first of
--- the calls.
-abbrev pub AsksFirst : MailAndUploads → Asking → List BodyAsk → Type 0
-AsksFirst over (Calls request) asks = FirstCallsAsk request.uses over request.calls asks
-AsksFirst over (Download blob media) asks = DownloadAsks over.mail over.uploads blob asks
-AsksFirst over _ asks = ⊥
+-- ---- how it is spelled
 
 -- each line ends so
 abbrev pub line_end : List ℕ
@@ -116,12 +95,6 @@ spelled Http answer = http_response answer.status answer.media answer.body
 abbrev pub TakesMemory : Asking → Type 0
 TakesMemory (Refused refusal) = ⊥
 TakesMemory _ = Unit {0}
-
--- the text of the answer, for which these bodies are asked
-pub record IsResponse (door : Door) (account : Account) (over : MailAndUploads) (asking : Asking) (asks : List BodyAsk) (text : List ℕ) : Type 0 where
-  pub answer : Answer
-  pub is_answer : IsAnswer account over asking asks answer
-  pub text_is : text ≡ spelled door answer
 
 -- out of memory (RFC 9110 section 15.6.4)
 abbrev pub no_memory_text : Door → List ℕ

@@ -1,39 +1,53 @@
 -- What a client is owed of whom nothing fails.
-use Rattle.std.specs.Prelude.{◌≡◌, ◌⊎◌, ◌++◌, ℕ, false, List, [], ◌∷◌, Some, Ok, Err}
+use Rattle.std.specs.Prelude.{◌≡◌, ◌⊎◌, ◌++◌, ℕ, false, List, [], ◌∷◌, Option, Some, Ok, Err}
 use Rattle.gate_world.specs.Causes.{no_faults}
 use Rattle.gate_world.specs.Octets.{Hears}
 use Rattle.gate_world.specs.declared.event.Event.{Event}
 use Rattle.gate_world.specs.declared.event.Event.TheVariants.{Accepted, NoMore, ClientDone}
-use Rattle.http_door.specs.declared.asking.AskError.TheVariants as unread
-use Rattle.email_bodies.specs.Asking.{BodyAsk}
+use Rattle.http_requests.specs.declared.asking.AskError.TheVariants as unread
 use Rattle.gate_machine.specs.History.{KnownMail}
-use Rattle.gate_machine.specs.Obeying.{AllCame, AreCallsObeyed, IsObeyedBeginning}
+use Rattle.gate_machine.specs.Obeying.{AreAsksObeyed, IsObeyedBeginning}
 use Rattle.gate_machine.specs.Progress.{Progress}
 use Rattle.gate_machine.specs.Machine.{MachineState}
-use Rattle.gate_calls.specs.Mailings.{Mailing}
+use Rattle.gate_calls.specs.Calling.{AllAskedCome, AreDoneObeyed, Asked}
+use Rattle.gate_calls.specs.Mailings.{mail_at}
 use Rattle.gate_serving.specs.declared.door.Door.{Door}
-use Rattle.gate_serving.specs.declared.served.Served.{Served}
-use Rattle.gate_serving.specs.declared.served.Served.TheVariants as served
-use Rattle.gate_serving.specs.Answers.{IsResponse, no_memory_text}
+use Rattle.gate_serving.specs.declared.outcomes.ClientOutcome.{ClientOutcome}
+use Rattle.gate_serving.specs.declared.outcomes.ClientOutcome.TheVariants as served
+use Rattle.gate_serving.specs.Answers.{Answer, no_memory_text, spelled}
+use Rattle.gate_serving.specs.Doing.{Answers, Does, Comes}
 use Rattle.gate_serving.specs.GateState.{GateState}
-use Rattle.gate_serving.specs.Requests.{Account, Asking, ReadsAsking, asks_for_mail}
+use Rattle.gate_serving.specs.Requests.{Account, Asking, Calls, Download, ReadsAsking, asks_for_mail}
 use Rattle.gate_serving.specs.Run.{Run, Begun, Then}
 use Rattle.gate_serving.specs.Segment.{Replies, Answered, LacksReading, LacksAnswering, Segment, NoneComes, NotAccepted, Left, Unasked, Replied, blamed}
-use Rattle.gate_serving.specs.Work.{Work, NoMail, WithMail}
+use Rattle.gate_serving.specs.RequestWork.{RequestWork, NoMail, WithMail}
 
 -- ---- a request
 
--- The store obeyed all that a request asks of it, where it asks anything.
-abbrev pub IsWorkObeyed : {account : Account} {before : MachineState} {asking : Asking} {events : List Event} {mail : Mailing} {asks : List BodyAsk}
-    {after : Progress}
-    → Work account before asking events mail asks after → Type 0
-IsWorkObeyed (NoMail a b c d e) = Unit {0}
-IsWorkObeyed (WithMail a work) = IsObeyedBeginning work.prepares × AreCallsObeyed work.calls_ask
+-- The store obeyed what is asked of it for an answer.
+abbrev pub IsDoneObeyed : {account : Account} {uploads : List (List ℕ)} (asking : Asking) {before : Progress} {events : List Event} {after : Progress}
+    {came : Option Answer} → Does account uploads asking before events after came → Type 0
+IsDoneObeyed (Calls request) (Comes asks answer does) = AreDoneObeyed does.does
+IsDoneObeyed (Download blob media) (Comes asks answer does) = AreAsksObeyed does.asked
+IsDoneObeyed asking does = Unit {0}
 
--- The calls are answered over the mail that is served then, and each body that they ask for comes; or none of them needs the mail.
-abbrev pub IsAnsweredFrom : Asking → Mailing → List BodyAsk → Progress → Type 0
-IsAnsweredFrom asking mail asks after =
-    ((asks_for_mail asking ≡ false) × (asks ≡ [])) ⊎ ((k : KnownMail) × (after.machine.known ≡ Some k) × (mail ≡ Ok k.history) × AllCame asks)
+-- The store obeyed all that a request asks of it, where it asks anything.
+abbrev pub IsWorkObeyed : {account : Account} {uploads : List (List ℕ)} {before : MachineState} {asking : Asking} {events : List Event}
+    {came : Option Answer} {after : Progress} → RequestWork account uploads before asking events came after → Type 0
+IsWorkObeyed (NoMail a does b c) = Unit {0}
+IsWorkObeyed {asking = asking} (WithMail a work) = IsObeyedBeginning work.prepares × IsDoneObeyed asking work.does
+
+-- What is asked is answered from the mail: it begins over what is served then, which is the history that is served after it too, and all that is
+-- asked for it comes; or it needs no mail.
+pub record IsAnsweredFrom (account : Account) (uploads : List (List ℕ)) (asking : Asking) (answer : Answer) (after : Progress) : Type 0 where
+  pub begun : Progress
+  pub answered : Progress
+  pub asks : List Asked
+  pub events : List Event
+  pub answers : Answers account uploads asking begun asks events answer answered
+  pub machine_is : after.machine ≡ answered.machine
+  pub from : ((asks_for_mail asking ≡ false) × (asks ≡ []))
+      ⊎ ((k : KnownMail) × (after.machine.known ≡ Some k) × (mail_at begun ≡ Ok k.history) × AllAskedCome asks)
 
 -- ---- a client
 
@@ -44,7 +58,7 @@ IsReplyObeyed (Answered a) = IsWorkObeyed a.work
 IsReplyObeyed (LacksReading a b c) = Unit {0}
 IsReplyObeyed (LacksAnswering a) = Unit {0}
 
-abbrev pub IsSegmentObeyed : {door : Door} {account : Account} {before : GateState} {events : List Event} {how : Served} {after : GateState}
+abbrev pub IsSegmentObeyed : {door : Door} {account : Account} {before : GateState} {events : List Event} {how : ClientOutcome} {after : GateState}
     → Segment door account before events how after → Type 0
 IsSegmentObeyed (NoneComes a b c) = Unit {0}
 IsSegmentObeyed (NotAccepted a b c) = Unit {0}
@@ -52,26 +66,23 @@ IsSegmentObeyed (Left asked a b c d) = Unit {0}
 IsSegmentObeyed (Unasked asked a b c d) = Unit {0}
 IsSegmentObeyed (Replied a) = IsReplyObeyed a.replies
 
--- The client takes the whole response to what it asked, whose calls are answered over the mail that is served from then on.
+-- The client takes the whole answer to what it asked, from the mail that is served from then on.
 pub record TakesResponse (door : Door) (account : Account) (events : List Event) (after : GateState) : Type 0 where
   pub asked : List Event
   pub worked : List Event
   pub heard : List Event
   pub asking : Asking
-  pub mail : Mailing
-  pub asks : List BodyAsk
+  pub answer : Answer
   pub done : Progress
-  pub text : List ℕ
   pub whole : events ≡ Accepted ∷ (((asked ++ worked) ++ heard) ++ ClientDone ∷ [])
   pub reads : ReadsAsking door account.token (Ok asking) asked
-  pub answered : IsAnsweredFrom asking mail asks done
+  pub answered : IsAnsweredFrom account after.uploads asking answer done
   pub machine_is : after.machine ≡ done.machine
-  pub is_response : IsResponse door account (record { mail = mail; uploads = after.uploads }) asking asks text
-  pub hears : Hears text heard
+  pub hears : Hears (spelled door answer) heard
 
 -- What comes of a client of whom nothing fails: it takes the whole response; or memory ran out, and it takes the text of that;
 -- or it ended its input inside its request; or no client comes.
-pub data IsClientTold (door : Door) (account : Account) (events : List Event) (how : Served) (after : GateState) : Type 0 where
+pub data IsClientTold (door : Door) (account : Account) (events : List Event) (how : ClientOutcome) (after : GateState) : Type 0 where
   NobodyComes : events ≡ NoMore ∷ [] → how ≡ served.NoMore → IsClientTold door account events how after
   EndsEarly : (asked : List Event) → events ≡ Accepted ∷ (asked ++ ClientDone ∷ []) → ReadsAsking door account.token (Err unread.Ended) asked
       → how ≡ served.Part
@@ -83,14 +94,14 @@ pub data IsClientTold (door : Door) (account : Account) (events : List Event) (h
 -- ---- a run
 
 -- What comes of each client of a run of whom nothing fails and for whom the store obeyed, whatever comes of the others.
-abbrev pub IsRunTold : {door : Door} {account : Account} {before after : GateState} {events : List Event} {went : List Served}
+abbrev pub IsRunTold : {door : Door} {account : Account} {before after : GateState} {events : List Event} {went : List ClientOutcome}
     → Run door account before events went after → Type 0
 IsRunTold Begun = Unit {0}
 IsRunTold {door} {account} (Then next run) =
     IsRunTold run × (IsSegmentObeyed next.segment → blamed next.segment ≡ no_faults → IsClientTold door account next.events next.how next.after)
 
 -- Each client of a run for whom the store obeyed is told.
-abbrev pub AreObeyedTold : {door : Door} {account : Account} {before after : GateState} {events : List Event} {went : List Served}
+abbrev pub AreObeyedTold : {door : Door} {account : Account} {before after : GateState} {events : List Event} {went : List ClientOutcome}
     → Run door account before events went after → Type 0
 AreObeyedTold Begun = Unit {0}
 AreObeyedTold {door} {account} (Then next run) =
@@ -98,4 +109,4 @@ AreObeyedTold {door} {account} (Then next run) =
 
 -- Each such client of a run of these events is told, of whom nothing fails.
 abbrev pub CompletesRun : Door → Account → List Event → Type 0
-CompletesRun door account events = (before after : GateState) (went : List Served) (run : Run door account before events went after) → IsRunTold run
+CompletesRun door account events = (before after : GateState) (went : List ClientOutcome) (run : Run door account before events went after) → IsRunTold run

@@ -5,9 +5,9 @@ use Rattle.gate_world.specs.declared.event.Event.TheVariants.{ClientEnded, Front
 use Rattle.gate_world.specs.declared.unread.FillError.{FillError}
 use Rattle.gate_world.specs.declared.unread.FillError.TheVariants as fill
 use Rattle.gate_world.specs.Octets.{Asks}
-use Rattle.http_door.specs.declared.ask.TheConstants.{MAX_REQUEST_OCTETS}
-use Rattle.gate_serving.specs.declared.front.BodyError.{BodyError}
-use Rattle.gate_serving.specs.declared.front.BodyError.TheVariants as ask
+use Rattle.http_requests.specs.declared.ask.TheConstants.{MAX_REQUEST_OCTETS}
+use Rattle.gate_serving.specs.declared.front.InputError.{InputError}
+use Rattle.gate_serving.specs.declared.front.InputError.TheVariants as ask
 use Rattle.gate_serving.specs.declared.front.FrontError.{FrontError}
 use Rattle.gate_serving.specs.declared.front.FrontError.TheVariants as front
 use Rattle.gate_serving.specs.declared.front.Input.{Input}
@@ -36,7 +36,7 @@ abbrev pub request_limit : ℕ
 request_limit = MAX_REQUEST_OCTETS
 
 -- A request's body is the client's whole input; or it gave one octet too many; or the front failed before; or memory ran out.
-abbrev pub GivesRequest : Result (List ℕ) BodyError → List Event → Type 0
+abbrev pub GivesRequest : Result (List ℕ) InputError → List Event → Type 0
 GivesRequest (Ok octets) events = GivesInput (request_limit + 1) (Ok (Whole octets)) events
 GivesRequest (Err ask.TooLarge) events = (octets : List ℕ) × GivesInput (request_limit + 1) (Ok (Cut octets)) events
 GivesRequest (Err ask.Failed) events = GivesInput (request_limit + 1) (Err front.Failed) events

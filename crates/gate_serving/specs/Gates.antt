@@ -4,7 +4,7 @@ use Rattle.gate_world.specs.Causes.{Hidden}
 use Rattle.gate_world.specs.declared.event.Event.{Event}
 use Rattle.gate_machine.specs.Holding.{HoldsMachine}
 use Rattle.gate_serving.specs.declared.gate.Gate.{Gate}
-use Rattle.gate_serving.specs.declared.served.OpenError.{OpenError}
+use Rattle.gate_serving.specs.declared.outcomes.OpenError.{OpenError}
 use Rattle.gate_serving.specs.GateState.{GateState}
 use Rattle.gate_serving.specs.Requests.{Account}
 use Rattle.gate_serving.specs.Run.{Opens}

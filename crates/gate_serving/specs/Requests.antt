@@ -2,20 +2,20 @@
 use Rattle.std.specs.Prelude.{◌≡◌, ◌⊎◌, ℕ, Bool, true, false, nat_le, List, length, if◌then◌else◌, Option, Result, Ok, Err}
 use Rattle.gate_world.specs.declared.event.Event.{Event}
 use Rattle.blob_store.specs.declared.store.TheConstants.{MAX_UPLOAD_OCTETS}
-use Rattle.http_door.specs.Asking.{AsksOverHttp}
-use Rattle.http_door.specs.declared.asking.AskError.{AskError}
-use Rattle.http_door.specs.declared.asking.AskError.TheVariants as unread
-use Rattle.http_door.specs.declared.asking.HttpAsking.{HttpAsking}
-use Rattle.http_door.specs.declared.asking.HttpAsking.TheVariants as http
+use Rattle.http_requests.specs.Asking.{AsksOverHttp}
+use Rattle.http_requests.specs.declared.asking.AskError.{AskError}
+use Rattle.http_requests.specs.declared.asking.AskError.TheVariants as unread
+use Rattle.http_requests.specs.declared.asking.HttpAsking.{HttpAsking}
+use Rattle.http_requests.specs.declared.asking.HttpAsking.TheVariants as http
 use Rattle.http_service.specs.declared.refusal.Refusal.{Refusal}
-use Rattle.jmap_methods.specs.Arguments.{account_id}
+use Rattle.jmap_arguments.specs.Arguments.{account_id}
 use Rattle.jmap_core.specs.Request.{RequestData, requested}
 use Rattle.jmap_core.specs.declared.request.RequestError.{RequestError}
 use Rattle.jmap_core.specs.declared.request.RequestError.TheVariants.{Limit}
 use Rattle.jmap_core.specs.declared.request.LimitName.TheVariants.{MaxSizeRequest, MaxSizeUpload}
 use Rattle.gate_serving.specs.declared.door.Door.{Door}
 use Rattle.gate_serving.specs.declared.door.Door.TheVariants.{Bare, Http}
-use Rattle.gate_serving.specs.declared.front.BodyError.TheVariants.{Failed, TooLarge, Memory}
+use Rattle.gate_serving.specs.declared.front.InputError.TheVariants.{Failed, TooLarge, Memory}
 use Rattle.gate_calls.specs.Calls.{needs_mail}
 use Rattle.gate_serving.specs.Front.{GivesRequest}
 

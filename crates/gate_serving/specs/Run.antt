@@ -6,10 +6,10 @@ use Rattle.gate_world.specs.declared.event.Event.TheVariants.{Word}
 use Rattle.gate_words.specs.declared.place.Place.{Place}
 use Rattle.gate_machine.specs.Progress.{Bears}
 use Rattle.gate_serving.specs.declared.door.Door.{Door}
-use Rattle.gate_serving.specs.declared.served.Served.{Served}
-use Rattle.gate_serving.specs.declared.served.Served.TheVariants as served
-use Rattle.gate_serving.specs.declared.served.OpenError.{OpenError}
-use Rattle.gate_serving.specs.declared.served.OpenError.TheVariants as opening
+use Rattle.gate_serving.specs.declared.outcomes.ClientOutcome.{ClientOutcome}
+use Rattle.gate_serving.specs.declared.outcomes.ClientOutcome.TheVariants as served
+use Rattle.gate_serving.specs.declared.outcomes.OpenError.{OpenError}
+use Rattle.gate_serving.specs.declared.outcomes.OpenError.TheVariants as opening
 use Rattle.gate_serving.specs.GateState.{GateState, new_state}
 use Rattle.gate_serving.specs.Requests.{Account}
 use Rattle.gate_serving.specs.Segment.{Segment, blamed}
@@ -33,44 +33,44 @@ pub record Stood (was now : Faults) : Type 0 where
 pub record NextSegment (door : Door) (account : Account) : Type 0 where
   pub before : GateState
   pub events : List Event
-  pub how : Served
+  pub how : ClientOutcome
   pub after : GateState
   pub segment : Segment door account before events how after
 
 -- Segments one after another, and how each client was served.
-pub data Run (door : Door) (account : Account) (before : GateState) : List Event → List Served → GateState → Type 0 where
+pub data Run (door : Door) (account : Account) (before : GateState) : List Event → List ClientOutcome → GateState → Type 0 where
   Begun : Run door account before [] [] before
-  Then : {events : List Event} {went : List Served} (next : NextSegment door account) → Run door account before events went next.before
+  Then : {events : List Event} {went : List ClientOutcome} (next : NextSegment door account) → Run door account before events went next.before
       → Run door account before (events ++ next.events) (went ++ next.how ∷ []) next.after
 
-abbrev pub run_blamed : {door : Door} {account : Account} {before after : GateState} {events : List Event} {went : List Served}
+abbrev pub run_blamed : {door : Door} {account : Account} {before after : GateState} {events : List Event} {went : List ClientOutcome}
     → Run door account before events went after → Faults
 run_blamed Begun = no_faults
 run_blamed (Then next run) = sum_of_faults (run_blamed run) (blamed next.segment)
 
 -- a client came, and the program goes on
-abbrev pub IsClient : Served → Type 0
+abbrev pub IsClient : ClientOutcome → Type 0
 IsClient served.Whole = Unit {0}
 IsClient served.Part = Unit {0}
 IsClient _ = ⊥
 
 -- How a run of at most n clients ends: after the last of them, after the last that came, or where accepting failed.
-pub data Ends (most : ℕ) (went : List Served) (status : ℕ) : Type 0 where
+pub data Ends (most : ℕ) (went : List ClientOutcome) (status : ℕ) : Type 0 where
   AllServed : All IsClient went → length went ≡ most → status ≡ 0 → Ends most went status
-  NoneLeft : (clients : List Served) → went ≡ clients ++ served.NoMore ∷ [] → All IsClient clients → length clients < most → status ≡ 0 → Ends most went status
-  NotAccepted : (clients : List Served) → went ≡ clients ++ served.AcceptFault ∷ [] → All IsClient clients → length clients < most → status ≡ 6
+  NoneLeft : (clients : List ClientOutcome) → went ≡ clients ++ served.NoMore ∷ [] → All IsClient clients → length clients < most → status ≡ 0 → Ends most went status
+  NotAccepted : (clients : List ClientOutcome) → went ≡ clients ++ served.AcceptFault ∷ [] → All IsClient clients → length clients < most → status ≡ 6
       → Ends most went status
 
 -- ---- what calls add
 
 -- One segment; the counts bear its blames.
-pub record AddsSegment (door : Door) (account : Account) (before after : GateState) (was now : Faults) (how : Served) (events : List Event) : Type 0 where
+pub record AddsSegment (door : Door) (account : Account) (before after : GateState) (was now : Faults) (how : ClientOutcome) (events : List Event) : Type 0 where
   pub segment : Segment door account before events how after
   pub bears : Bears (blamed segment) was now
 
 -- A run that goes on after n clients.
 pub record RunsTo (door : Door) (account : Account) (before after : GateState) (clients : ℕ) (was now : Faults) (events : List Event) : Type 0 where
-  pub went : List Served
+  pub went : List ClientOutcome
   pub run : Run door account before events went after
   pub came : All IsClient went
   pub counted : length went ≡ clients
@@ -79,7 +79,7 @@ pub record RunsTo (door : Door) (account : Account) (before after : GateState) (
 -- A whole run.
 pub record IsServingRun (door : Door) (account : Account) (before after : GateState) (most : ℕ) (was now : Faults) (status : ℕ)
     (events : List Event) : Type 0 where
-  pub went : List Served
+  pub went : List ClientOutcome
   pub run : Run door account before events went after
   pub ends : Ends most went status
   pub bears : Bears (run_blamed run) was now

@@ -1,26 +1,24 @@
 -- One client, from its coming to the end of the answer to it (RFC 8620 section 3.3).
-use Rattle.std.specs.Prelude.{◌≡◌, ◌≢◌, ◌+◌, ◌++◌, ℕ, List, [], ◌∷◌, Result, Ok, Err}
+use Rattle.std.specs.Prelude.{◌≡◌, ◌≢◌, ◌+◌, ◌++◌, ℕ, List, [], ◌∷◌, Some, None, Result, Ok, Err}
 use Rattle.gate_world.specs.Causes.{Faults, no_faults}
 use Rattle.gate_world.specs.Sending.{Sends}
 use Rattle.gate_world.specs.declared.event.Event.{Event}
 use Rattle.gate_world.specs.declared.event.Event.TheVariants.{Accepted, NoMore, ClientDone, FrontFailed}
 use Rattle.gate_world.specs.declared.outside.Failed.{Failed}
-use Rattle.http_door.specs.declared.asking.AskError.TheVariants as unread
-use Rattle.email_bodies.specs.Asking.{BodyAsk, AreDue}
+use Rattle.http_requests.specs.declared.asking.AskError.TheVariants as unread
 use Rattle.gate_machine.specs.Machine.{forgotten as forgotten_machine}
 use Rattle.gate_machine.specs.Progress.{Progress}
-use Rattle.gate_machine.specs.declared.standing.Standing.TheVariants.{OutOfMemory}
-use Rattle.gate_calls.specs.Mailings.{Mailing}
+use Rattle.gate_machine.specs.declared.standing.MailStatus.TheVariants.{OutOfMemory}
 use Rattle.gate_serving.specs.declared.door.Door.{Door}
-use Rattle.gate_serving.specs.declared.served.Served.{Served}
-use Rattle.gate_serving.specs.declared.served.Served.TheVariants as served
-use Rattle.gate_serving.specs.Answers.{KeepsUpload, MayKeepUpload, TakesMemory, IsResponse, AsksFirst, no_memory_text}
+use Rattle.gate_serving.specs.declared.outcomes.ClientOutcome.{ClientOutcome}
+use Rattle.gate_serving.specs.declared.outcomes.ClientOutcome.TheVariants as served
+use Rattle.gate_serving.specs.Answers.{Answer, KeepsUpload, MayKeepUpload, TakesMemory, no_memory_text, spelled}
 use Rattle.gate_serving.specs.GateState.{GateState, unready_state}
 use Rattle.gate_serving.specs.Requests.{Account, Asking, ReadsAsking}
-use Rattle.gate_serving.specs.Work.{Work}
+use Rattle.gate_serving.specs.RequestWork.{RequestWork}
 
 -- how a client was served whose response was sent so
-abbrev pub went : Result (Unit {0}) Failed → Served
+abbrev pub went : Result (Unit {0}) Failed → ClientOutcome
 went (Ok _) = served.Whole
 went (Err _) = served.Part
 
@@ -29,31 +27,27 @@ pub record AnswersAsking (door : Door) (account : Account) (before : GateState) 
   pub asked : List Event
   pub worked : List Event
   pub asking : Asking
-  pub mail : Mailing
-  pub asks : List BodyAsk
+  pub answer : Answer
   pub done : Progress
   pub whole : events ≡ asked ++ worked
   pub reads : ReadsAsking door account.token (Ok asking) asked
-  pub work : Work account before.machine asking worked mail asks done
+  pub work : RequestWork account after.uploads before.machine asking worked (Some answer) done
   pub stands : done.standing ≢ OutOfMemory
   pub machine_is : after.machine ≡ done.machine
   pub keeps : KeepsUpload asking before.uploads after.uploads
-  pub is_response : IsResponse door account (record { mail = mail; uploads = after.uploads }) asking asks text
+  pub text_is : text ≡ spelled door answer
 
--- Memory runs out after a request was read whose response takes memory: in the link life, while what it told was to be served or a body was asked,
--- or while the response was made. Bodies were asked by then that were due. An upload may be kept then.
+-- Memory runs out after a request was read whose response takes memory: in the link life, while what it told was to be served, in a call, or while
+-- the response was made. What was asked of the outside by then was due. An upload may be kept then.
 pub record LacksForAsking (door : Door) (account : Account) (before : GateState) (events : List Event) (text : List ℕ) (after : GateState) : Type 0 where
   pub asked : List Event
   pub worked : List Event
   pub asking : Asking
-  pub mail : Mailing
-  pub asks : List BodyAsk
   pub done : Progress
   pub whole : events ≡ asked ++ worked
   pub reads : ReadsAsking door account.token (Ok asking) asked
   pub takes : TakesMemory asking
-  pub work : Work account before.machine asking worked mail asks done
-  pub due : AreDue (AsksFirst (record { mail = mail; uploads = before.uploads }) asking) asks
+  pub work : RequestWork account before.uploads before.machine asking worked None done
   pub text_is : text ≡ no_memory_text door
   pub machine_is : after.machine ≡ forgotten_machine done.machine
   pub may_keep : MayKeepUpload asking before.uploads after.uploads
@@ -67,7 +61,7 @@ pub data Replies (door : Door) (account : Account) (before : GateState) (events 
   LacksAnswering : LacksForAsking door account before events text after → Replies door account before events text after
 
 -- A client that comes is sent its reply.
-pub record SendsToClient (door : Door) (account : Account) (before : GateState) (events : List Event) (how : Served) (after : GateState) : Type 0 where
+pub record SendsToClient (door : Door) (account : Account) (before : GateState) (events : List Event) (how : ClientOutcome) (after : GateState) : Type 0 where
   pub replied : List Event
   pub heard : List Event
   pub text : List ℕ
@@ -78,7 +72,7 @@ pub record SendsToClient (door : Door) (account : Account) (before : GateState) 
   pub how_is : how ≡ went sent
 
 -- One client, or that there is none.
-pub data Segment (door : Door) (account : Account) (before : GateState) (events : List Event) (how : Served) (after : GateState) : Type 0 where
+pub data Segment (door : Door) (account : Account) (before : GateState) (events : List Event) (how : ClientOutcome) (after : GateState) : Type 0 where
   NoneComes : events ≡ NoMore ∷ [] → how ≡ served.NoMore → after ≡ before → Segment door account before events how after
   NotAccepted : events ≡ FrontFailed ∷ [] → how ≡ served.AcceptFault → after ≡ before → Segment door account before events how after
   -- it ended its input inside its request
@@ -106,7 +100,7 @@ reply_blamed (LacksReading a b c) = no_faults
 reply_blamed (LacksAnswering a) = a.done.blamed
 
 -- The faults that a segment is blamed on, of each part of the outside. None has its fault in a client that leaves.
-abbrev pub blamed : {door : Door} {account : Account} {before : GateState} {events : List Event} {how : Served} {after : GateState}
+abbrev pub blamed : {door : Door} {account : Account} {before : GateState} {events : List Event} {how : ClientOutcome} {after : GateState}
     → Segment door account before events how after → Faults
 blamed (NoneComes a b c) = no_faults
 blamed (NotAccepted a b c) = blame_front 1 no_faults

@@ -23,17 +23,17 @@ use crate::upload::Upload;
 use blob_store::{BlobStore, MAX_UPLOAD_OCTETS};
 use email_bodies::{BodyError, BodySource};
 use email_get::find_blob;
-use gate_calls::{Mail, Over, responses_to};
-use gate_world::{Bytes, Text};
+use gate_calls::{CallContext, Mail, responses_to};
 use http::StatusCode;
-use http_door::{MAX_REQUEST_OCTETS, download_media, json_media, problem_media};
+use http_requests::{MAX_REQUEST_OCTETS, download_media, json_media, problem_media};
 use http_service::Refusal;
+use jmap_arguments::ACCOUNT_ID;
 use jmap_core::{
     LimitName, MAX_SIZE_REQUEST, MAX_SIZE_UPLOAD, Request, RequestError, problem_text,
     response_text, session_object, session_state,
 };
-use jmap_methods::ACCOUNT_ID;
 use mail_state::MailState;
+use octets::{Bytes, Text};
 use result_references::Call;
 use serde_json::{Value, json};
 use std::alloc::{AllocError, Global};
@@ -51,7 +51,7 @@ fn calls_text(
     request: &Request,
 ) -> Result<String, AllocError>
     requires { All IsWhole responses.now }
-    ensures { IfOk result (λ text. string_bytes text ≡ text_of_calls user.now base.now (map call_data responses.now) (request_data request.now)) }
+    ensures { IfOk result (λ text. string_bytes text ≡ text_of_calls user.now base.now (map call_data responses.now) (request_data request.now).created) }
 {
     let session = session_state(alloc, user.as_str(), base.as_str())?;
     response_text(alloc, responses, request.created.as_ref(), session.as_str())
@@ -81,7 +81,7 @@ fn responses_answer(
 ) -> Result<Response, AllocError>
     requires { All IsWhole responses.now }
     ensures { IfOk result (λ r. text_sent r
-        ≡ spelled door (json_answer 200 (text_of_calls user.now base.now (map call_data responses.now) (request_data request.now)))) }
+        ≡ spelled door (json_answer 200 (text_of_calls user.now base.now (map call_data responses.now) (request_data request.now).created))) }
 {
     let text = calls_text(alloc, user, base, responses, request)?;
     json_response(alloc, door, StatusCode::OK, text)
@@ -93,7 +93,7 @@ pub fn calls_response<W, B: BodySource<W>>(
     door: Door,
     user: &Text,
     base: &Text,
-    over: &Over<'_>,
+    over: &CallContext<'_>,
     bodies: &mut B,
     world: &mut W,
     request: &Request,
@@ -101,7 +101,7 @@ pub fn calls_response<W, B: BodySource<W>>(
     ensures { AsksAndMakes B.answers B.lacks (bodies.old, world.old) (bodies.new, world.new) result
         (λ r asks. (o : MailAndUploads) → AreOf o over.now → (responses : List CallData)
         × AnswersCalls (request_data request.now).uses o (request_data request.now).calls asks responses
-        × (text_sent r ≡ spelled door (json_answer 200 (text_of_calls user.now base.now responses (request_data request.now)))))
+        × (text_sent r ≡ spelled door (json_answer 200 (text_of_calls user.now base.now responses (request_data request.now).created))))
         (λ asks. (o : MailAndUploads) → AreOf o over.now → FirstCallsAsk (request_data request.now).uses o (request_data request.now).calls asks) }
 {
     let responses = responses_to(
@@ -255,7 +255,7 @@ fn told_response<W, B: BodySource<W>>(
 pub fn download_response<W, B: BodySource<W>>(
     alloc: Global,
     door: Door,
-    over: &Over<'_>,
+    over: &CallContext<'_>,
     bodies: &mut B,
     world: &mut W,
     blob: &[u8],

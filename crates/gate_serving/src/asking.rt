@@ -5,9 +5,9 @@ ghost use Rattle.gate_serving.specs.reading.Askings.{asking_data};
 
 use crate::upload::Upload;
 use gate_calls::needs_mail;
-use gate_world::Bytes;
 use http_service::Refusal;
 use jmap_core::{Request, RequestError};
+use octets::Bytes;
 
 /// What a client asks.
 #[derive(Drop)]

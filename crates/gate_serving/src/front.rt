@@ -4,8 +4,9 @@ ghost use Rattle.gate_world.specs.Causes.{Rose, FrontAlone};
 ghost use Rattle.gate_world.specs.Tape.{Adds};
 ghost use Rattle.gate_serving.specs.Front.{input_octets, GivesInput, GivesRequest};
 
-use gate_world::{Bytes, Failed, FillError, Front, Unread};
-use http_door::MAX_REQUEST_OCTETS;
+use gate_world::{Failed, FillError, Front, Unread};
+use http_requests::MAX_REQUEST_OCTETS;
+use octets::Bytes;
 use std::alloc::{AllocError, Global};
 
 /// What a client gives.
@@ -75,7 +76,7 @@ impl From<AllocError> for FrontError {
 
 /// Why there is no request.
 #[derive(Clone, Copy, Debug, PartialEq, Eq)]
-pub enum BodyError {
+pub enum InputError {
     /// The front failed.
     Failed,
     /// More octets than a body has at most.
@@ -102,16 +103,16 @@ pub fn receive<F: Front>(alloc: Global, front: &mut F, most: usize) -> Result<In
 }
 
 /// A request's body, which ends with the client's input. No more than one octet past the limit is read.
-pub fn ask<F: Front>(alloc: Global, front: &mut F) -> Result<Bytes, BodyError>
+pub fn ask<F: Front>(alloc: Global, front: &mut F) -> Result<Bytes, InputError>
     ensures tape { Adds (F.tape front.old) (F.tape front.new) (GivesRequest result) }
     ensures alone { FrontAlone (F.faults front.old) (F.faults front.new) }
-    ensures cause { IsErrOf result BodyError.Failed → Rose (F.faults front.old).front (F.faults front.new).front }
+    ensures cause { IsErrOf result InputError.Failed → Rose (F.faults front.old).front (F.faults front.new).front }
     ensures hidden { F.hidden front.new ≡ F.hidden front.old }
 {
     match receive(alloc, front, MAX_REQUEST_OCTETS as usize + 1) {
         Ok(Input::Whole(octets)) => Ok(octets),
-        Ok(Input::Cut(_)) => Err(BodyError::TooLarge),
-        Err(FrontError::Failed) => Err(BodyError::Failed),
-        Err(FrontError::Memory) => Err(BodyError::Memory),
+        Ok(Input::Cut(_)) => Err(InputError::TooLarge),
+        Err(FrontError::Failed) => Err(InputError::Failed),
+        Err(FrontError::Memory) => Err(InputError::Memory),
     }
 }

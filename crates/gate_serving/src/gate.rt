@@ -5,20 +5,21 @@ ghost use Rattle.gate_world.specs.Causes.{Faults, FrontAlone, Hidden, Later, Lin
 ghost use Rattle.gate_world.specs.Tape.{Adds};
 ghost use Rattle.email_bodies.specs.Asking.{BodyAsk};
 ghost use Rattle.jmap_core.specs.Request.{request_data};
-ghost use Rattle.jmap_methods.specs.declared.method_error.MethodError.TheVariants.{ServerUnavailable};
+ghost use Rattle.jmap_arguments.specs.declared.method_error.MethodError.TheVariants.{ServerUnavailable};
 ghost use Rattle.gate_machine.specs.Holding.{unready};
 ghost use Rattle.gate_machine.specs.Progress.{CameTo, Progress};
-ghost use Rattle.gate_machine.specs.declared.standing.Standing.TheVariants.{Fell, Stands};
+ghost use Rattle.gate_machine.specs.declared.standing.MailStatus.TheVariants.{Unserved, Stands};
 ghost use Rattle.gate_calls.specs.Asking.{AsksAndMakes};
 ghost use Rattle.gate_calls.specs.Mailings.{AreOf, MailAndUploads, error_of as error_meant};
 ghost use Rattle.gate_serving.specs.GateState.{GateState, unready_state};
-ghost use Rattle.gate_serving.specs.Answers.{AsksFirst, IsResponse, KeepsUpload, TakesMemory, no_memory_text};
+ghost use Rattle.gate_serving.specs.Answers.{KeepsUpload, TakesMemory, no_memory_text};
 ghost use Rattle.gate_serving.specs.Run.{AddsSegment, account_of};
 ghost use Rattle.gate_serving.specs.declared.door.Door.TheVariants.{Bare};
 ghost use Rattle.gate_serving.specs.reading.Askings.{asking_data, id_asked};
 ghost use Rattle.gate_serving.specs.Gates.{Comes, GateHolds, OpensTo, RestStays, account_by};
 ghost use Rattle.gate_serving.specs.Segment.{went};
 ghost use Rattle.gate_serving.specs.Requests.{Calls, asks_for_mail};
+ghost use Rattle.gate_serving.specs.reading.OneMail.{AsksFirst, IsResponse};
 ghost use Rattle.gate_serving.specs.reading.Replying.{AnswersTo, Finishes, RepliesBy, RepliesToAsking, SendsReply, Serves};
 ghost use Rattle.gate_serving.specs.reading.Texts.{text_sent};
 
@@ -28,21 +29,22 @@ use crate::answers::{
 use crate::asking::Asking;
 use crate::door::Door;
 use crate::no_source::NoSource;
+use crate::outcomes::{ClientOutcome, OpenError};
 use crate::reading::read_asking;
 use crate::response::Response;
-use crate::served::{OpenError, Served};
 use blob_store::BlobStore;
 use email_bodies::BodySource;
-use gate_calls::{Mail, Over};
-use gate_machine::{Fall, Machine, Standing, begin};
+use gate_calls::{CallContext, Mail};
+use gate_machine::{Machine, MailFailure, MailStatus, begin};
 use gate_words::Place;
-use gate_world::{Bytes, Failed, Front, Text, World};
-use http_door::AskError;
+use gate_world::{Failed, Front, World};
+use http_requests::AskError;
 use http_routes::Routes;
 use http_service::Refusal;
 use imap_client::Client;
+use jmap_arguments::MethodError;
 use jmap_core::Request;
-use jmap_methods::MethodError;
+use octets::{Bytes, Text};
 use std::alloc::{AllocError, Global};
 
 /// Answers one client after another.
@@ -91,30 +93,30 @@ impl Gate {
     }
 
     /// Answers one client, where one comes.
-    pub fn answer_one<W: World>(&mut self, alloc: Global, world: &mut W) -> Served
+    pub fn answer_one<W: World>(&mut self, alloc: Global, world: &mut W) -> ClientOutcome
         ensures run { Adds (W.tape world.old) (W.tape world.new)
             (Comes self.old self.new (λ s t. AddsSegment self.old.door (account_by self.old (W.hidden world.old)) s t (W.faults world.old) (W.faults world.new) result)) }
         ensures rest { RestStays self.old self.new }
         ensures later { Later (W.faults world.old) (W.faults world.new) }
-        ensures accepting { result ≡ Served.AcceptFault → Rose (W.faults world.old).front (W.faults world.new).front }
-        ensures part { self.old.door ≡ Bare → result ≡ Served.Part → Rose (W.faults world.old).front (W.faults world.new).front }
+        ensures accepting { result ≡ ClientOutcome.AcceptFault → Rose (W.faults world.old).front (W.faults world.new).front }
+        ensures part { self.old.door ≡ Bare → result ≡ ClientOutcome.Part → Rose (W.faults world.old).front (W.faults world.new).front }
         ensures hidden { W.hidden world.new ≡ W.hidden world.old }
     {
         match world.accept() {
-            Err(_) => Served::AcceptFault,
-            Ok(false) => Served::NoMore,
+            Err(_) => ClientOutcome::AcceptFault,
+            Ok(false) => ClientOutcome::NoMore,
             Ok(true) => self.answer_client(alloc, world),
         }
     }
 
     // A client that came.
-    fn answer_client<W: World>(&mut self, alloc: Global, world: &mut W) -> Served
+    fn answer_client<W: World>(&mut self, alloc: Global, world: &mut W) -> ClientOutcome
         ensures run { Adds (W.tape world.old) (W.tape world.new)
             (Comes self.old self.new (λ s t. Serves self.old.door (account_by self.old (W.hidden world.old)) s t (W.faults world.old) (W.faults world.new) result)) }
         ensures rest { RestStays self.old self.new }
         ensures later { Later (W.faults world.old) (W.faults world.new) }
-        ensures came { (result ≡ Served.Whole) ⊎ (result ≡ Served.Part) }
-        ensures part { self.old.door ≡ Bare → result ≡ Served.Part → Rose (W.faults world.old).front (W.faults world.new).front }
+        ensures came { (result ≡ ClientOutcome.Whole) ⊎ (result ≡ ClientOutcome.Part) }
+        ensures part { self.old.door ≡ Bare → result ≡ ClientOutcome.Part → Rose (W.faults world.old).front (W.faults world.new).front }
         ensures hidden { W.hidden world.new ≡ W.hidden world.old }
     {
         let reply = self.reply(alloc, world);
@@ -194,11 +196,11 @@ impl Gate {
         let mut client = Client::new(alloc);
         let user = self.user.as_str().as_bytes();
         match begin(alloc, &mut self.machine, &mut client, world, user) {
-            Standing::Stands => self.answer_told(alloc, client, world, asking),
-            Standing::Fell(why) => {
+            MailStatus::Stands => self.answer_told(alloc, client, world, asking),
+            MailStatus::Unserved(why) => {
                 self.answer_untold(alloc, client, world, asking, error_of(why))
             }
-            Standing::OutOfMemory => {
+            MailStatus::OutOfMemory => {
                 client.leave(world);
                 self.unless_lacking(Err(AllocError))
             }
@@ -225,7 +227,7 @@ impl Gate {
         ensures hidden { W.hidden world.new ≡ W.hidden world.old }
     {
         let (served, mut fetching) = self.machine.lend(client);
-        let over = Over {
+        let over = CallContext {
             mail: Mail::Told(served.state()),
             uploads: &self.uploads,
         };
@@ -245,8 +247,8 @@ impl Gate {
         error: MethodError,
     ) -> Result<Response, AllocError>
         requires needs { asks_for_mail (asking_data asking.now) ≡ true }
-        ensures run { Adds (W.tape world.old) (W.tape world.new) (λ es. (p : Progress) (was : Faults) (how : Fall)
-            → CameTo self.old.machine client (Fell how) was (W.faults world.old) p → error ≡ error_meant how
+        ensures run { Adds (W.tape world.old) (W.tape world.new) (λ es. (p : Progress) (was : Faults) (how : MailFailure)
+            → CameTo self.old.machine client (Unserved how) was (W.faults world.old) p → error ≡ error_meant how
             → Finishes self.old.door (account_by self.old (W.hidden world.old)) self.old.uploads (asking_data asking.now) p self.new.machine was
             (W.faults world.new) result es) }
         ensures rest { RestStays self.old self.new }
@@ -256,7 +258,7 @@ impl Gate {
     {
         let mut client = client;
         client.leave(world);
-        let over = Over {
+        let over = CallContext {
             mail: Mail::Untold(error),
             uploads: &self.uploads,
         };
@@ -268,7 +270,7 @@ impl Gate {
     fn response_over<W, B: BodySource<W>>(
         &self,
         alloc: Global,
-        over: &Over<'_>,
+        over: &CallContext<'_>,
         bodies: &mut B,
         world: &mut W,
         asking: &Asking,
@@ -389,7 +391,7 @@ impl Gate {
             (Calls (request_data request.now)) asks (text_sent r)) }
         ensures world { world.new ≡ world.old }
     {
-        let over = Over {
+        let over = CallContext {
             mail: Mail::Untold(MethodError::ServerUnavailable),
             uploads: &self.uploads,
         };
@@ -417,12 +419,12 @@ impl Gate {
 }
 
 // The error of calls that need the mail, where it can't be told.
-fn error_of(why: Fall) -> MethodError
+fn error_of(why: MailFailure) -> MethodError
     ensures { result ≡ error_meant why }
 {
     match why {
-        Fall::Linked(_) => MethodError::ServerUnavailable,
-        Fall::Spent => MethodError::ServerFail,
+        MailFailure::Linked(_) => MethodError::ServerUnavailable,
+        MailFailure::Spent => MethodError::ServerFail,
     }
 }
 
@@ -447,24 +449,24 @@ fn parts_of(alloc: Global, place: &Place) -> Result<(Text, Text, Routes), AllocE
 }
 
 // Sends the reply, where there is one.
-fn send_reply<F: Front>(front: &mut F, reply: &Option<Response>) -> Served
+fn send_reply<F: Front>(front: &mut F, reply: &Option<Response>) -> ClientOutcome
     ensures tape { Adds (F.tape front.old) (F.tape front.new) (SendsReply reply.now result) }
     ensures alone { FrontAlone (F.faults front.old) (F.faults front.new) }
-    ensures cause { result ≢ Served.Whole → (reply.now ≡ None) ⊎ Rose (F.faults front.old).front (F.faults front.new).front }
-    ensures came { (result ≡ Served.Whole) ⊎ (result ≡ Served.Part) }
+    ensures cause { result ≢ ClientOutcome.Whole → (reply.now ≡ None) ⊎ Rose (F.faults front.old).front (F.faults front.new).front }
+    ensures came { (result ≡ ClientOutcome.Whole) ⊎ (result ≡ ClientOutcome.Part) }
     ensures hidden { F.hidden front.new ≡ F.hidden front.old }
 {
     match reply {
         Some(response) => served_by(response.send(front)),
-        None => Served::Part,
+        None => ClientOutcome::Part,
     }
 }
 
-fn served_by(sent: Result<(), Failed>) -> Served
+fn served_by(sent: Result<(), Failed>) -> ClientOutcome
     ensures { result ≡ went sent }
 {
     match sent {
-        Ok(()) => Served::Whole,
-        Err(_) => Served::Part,
+        Ok(()) => ClientOutcome::Whole,
+        Err(_) => ClientOutcome::Part,
     }
 }

@@ -1,5 +1,5 @@
 // What the definitions rule out.
-ghost use Rattle.std.specs.Prelude.{◌≡◌, ◌⊎◌, ◌++◌, ℕ, List, [], Ok, false};
+ghost use Rattle.std.specs.Prelude.{◌≡◌, ◌⊎◌, ◌++◌, ℕ, List, [], Option, Some, Ok, false};
 ghost use Rattle.gate_world.specs.Causes.{Faults, no_faults};
 ghost use Rattle.gate_world.specs.declared.event.Event.{Event};
 ghost use Rattle.gate_machine.specs.Progress.{Bears, Progress};
@@ -8,12 +8,13 @@ ghost use Rattle.gate_machine.specs.KeptBodies.{KeepsBody};
 ghost use Rattle.gate_machine.specs.ServedFolders.{Serves};
 ghost use Rattle.gate_machine.specs.Sources.{KnowsExchanges};
 ghost use Rattle.mail_state.specs.History.{MailHistory};
-ghost use Rattle.gate_machine.specs.declared.standing.Standing.TheVariants.{OutOfMemory};
-ghost use Rattle.email_bodies.specs.Asking.{BodyAsk};
-ghost use Rattle.gate_calls.specs.Mailings.{Mailing, MailAndUploads};
+ghost use Rattle.gate_machine.specs.declared.standing.MailStatus.TheVariants.{OutOfMemory};
+ghost use Rattle.gate_calls.specs.Calling.{Asked};
+ghost use Rattle.gate_calls.specs.Mailings.{mail_at};
 ghost use Rattle.gate_calls.specs.Places.{HasPlaces};
-ghost use Rattle.gate_serving.specs.Answers.{IsResponse};
+ghost use Rattle.gate_serving.specs.Answers.{Answer};
 ghost use Rattle.gate_serving.specs.Complete.{AreObeyedTold, CompletesRun, IsAnsweredFrom, IsSegmentObeyed, IsClientTold, IsWorkObeyed};
+ghost use Rattle.gate_serving.specs.Doing.{Answers};
 ghost use Rattle.gate_serving.specs.Histories.{KeepsHistories};
 ghost use Rattle.gate_serving.specs.KeptBodies.{RunTells};
 ghost use Rattle.gate_serving.specs.declared.door.Door.{Door};
@@ -21,11 +22,11 @@ ghost use Rattle.gate_serving.specs.GateState.{GateState};
 ghost use Rattle.gate_serving.specs.Requests.{Account, Asking, asks_for_mail};
 ghost use Rattle.gate_serving.specs.Run.{Run, Stood, run_blamed};
 ghost use Rattle.gate_serving.specs.Segment.{AnswersAsking, Segment, blamed};
-ghost use Rattle.gate_serving.specs.Work.{Work};
-ghost use Rattle.gate_serving.specs.declared.served.Served.{Served};
+ghost use Rattle.gate_serving.specs.RequestWork.{RequestWork, begun_in};
+ghost use Rattle.gate_serving.specs.declared.outcomes.ClientOutcome.{ClientOutcome};
 
 use email_get::laws::one_blob_found;
-use gate_calls::one_list_of_responses;
+use gate_calls::calls_have_one_course;
 use gate_machine::{
     calls_keep_history, calls_leave_the_history, kept_bodies_were_told,
     machines_know_what_was_told, obeyed_bodies_come, obeyed_rounds_stand, requests_keep_history,
@@ -38,16 +39,16 @@ pub fn no_fault_no_blame()
 
 /// A request that doesn't need the mail has no link life, and leaves the machine as it was.
 pub fn no_life_without_need()
-    ensures { (account : Account) (before : MachineState) (asking : Asking) (events : List Event) (mail : Mailing) (asks : List BodyAsk) (after : Progress)
-        → Work account before asking events mail asks after → asks_for_mail asking ≡ false → (events ≡ []) × (after.machine ≡ before) }
+    ensures { (account : Account) (uploads : List (List ℕ)) (before : MachineState) (asking : Asking) (events : List Event) (came : Option Answer) (after : Progress)
+        → RequestWork account uploads before asking events came after → asks_for_mail asking ≡ false → (events ≡ []) × (after.machine ≡ before) }
 {}
 
-/// Where the store obeys, a place is left and no fault is blamed, calls are answered over the mail that is served then, and each
-/// body comes that they ask for; or memory ran out.
+/// Where the store obeys, a place is left and no fault is blamed, what is asked is answered from the mail that is served then, and all
+/// comes that it asks of the outside; or memory ran out.
 pub fn obeyed_requests_answered()
-    ensures { (account : Account) (before : MachineState) (asking : Asking) (events : List Event) (mail : Mailing) (asks : List BodyAsk) (after : Progress)
-        (work : Work account before asking events mail asks after) → IsWorkObeyed work → after.blamed ≡ no_faults
-        → IsAnsweredFrom asking mail asks after ⊎ (after.standing ≡ OutOfMemory) }
+    ensures { (account : Account) (uploads : List (List ℕ)) (before : MachineState) (asking : Asking) (events : List Event) (answer : Answer) (after : Progress)
+        (work : RequestWork account uploads before asking events (Some answer) after) → IsWorkObeyed work → after.blamed ≡ no_faults
+        → IsAnsweredFrom account uploads asking answer after ⊎ (after.standing ≡ OutOfMemory) }
 {
     obeyed_rounds_stand();
     obeyed_bodies_come();
@@ -56,7 +57,7 @@ pub fn obeyed_requests_answered()
 /// Where the store obeys, a place is left and no fault is blamed, whoever comes takes the whole response that is due over
 /// the mail that is served then; or memory ran out.
 pub fn obeyed_clients_are_told()
-    ensures { (door : Door) (account : Account) (before : GateState) (events : List Event) (how : Served) (after : GateState)
+    ensures { (door : Door) (account : Account) (before : GateState) (events : List Event) (how : ClientOutcome) (after : GateState)
         (segment : Segment door account before events how after) → IsSegmentObeyed segment → blamed segment ≡ no_faults
         → IsClientTold door account events how after }
 {
@@ -72,7 +73,7 @@ pub fn obeyed_runs_are_told()
 
 /// Each client of a run for whom the store obeyed is told, where nothing is blamed over the run.
 pub fn quiet_runs_are_told()
-    ensures { (door : Door) (account : Account) (before after : GateState) (events : List Event) (went : List Served)
+    ensures { (door : Door) (account : Account) (before after : GateState) (events : List Event) (went : List ClientOutcome)
         (run : Run door account before events went after) → run_blamed run ≡ no_faults → AreObeyedTold run }
 {
     obeyed_clients_are_told();
@@ -87,39 +88,40 @@ pub fn histories_go_on()
     calls_keep_history();
 }
 
-/// The mail over which a request is answered is the history that the machine serves after it. So what `histories_go_on` says of the
+/// The mail from which on a request is answered is the history that the machine serves after it. So what `histories_go_on` says of the
 /// histories of a run's machines it says of the mail over which clients are answered.
 pub fn answers_are_of_the_served_history()
     ensures { (door : Door) (account : Account) (before : GateState) (events : List Event) (text : List ℕ) (after : GateState)
-        (a : AnswersAsking door account before events text after) (h : MailHistory) → a.mail ≡ Ok h → Serves after.machine h }
+        (a : AnswersAsking door account before events text after) (h : MailHistory) → mail_at (begun_in a.work) ≡ Ok h → Serves after.machine h }
 {
     calls_leave_the_history();
 }
 
-/// Over some mail and uploads what is asked has one response at a door, and asks for bodies in one way: as long as these come or don't as
-/// before, the same are asked.
-pub fn one_response()
-    ensures { (door : Door) (account : Account) (over : MailAndUploads) (asking : Asking) (asks more also later : List BodyAsk) (a b : List ℕ)
-        → HasPlaces over.mail → IsResponse door account over asking asks a → IsResponse door account over asking also b
-        → asks ++ more ≡ also ++ later → (asks ≡ also) × (a ≡ b) }
+/// From two moments at which the same mail is served, what is asked comes to one answer: as long as what it asks of the outside is answered as
+/// before, the same is asked; and once all is, the answer is the same, and the mail that is served then.
+pub fn one_answer()
+    ensures { (account : Account) (uploads : List (List ℕ)) (asking : Asking) (p q : Progress) (asks more also later : List Asked) (es fs : List Event)
+        (a b : Answer) (after then : Progress) → mail_at p ≡ mail_at q → HasPlaces (mail_at p) → Answers account uploads asking p asks es a after
+        → Answers account uploads asking q also fs b then → asks ++ more ≡ also ++ later
+        → (asks ≡ also) × (a ≡ b) × (mail_at after ≡ mail_at then) }
 {
-    one_list_of_responses();
+    calls_have_one_course();
     one_blob_found();
 }
 
-/// What is known after a run comes of exchanges, where it did before. So the mail over which calls are answered has places left.
+/// What is known after a run comes of exchanges, where it did before. So the mail from which on a request is answered has places left.
 pub fn runs_know_what_was_told()
-    ensures machine { (door : Door) (account : Account) (before after : GateState) (events : List Event) (went : List Served)
+    ensures machine { (door : Door) (account : Account) (before after : GateState) (events : List Event) (went : List ClientOutcome)
         → Run door account before events went after → KnowsExchanges before.machine → KnowsExchanges after.machine }
-    ensures mail { (account : Account) (before : MachineState) (asking : Asking) (events : List Event) (mail : Mailing) (asks : List BodyAsk) (after : Progress)
-        → Work account before asking events mail asks after → KnowsExchanges before → HasPlaces mail }
+    ensures mail { (account : Account) (uploads : List (List ℕ)) (before : MachineState) (asking : Asking) (events : List Event) (came : Option Answer) (after : Progress)
+        (work : RequestWork account uploads before asking events came after) → KnowsExchanges before → HasPlaces (mail_at (begun_in work)) }
 {
     machines_know_what_was_told();
 }
 
 /// A body that is kept after a run was kept before it, or is what a fetch of that Email's message told in it.
 pub fn runs_keep_told_bodies()
-    ensures { (door : Door) (account : Account) (before after : GateState) (events : List Event) (went : List Served)
+    ensures { (door : Door) (account : Account) (before after : GateState) (events : List Event) (went : List ClientOutcome)
         (run : Run door account before events went after) (b : ℕ × List ℕ) → KeepsBody after.machine b → KeepsBody before.machine b ⊎ RunTells run b }
 {
     kept_bodies_were_told();

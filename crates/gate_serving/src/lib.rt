@@ -17,7 +17,7 @@ mod response;
 
 // One client after another.
 mod gate;
-mod served;
+mod outcomes;
 mod serving;
 
 // Laws.
@@ -28,9 +28,9 @@ pub use front::{FrontError, Input, receive};
 pub use gate::Gate;
 pub use laws::{
     answers_are_of_the_served_history, histories_go_on, no_fault_no_blame, no_life_without_need,
-    obeyed_clients_are_told, obeyed_requests_answered, obeyed_runs_are_told, one_response,
+    obeyed_clients_are_told, obeyed_requests_answered, obeyed_runs_are_told, one_answer,
     quiet_runs_are_told, runs_keep_told_bodies, runs_know_what_was_told,
 };
 pub use line::with_line_end;
-pub use served::{OpenError, Served};
+pub use outcomes::{ClientOutcome, OpenError};
 pub use serving::serve;

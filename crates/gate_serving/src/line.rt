@@ -2,7 +2,7 @@
 ghost use Rattle.std.specs.Prelude.{◌≡◌, ◌++◌, IfOk};
 ghost use Rattle.gate_serving.specs.Answers.{line_end};
 
-use gate_world::Bytes;
+use octets::Bytes;
 use std::alloc::AllocError;
 
 /// The text and a line end.

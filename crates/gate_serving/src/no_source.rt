@@ -2,7 +2,7 @@
 ghost use Rattle.std.specs.Prelude.{◌≡◌, None};
 
 use email_bodies::{BodyError, BodySource, MessagePlace};
-use gate_world::Bytes;
+use octets::Bytes;
 
 /// No body comes: calls that are answered without mail ask none.
 #[derive(Drop)]

@@ -9,13 +9,14 @@ ghost use Rattle.gate_serving.specs.reading.Askings.{AsksInBody, IsNoRequest, As
 
 use crate::asking::Asking;
 use crate::door::Door;
-use crate::front::{BodyError, ask};
+use crate::front::{InputError, ask};
 use crate::upload::Upload;
-use gate_world::{Bytes, Front, Secrets, Text};
-use http_door::{AskError, HttpAsking, ask_over_http};
+use gate_world::{Front, Secrets};
+use http_requests::{AskError, HttpAsking, ask_over_http};
 use http_routes::Routes;
+use jmap_arguments::ACCOUNT_ID;
 use jmap_core::{LimitName, RequestError, read_request};
-use jmap_methods::ACCOUNT_ID;
+use octets::{Bytes, Text};
 use std::alloc::Global;
 
 fn too_large(name: LimitName) -> Asking
@@ -58,9 +59,9 @@ fn read_bare<F: Front>(alloc: Global, front: &mut F) -> Result<Asking, AskError>
 {
     match ask(alloc, front) {
         Ok(body) => asking_in_body(alloc, body.as_slice()),
-        Err(BodyError::TooLarge) => Ok(too_large(LimitName::MaxSizeRequest)),
-        Err(BodyError::Failed) => Err(AskError::Failed),
-        Err(BodyError::Memory) => Err(AskError::Memory),
+        Err(InputError::TooLarge) => Ok(too_large(LimitName::MaxSizeRequest)),
+        Err(InputError::Failed) => Err(AskError::Failed),
+        Err(InputError::Memory) => Err(AskError::Memory),
     }
 }
 

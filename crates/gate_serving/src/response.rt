@@ -9,10 +9,11 @@ ghost use Rattle.gate_serving.specs.reading.Texts.{text_sent};
 
 use crate::door::Door;
 use crate::line::with_line_end;
-use gate_world::{Bytes, Failed, Front, send_all};
+use gate_world::{Failed, Front, send_all};
 use http::StatusCode;
-use http_door::HttpResponse;
+use http_requests::HttpResponse;
 use http_service::{MediaType, Refusal};
+use octets::Bytes;
 use std::alloc::{AllocError, Global};
 
 /// What a client is sent.

@@ -9,7 +9,7 @@ ghost use Rattle.gate_serving.specs.Gates.{Comes, RestStays, account_by};
 
 use crate::gate::Gate;
 use crate::laws::{histories_go_on, obeyed_runs_are_told};
-use crate::served::Served;
+use crate::outcomes::ClientOutcome;
 use gate_world::World;
 use std::alloc::Global;
 
@@ -34,10 +34,10 @@ pub fn serve<W: World>(alloc: Global, gate: &mut Gate, world: &mut W, most: u64)
     let mut count: u64 = 0;
     'serving: while count < most {
         match gate.answer_one(alloc, world) {
-            Served::AcceptFault => return 6,
-            Served::NoMore => return 0,
-            Served::Whole => {}
-            Served::Part => {}
+            ClientOutcome::AcceptFault => return 6,
+            ClientOutcome::NoMore => return 0,
+            ClientOutcome::Whole => {}
+            ClientOutcome::Part => {}
         }
         count += 1;
     }

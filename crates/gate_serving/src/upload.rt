@@ -3,7 +3,7 @@ ghost use Rattle.std.specs.Prelude.{◌≡◌, ◌<◌, ◌≤◌, length, Match
 ghost use Rattle.blob_store.specs.declared.store.TheConstants.{MAX_UPLOAD_OCTETS};
 
 use blob_store::MAX_UPLOAD_OCTETS;
-use gate_world::{Bytes, Text};
+use octets::{Bytes, Text};
 
 /// Octets that are to be kept, and their type.
 #[derive(Drop)]

@@ -4,7 +4,7 @@ use Rattle.std.proofs.Common.{sym, ap, ◌∙◌, arith}
 use Rattle.std.proofs.lemmas.Bool.{eqb-true, ne_eqb}
 use Rattle.std.proofs.lemmas.Option.{none-some, same_Some}
 use Rattle.gate_words.specs.reading.Words.{cut}
-use Rattle.gate_world.proofs.Steps.{map-some}
+use Rattle.octets.proofs.Steps.{map-some}
 
 -- the text has no `=`
 abbrev pub HasNone : List ℕ → Type 0

@@ -7,7 +7,7 @@ use Rattle.gate_words.specs.reading.Words.{cut, name_of, named, joined, begins_w
 use Rattle.gate_words.specs.declared.option.Name.{Name}
 use Rattle.gate_words.specs.declared.option.Name.TheVariants.{Store, User, Base, Listen, Connections}
 use Rattle.gate_words.proofs.Cut.{cut-is}
-use Rattle.gate_world.proofs.Steps.{and_then-some, map-some, is_or_not}
+use Rattle.octets.proofs.Steps.{and_then-some, map-some, is_or_not}
 
 -- a word that is read as an option is its text
 pub name_of-is : (word : List ℕ) (name : Name) → name_of word ≡ Some name → word ≡ name_text name

@@ -5,7 +5,7 @@ use Rattle.gate_words.specs.reading.Words.{page_by, page_on, page_of}
 use Rattle.gate_words.specs.Task.{AsksFor}
 use Rattle.gate_words.specs.declared.page.Page.{Page}
 use Rattle.gate_words.specs.declared.page.Page.TheVariants.{Program, Serve, Once, Show, Store, Version}
-use Rattle.gate_world.proofs.Steps.{and_then-some, is_or_not}
+use Rattle.octets.proofs.Steps.{and_then-some, is_or_not}
 
 by-is : (option : List ℕ) (on found : Page) → page_by option on ≡ Some found → ((option ≡ codes "--help") × (found ≡ on)) ⊎ ((option ≡ codes "--version") × (found ≡ Version))
 by-is option on found is =

@@ -5,7 +5,7 @@ use Rattle.gate_words.specs.Options.{name_text, Setting, joined_text, BeginsWith
 use Rattle.gate_words.specs.reading.Words.{name_of, joined, begins_with_dash, WordKind, Waits, Sets, kind_where_none_waits, kind_of, waiting_after, before, settings}
 use Rattle.gate_words.specs.declared.option.Name.{Name}
 use Rattle.gate_words.proofs.Names.{name_of-is, name_of-text, name_of-joined, joined-text, joined-is, no-dash, test-no-dash}
-use Rattle.gate_world.proofs.Steps.{and_then-some, map-some}
+use Rattle.octets.proofs.Steps.{and_then-some, map-some}
 
 -- ---- words that are read spell settings
 

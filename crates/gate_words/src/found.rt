@@ -10,7 +10,7 @@ use crate::connections::connections_given;
 use crate::place::{LentPlace, owned};
 use crate::{Task, WordsError};
 use clap::ArgMatches;
-use gate_world::Text;
+use octets::Text;
 use std::alloc::Global;
 
 /// The place that was found.

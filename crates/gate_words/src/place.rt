@@ -2,7 +2,7 @@
 ghost use Rattle.std.specs.Prelude.{◌≡◌, IfOk};
 ghost use Rattle.gate_words.specs.reading.Lent.{place_in};
 
-use gate_world::Text;
+use octets::Text;
 use std::alloc::{AllocError, Global};
 
 /// Where the store is, whose mail it keeps, and where clients find the gateway.

@@ -3,7 +3,7 @@ ghost use Rattle.std.specs.Prelude.{◌≡◌};
 ghost use Rattle.gate_words.specs.declared.task.WordsError.TheVariants.{Memory};
 
 use crate::{Page, Place};
-use gate_world::Text;
+use octets::Text;
 use std::alloc::AllocError;
 use thiserror::Error;
 

@@ -1,5 +1,5 @@
 // What is asked of the outside and answered by it.
-use crate::{Bytes, Names};
+use octets::{Bytes, Names};
 
 /// One call to the outside, by what came of it.
 #[derive(Debug, PartialEq, Drop)]

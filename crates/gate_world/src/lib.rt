@@ -1,12 +1,6 @@
 //! The outside of the gateway: its parts as traits, and what each call adds to the tape of events.
 #![tactic(auto)]
 
-// Values.
-mod bytes;
-mod listed;
-mod names;
-mod text;
-
 // The outside.
 mod event;
 mod outside;
@@ -17,13 +11,9 @@ mod watcher;
 mod sending;
 mod unread;
 
-pub use bytes::Bytes;
 pub use event::Event;
-pub use listed::Listed;
-pub use names::Names;
 pub use outside::{Chance, Console, Failed, Front, KeepError, Link, Secrets, Taped, World};
 pub use sending::{send_all, write_all};
 pub use tape::Tape;
-pub use text::Text;
 pub use unread::{FillError, MAX_FILL_OCTETS, Unread};
 pub use watcher::Watcher;

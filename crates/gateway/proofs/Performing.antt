@@ -13,9 +13,9 @@ use Rattle.gate_serving.specs.declared.door.Door.{Door}
 use Rattle.gate_serving.specs.declared.door.Door.TheVariants.{Bare, Http}
 use Rattle.gate_serving.specs.declared.front.FrontError.{FrontError}
 use Rattle.gate_serving.specs.declared.front.FrontError.TheVariants as front
-use Rattle.gate_serving.specs.declared.served.Served.{Served}
-use Rattle.gate_serving.specs.declared.served.OpenError.{OpenError}
-use Rattle.gate_serving.specs.declared.served.OpenError.TheVariants as opening
+use Rattle.gate_serving.specs.declared.outcomes.ClientOutcome.{ClientOutcome}
+use Rattle.gate_serving.specs.declared.outcomes.OpenError.{OpenError}
+use Rattle.gate_serving.specs.declared.outcomes.OpenError.TheVariants as opening
 use Rattle.gate_serving.specs.GateState.{GateState}
 use Rattle.gate_serving.specs.Requests.{Account}
 use Rattle.gate_serving.specs.Run.{Opens, AddsSegment, IsServingRun, account_of, run_blamed}
@@ -31,7 +31,7 @@ later_say : (was now : Faults) → SayAlone was now → Later was now
 later_say was now alone = record { link = omega (arith, alone.link); keep = omega (arith, alone.keep); front = omega (arith, alone.front); say = alone.say }
 
 -- a gate was opened, and answered one client
-pub record Attends (place : Place) (secrets : Hidden) (was now : Faults) (how : Served) (events : List Event) : Type 0 where
+pub record Attends (place : Place) (secrets : Hidden) (was now : Faults) (how : ClientOutcome) (events : List Event) : Type 0 where
   pub opened : List Event
   pub segment : List Event
   pub before : GateState
@@ -41,7 +41,7 @@ pub record Attends (place : Place) (secrets : Hidden) (was now : Faults) (how : 
   pub whole : events ≡ opened ++ segment
 
 -- a gate is opened at the place, and then answers one client, or none comes
-pub attends : {place : Place} {secrets now_secrets : Hidden} {door : Door} {account : Account} {before after : GateState} {was mid now : Faults} {how : Served} (xs ys : List Event)
+pub attends : {place : Place} {secrets now_secrets : Hidden} {door : Door} {account : Account} {before after : GateState} {was mid now : Faults} {how : ClientOutcome} (xs ys : List Event)
     → door ≡ Bare → account ≡ account_of place secrets → now_secrets ≡ secrets → NoFault was mid → Opens (Ok before) xs → AddsSegment door account before after mid now how ys
     → Attends place secrets was now how (xs ++ ys)
 attends {place} {secrets} {door = door} {account = account} {before = before} {after = after} {was = was} {mid = mid} {now = now} {how = how} xs ys here same kept none opens step =
@@ -58,7 +58,7 @@ attends {place} {secrets} {door = door} {account = account} {before = before} {a
     }
 
 -- the task `once`: a gate that answered one client, and what is said after it
-pub performs_once : {place : Place} {secrets : Hidden} {was mid now : Faults} {how : Served} {status : ℕ} {xs : List Event} (ys : List Event)
+pub performs_once : {place : Place} {secrets : Hidden} {was mid now : Faults} {how : ClientOutcome} {status : ℕ} {xs : List Event} (ys : List Event)
     → Attends place secrets was mid how xs → SayAlone mid now → EndsOnce how status ys → Performs (Once place) secrets was now status (xs ++ ys)
 performs_once {place} {was = was} {mid = mid} {now = now} {how = how} ys a alone ends =
     record {

@@ -10,7 +10,7 @@ use Rattle.gate_serving.specs.Complete.{AreObeyedTold, CompletesRun}
 use Rattle.gate_serving.specs.GateState.{GateState}
 use Rattle.gate_serving.specs.Requests.{Account}
 use Rattle.gate_serving.specs.Run.{Run, Stood, account_of, run_blamed}
-use Rattle.gate_serving.specs.declared.served.Served.{Served}
+use Rattle.gate_serving.specs.declared.outcomes.ClientOutcome.{ClientOutcome}
 use Rattle.gate_serving.proofs.Told.{ToldLaw}
 use Rattle.gateway.specs.Complete.{AnswersAll, AreAnswered, IsTaskAnswered, IsTaskTold, CompletesServing}
 use Rattle.gateway.specs.Program.{Performed, Unopened, ServedMany, ServedOnce, StoreUnmade, ServedStore, ShownOne, Explained, Runs, Refused, OutOfMemory, Done, IsWholeRun}
@@ -43,7 +43,7 @@ abbrev pub BlameLaw : Type 0
 BlameLaw = (blames was now : Faults) → Bears blames was now → Stood was now → blames ≡ no_faults
 
 abbrev pub QuietLaw : Type 0
-QuietLaw = (door : Door) (account : Account) (before after : GateState) (events : List Event) (went : List Served) (run : Run door account before events went after)
+QuietLaw = (door : Door) (account : Account) (before after : GateState) (events : List Event) (went : List ClientOutcome) (run : Run door account before events went after)
     → run_blamed run ≡ no_faults → AreObeyedTold run
 
 task_answered : ToldLaw → QuietLaw → {task : Task} {secrets : Hidden} {status : ℕ} {blames : Faults} {events : List Event}

@@ -16,9 +16,9 @@ use Rattle.store_sessions.specs.Clients.{ServesSessions}
 use Rattle.gate_serving.specs.declared.door.Door.TheVariants.{Bare, Http}
 use Rattle.gate_serving.specs.declared.front.FrontError.{FrontError}
 use Rattle.gate_serving.specs.declared.front.FrontError.TheVariants as front
-use Rattle.gate_serving.specs.declared.served.Served.{Served}
-use Rattle.gate_serving.specs.declared.served.Served.TheVariants as served
-use Rattle.gate_serving.specs.declared.served.OpenError.TheVariants as opening
+use Rattle.gate_serving.specs.declared.outcomes.ClientOutcome.{ClientOutcome}
+use Rattle.gate_serving.specs.declared.outcomes.ClientOutcome.TheVariants as served
+use Rattle.gate_serving.specs.declared.outcomes.OpenError.TheVariants as opening
 use Rattle.gate_serving.specs.GateState.{GateState}
 use Rattle.gate_serving.specs.Run.{Run, Ends, Opens, account_of, run_blamed}
 use Rattle.gate_serving.specs.Segment.{Segment, blamed, blame_front}
@@ -45,14 +45,14 @@ abbrev pub EndsDone : ℕ → List Event → Type 0
 EndsDone status said = (status ≡ 0) × (said ≡ [])
 
 -- The status after one client on standard input, and what is said: whatever of the front fails ends in status 6.
-abbrev pub EndsOnce : Served → ℕ → List Event → Type 0
+abbrev pub EndsOnce : ClientOutcome → ℕ → List Event → Type 0
 EndsOnce served.Whole status said = EndsDone status said
 EndsOnce served.NoMore status said = EndsDone status said
 EndsOnce served.Part status said = EndsFailed status said
 EndsOnce served.AcceptFault status said = EndsFailed status said
 
 -- The same after clients over HTTP, of whom n may come: a fault ends in status 6 where no client could be accepted.
-abbrev pub EndsServing : ℕ → List Served → ℕ → List Event → Type 0
+abbrev pub EndsServing : ℕ → List ClientOutcome → ℕ → List Event → Type 0
 EndsServing most went status said = Ends most went status × (EndsDone status said ⊎ EndsFailed status said)
 
 -- The same after clients of the small store: a fault ends in status 6 where no client could be accepted.
@@ -94,7 +94,7 @@ pub record ServesClients (place : Place) (most : ℕ) (secrets : Hidden) (status
   pub said : List Event
   pub before : GateState
   pub after : GateState
-  pub went : List Served
+  pub went : List ClientOutcome
   pub opens : Opens (Ok before) opening
   pub run : Run Http (account_of place secrets) before serving went after
   pub ends : EndsServing most went status said
@@ -108,7 +108,7 @@ pub record ServesOne (place : Place) (secrets : Hidden) (status : ℕ) (blames :
   pub said : List Event
   pub before : GateState
   pub after : GateState
-  pub how : Served
+  pub how : ClientOutcome
   pub opens : Opens (Ok before) opening
   pub segment : Segment Bare (account_of place secrets) before serving how after
   pub ends : EndsOnce how status said

@@ -12,7 +12,7 @@ ghost use Rattle.gateway.specs.Program.{EndsDone, EndsFailed, EndsOnce, EndsStor
 use crate::explain::explain_one;
 use crate::laws::{obeyed_programs_tell, quiet_programs_tell};
 use crate::show::show_one;
-use gate_serving::{Door, FrontError, Gate, OpenError, Served, serve};
+use gate_serving::{ClientOutcome, Door, FrontError, Gate, OpenError, serve};
 use gate_words::{Page, Place, Task, WordsError, read_words};
 use gate_world::{Failed, Watcher, World};
 use small_store::StoreMachine;
@@ -51,18 +51,18 @@ fn end_refused<W: World>(world: &mut W) -> u8
 }
 
 // Ends the serving of one client on standard input.
-fn end_once<W: World>(world: &mut W, served: Served) -> u8
+fn end_once<W: World>(world: &mut W, served: ClientOutcome) -> u8
     ensures said { Adds (W.tape world.old) (W.tape world.new) (EndsOnce served result) }
     ensures statuses { (result ≡ 0) ⊎ (result ≡ 6) }
-    ensures failed { result ≡ 6 → (served ≡ Served.Part) ⊎ (served ≡ Served.AcceptFault) }
+    ensures failed { result ≡ 6 → (served ≡ ClientOutcome.Part) ⊎ (served ≡ ClientOutcome.AcceptFault) }
     ensures alone { SayAlone (W.faults world.old) (W.faults world.new) }
     ensures hidden { W.hidden world.new ≡ W.hidden world.old }
 {
     match served {
-        Served::Whole => STATUS_DONE,
-        Served::NoMore => STATUS_DONE,
-        Served::Part => end_failed(world),
-        Served::AcceptFault => end_failed(world),
+        ClientOutcome::Whole => STATUS_DONE,
+        ClientOutcome::NoMore => STATUS_DONE,
+        ClientOutcome::Part => end_failed(world),
+        ClientOutcome::AcceptFault => end_failed(world),
     }
 }
 

@@ -6,7 +6,8 @@ ghost use Rattle.gateway.specs.Show.{ShowsObject, ReadsInput, AnswersShow, Shows
 
 use email_objects::email_object;
 use gate_serving::{FrontError, receive, with_line_end};
-use gate_world::{Bytes, Front, send_all};
+use gate_world::{Front, send_all};
+use octets::Bytes;
 use std::alloc::{AllocError, Global};
 
 /// The most octets of a message that are read.

@@ -1,7 +1,7 @@
 // The texts of commands.
 use crate::responses::put_joined;
-use gate_world::Names;
 use imap_commands::{Command, write_command};
+use octets::Names;
 use std::alloc::{AllocError, Global};
 use told_dialogues::{bytes_of, first_number, first_uid, first_word};
 

@@ -1,8 +1,8 @@
 // What a client's octets ask of a store.
 use crate::commands::{command_of, put_text};
 use crate::responses::put_joined;
-use gate_world::Bytes;
 use imap_commands::{Command, write_command};
+use octets::Bytes;
 use std::alloc::{AllocError, Global};
 use store_commands::{CommandRead, read_command};
 use told_dialogues::{first_number, octets_of, put_octets};

@@ -1,7 +1,7 @@
 // What responses say.
 use crate::kinds::{is_whole, kind_of};
-use gate_world::{Bytes, Names};
 use imap_grammar::{FetchItems, Response};
+use octets::{Bytes, Names};
 use std::alloc::{AllocError, Global};
 use told_dialogues::{first_number, first_response, first_uid, octets_of, put_octets};
 

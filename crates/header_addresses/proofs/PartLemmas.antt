@@ -1,9 +1,8 @@
 -- What a text by itself is, or begins with.
-use Rattle.std.proofs.Common.{◌≡◌, ◌≢◌, ℕ, ◌+◌, Bool, true, false, not, List, [], ◌∷◌, ◌++◌, length, take, drop, refl, sym, ap, ◌∙◌, subst, append_assoc, arith, ◌==◌, ◌≤◌, eqb, take-append-drop, Option, Some, None, MatchOption, map}
-use Rattle.std.specs.List.{filter, flat_map}
+use Rattle.std.proofs.Common.{◌≡◌, ◌≢◌, ℕ, ◌+◌, Bool, true, false, not, List, [], ◌∷◌, ◌++◌, length, take, drop, refl, sym, ap, ◌∙◌, subst, append_assoc, arith, ◌==◌, ◌≤◌, eqb, take-append-drop, Option, Some, None, MatchOption}
+use Rattle.std.specs.List.{filter}
 use Rattle.std.proofs.lemmas.List.{append_cancel_left, drop_at, length-append, length-map, take-map}
 use Rattle.text_words.specs.Cuts.{Each, Stops, front, back}
-use Rattle.text_words.specs.Sequence.{Sequence}
 use Rattle.text_words.proofs.CutLemmas.{SameCut, run_cut, front_back, back_stops}
 use Rattle.header_words.specs.EncodedWords.{IsText}
 use Rattle.header_words.proofs.WordLemmas as words
@@ -15,7 +14,7 @@ use Rattle.header_tokens.specs.TokenView.{token_view, tokens_view}
 use Rattle.header_tokens.proofs.LeadingLemmas.{one_leading, one_rest, one_tokens}
 use Rattle.header_addresses.specs.declared.address.Address.{Address}
 use Rattle.header_addresses.specs.Mailboxes.{is_phrase, is_no_colon, Mailbox}
-use Rattle.header_addresses.specs.AddressLists.{Element, Empty, Head, End, Member, IsElement, Addressee, One, Group, AreAddressees, NoAddressees, Passed, NextOne, NextGroup}
+use Rattle.header_addresses.specs.AddressLists.{Element, Empty, Head, End, Member, Addressee, One, Group, AreAddressees, NoAddressees, Passed, NextOne, NextGroup}
 use Rattle.header_addresses.specs.Names.{phrase_text, IsAddress}
 use Rattle.header_addresses.specs.Parts.{IsOneAddress, IsPhraseName, spelled_by, HasHead}
 use Rattle.header_addresses.specs.reading.ElementReading.{is_filled}
@@ -239,3 +238,15 @@ one_head r q t g h =
     let b : g.colon ∷ g.more ≡ h.colon ∷ h.more = d.back ∙ sym c.back in
     let more : g.more ≡ h.more = cc in
     g.rest_is ∙ ap (λ (u : List Spelled). spelled_by u ++ g.tail) more ∙ ap (λ (u : List ℕ). spelled_by h.more ++ u) f ∙ sym h.rest_is
+
+-- what follows a beginning is the text's end
+pub head_rest : (rest t : List ℕ) → HasHead rest t → (front : List ℕ) × (t ≡ front ++ rest)
+head_rest rest t h =
+    let n = length h.phrase + 1 in
+    let ts = h.phrase ++ h.colon ∷ h.more in
+    let d : drop n ts ≡ h.more = ap (drop n) (sym (append_assoc h.phrase (h.colon ∷ []) h.more))
+    ∙ drop_at (h.phrase ++ h.colon ∷ []) h.more n (length-append h.phrase (h.colon ∷ [])) in (
+      spelled_by (take n ts),
+      begins_with n ts h.tail t h.tokens ∙ ap (λ (u : List Spelled). spelled_by (take n ts) ++ (spelled_by u ++ h.tail)) d
+          ∙ ap (λ (u : List ℕ). spelled_by (take n ts) ++ u) (sym h.rest_is),
+    )

@@ -1,5 +1,5 @@
 // Addresses and groups.
-use gate_world::{Bytes, Listed};
+use octets::{Bytes, Listed};
 
 /// A mailbox: its name in UTF-8, where it has one, and its address as it is spelled.
 #[derive(PartialEq, Debug, Drop)]

@@ -11,10 +11,10 @@ ghost use Rattle.header_tokens.specs.TokenView.{tokens_view};
 use crate::address::{Address, Group};
 use crate::elements::{Element, Mailbox, elements};
 use crate::names::{address_of, phrase_name};
-use gate_world::{Bytes, Listed};
 use header_tokens::tokens::tokens;
 use header_tokens::{Alphabet, Token};
 use mail_header::as_raw;
+use octets::{Bytes, Listed};
 use std::alloc::{AllocError, Global};
 
 /// Whether each group is closed, and none stands in another.

@@ -13,11 +13,11 @@ use crate::address::Address;
 use crate::elements::Mailbox;
 use crate::mailboxes::is_phrase;
 use crate::token_class::{Gap, cut_tokens};
-use gate_world::Bytes;
 use header_tokens::{Kind, Token, bracketed_text, is_gap};
 use header_words::{as_one_line, decode_words};
 use mail_header::raw_forms::unfold;
 use mail_header::white_end::without_white_end;
+use octets::Bytes;
 use std::alloc::{AllocError, Global};
 use text_words::{White, cut};
 

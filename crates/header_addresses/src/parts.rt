@@ -16,9 +16,9 @@ use crate::elements::{Element, Mailbox};
 use crate::mailboxes::is_phrase;
 use crate::names::{address_of, phrase_name};
 use crate::token_class::{NoColon, cut_tokens};
-use gate_world::Bytes;
 use header_tokens::tokens::{leading_tokens, tokens};
 use header_tokens::{Alphabet, Token};
+use octets::Bytes;
 use std::alloc::{AllocError, Global};
 
 fn member<'a, 'b>(element: &Element<'a, 'b>) -> Option<Mailbox<'a, 'b>>

@@ -1,5 +1,5 @@
 -- What closes a bracket, read from the end of a text to its front.
-use Rattle.std.proofs.Common.{◌≡◌, ◌≢◌, subst, ℕ, zero, suc, ◌+◌, ◌-◌, ◌≤◌, Bool, true, false, List, [], ◌∷◌, ◌++◌, ◌⊎◌, inl, inr, length, take, drop, get_or, cond, refl, sym, ap, ◌∙◌, arith, append_assoc, eqb, eqb-true, None}
+use Rattle.std.proofs.Common.{◌≡◌, ◌≢◌, subst, ℕ, zero, suc, ◌+◌, ◌-◌, ◌≤◌, Bool, true, false, List, [], ◌∷◌, ◌++◌, inl, inr, length, take, drop, get_or, cond, refl, sym, ap, ◌∙◌, arith, append_assoc, eqb, eqb-true, None}
 use Rattle.std.specs.Prelude.{nat_lt}
 use Rattle.std.proofs.Math.Seq.{get_or-append_seam}
 use Rattle.std.proofs.lemmas.Bool.{eqb-false, ltb-false}
@@ -11,7 +11,7 @@ use Rattle.header_tokens.specs.reading.TokenReading.{further, close_in}
 use Rattle.header_tokens.proofs.BracketSteps.{close_escaped, close_slash, close_down, close_up, close_other, close_none}
 use Rattle.header_tokens.proofs.BracketReading.{none_read, none_begins}
 use Rattle.header_tokens.proofs.OneToken.{apart_quoted, apart_literal, apart_comment}
-use Rattle.header_tokens.specs.Closings.{IsLiteral, IsAngle, is_no_greater_octet, IsClosed, BeginsUnclosed}
+use Rattle.header_tokens.specs.Closings.{IsLiteral, IsAngle, is_no_greater_octet, BeginsUnclosed}
 use Rattle.header_tokens.specs.reading.ClosingCounts.{unmatched, has_closer, has_greater, is_closed, closings, TellClosings}
 
 -- ---- what nothing closes

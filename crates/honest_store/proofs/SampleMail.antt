@@ -2,9 +2,9 @@
 use Rattle.std.proofs.Common.{◌≡◌, ◌≢◌, ℕ, zero, suc, ◌<◌, true, List, [], ◌∷◌, Some, None, refl, sym, subst, arith, pos, slice_index_or, codes, All, Contains}
 use Rattle.std.specs.List.{AllPairs}
 use Rattle.std.proofs.lemmas.List.Elements.{All-nil, All-cons}
-use Rattle.imap_syntax.specs.declared.uid_set.UidRange.{UidRange}
-use Rattle.imap_syntax.specs.declared.uid_set.UidSet.{UidSet}
-use Rattle.imap_syntax.specs.UidSets.{InRange, Holds, HoldsOnly}
+use Rattle.imap_types.specs.declared.uid_set.UidRange.{UidRange}
+use Rattle.imap_types.specs.declared.uid_set.UidSet.{UidSet}
+use Rattle.imap_types.specs.UidSets.{InRange, Holds, HoldsOnly}
 use Rattle.honest_store.specs.StoreMail.{StoreMessage, StoreFolder, StoreMail}
 use Rattle.honest_store.specs.WellFormed.{IsStoreMessage, IsExpungedUid, IsStoreFolder, IsUnselectableName, AgreeOnFolder, IsStoreMail, use_of}
 use Rattle.honest_store.specs.MessageChanges.{folder_with, folder_without, folder_flagged}

@@ -1,6 +1,6 @@
 -- Responses that are told truly, while others do more or less.
 use Rattle.std.proofs.Common.{◌≡◌, ℕ, List, Option, refl}
-use Rattle.imap_syntax.specs.declared.response.Response.{Response}
+use Rattle.imap_types.specs.declared.response.Response.{Response}
 use Rattle.honest_store.specs.StoreMail.{StoreMail}
 use Rattle.honest_store.specs.WellFormed.{IsStoreMail}
 use Rattle.honest_store.specs.Others.{NoStep, OthersStep}

@@ -1,7 +1,7 @@
 -- Attributes of mailbox names (RFC 9051 section 7.3.1), in kept form.
 use Rattle.std.specs.Prelude.{ℕ, ◌||◌, Bool, true, false, not, List, ◌∷◌, filter, codes, bytes_eq}
 use Rattle.std.specs.List.{list_any}
-use Rattle.imap_syntax.specs.Items.{kept}
+use Rattle.imap_types.specs.Items.{kept}
 
 -- what a store may tell today and not tomorrow, though nobody changed the folder
 abbrev pub is_hint : List ℕ → Bool

@@ -1,8 +1,8 @@
 -- What UID FETCH tells (RFC 9051 sections 6.4.5 and 6.4.9).
 use Rattle.std.specs.Prelude.{◌≡◌, ◌⊎◌, ℕ, ◌≤◌, min, max, Bool, true, List, Option, Some, None, All, IsSome}
 use Rattle.std.specs.List.{Any}
-use Rattle.imap_syntax.specs.declared.response.Response.{Response}
-use Rattle.imap_syntax.specs.declared.response.FetchItems.{FetchItems}
+use Rattle.imap_types.specs.declared.response.Response.{Response}
+use Rattle.imap_types.specs.declared.response.FetchItems.{FetchItems}
 use Rattle.honest_store.specs.StoreMail.{StoreMessage}
 use Rattle.honest_store.specs.Responses.{IsFetchOf}
 

@@ -1,7 +1,7 @@
 -- The header of a message, as BODY[HEADER] tells it (RFC 9051 section 6.4.5.1, RFC 5322 section 2.1).
 use Rattle.std.specs.Prelude.{ℕ, ◌==◌, ◌&&◌, nat_lt, Bool, List, [], ◌∷◌, take, if◌then◌else◌}
 use Rattle.text_words.specs.LineEnds.{line_end_len}
-use Rattle.imap_syntax.specs.Items.{header_limit}
+use Rattle.imap_types.specs.Items.{header_limit}
 
 -- an empty line stands at the front
 abbrev pub begins_with_empty_line : List ℕ → Bool

@@ -1,12 +1,12 @@
 -- What an honest store answers to a command, and what its mail is then (RFC 9051, RFC 7162), in a session in which QRESYNC is enabled.
 use Rattle.std.specs.Prelude.{◌≡◌, ◌≢◌, ◌⊎◌, ℕ, List, [], ◌∷◌, ◌++◌, Option, Some, None, IsSome}
 use Rattle.std.specs.List.{Any}
-use Rattle.imap_syntax.specs.declared.command.Command.{Command}
-use Rattle.imap_syntax.specs.declared.command.Command.TheVariants as command
-use Rattle.imap_syntax.specs.declared.response.Response.{Response}
-use Rattle.imap_syntax.specs.declared.response.Status.{Status}
-use Rattle.imap_syntax.specs.declared.response.Status.TheVariants as status
-use Rattle.imap_syntax.specs.Folders.{folder_name}
+use Rattle.imap_types.specs.declared.command.Command.{Command}
+use Rattle.imap_types.specs.declared.command.Command.TheVariants as command
+use Rattle.imap_types.specs.declared.response.Response.{Response}
+use Rattle.imap_types.specs.declared.response.Status.{Status}
+use Rattle.imap_types.specs.declared.response.Status.TheVariants as status
+use Rattle.imap_types.specs.Folders.{folder_name}
 use Rattle.honest_store.specs.StoreMail.{StoreMessage, StoreFolder, StoreMail, IsFolderNamed, folder_called, message_numbered}
 use Rattle.honest_store.specs.WellFormed.{IsStoreMail}
 use Rattle.honest_store.specs.FolderChanges.{ChangesFolders, CreatesFolder, DeletesFolder, inbox_name, RenamesFolders, ChangesSubscription}

@@ -1,8 +1,8 @@
 -- What LIST tells (RFC 9051 sections 6.3.9 and 7.3.1).
 use Rattle.std.specs.Prelude.{◌≡◌, ◌≢◌, ◌⊎◌, ℕ, List, Option, Some, None, IsSome, All}
 use Rattle.std.specs.List.{Any, AllPairs, filter_map}
-use Rattle.imap_syntax.specs.declared.response.Response.{Response}
-use Rattle.imap_syntax.specs.declared.response.Response.TheVariants as response
+use Rattle.imap_types.specs.declared.response.Response.{Response}
+use Rattle.imap_types.specs.declared.response.Response.TheVariants as response
 use Rattle.honest_store.specs.StoreMail.{StoreFolder, UnselectableName, StoreMail}
 use Rattle.honest_store.specs.Attributes.{lasting}
 

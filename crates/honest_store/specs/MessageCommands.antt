@@ -2,11 +2,11 @@
 -- moment, `n` is the number of the folder that is selected.
 use Rattle.std.specs.Prelude.{◌≡◌, ◌⊎◌, ℕ, ℤ, Bool, true, false, not, List, ◌++◌, Option, Some, None, filter, length, codes, bytes_eq, All}
 use Rattle.std.specs.List.{Any, list_any}
-use Rattle.imap_syntax.specs.declared.code.Code.{Code}
-use Rattle.imap_syntax.specs.declared.code.Code.TheVariants as code
-use Rattle.imap_syntax.specs.declared.response.FetchItems.{FetchItems}
-use Rattle.imap_syntax.specs.Items.{kept}
-use Rattle.imap_syntax.specs.UidSets.{HoldsOnly}
+use Rattle.imap_types.specs.declared.code.Code.{Code}
+use Rattle.imap_types.specs.declared.code.Code.TheVariants as code
+use Rattle.imap_types.specs.declared.response.FetchItems.{FetchItems}
+use Rattle.imap_types.specs.Items.{kept}
+use Rattle.imap_types.specs.UidSets.{HoldsOnly}
 use Rattle.honest_store.specs.StoreMail.{StoreMessage, StoreFolder, StoreMail, IsFolderNamed, has_flag}
 use Rattle.honest_store.specs.WellFormed.{nearest_date}
 use Rattle.honest_store.specs.MessageChanges.{AddsMessage, EndsMessage, FlagsMessage, MovesMessage}

@@ -1,12 +1,12 @@
 -- Untagged responses: which may come while a command is answered, and what one tells (RFC 9051 section 7, RFC 7162 section 3.2.10).
 use Rattle.std.specs.Prelude.{◌≡◌, ℕ, Bool, Some, IsSome}
-use Rattle.imap_syntax.specs.declared.code.Code.{Code}
-use Rattle.imap_syntax.specs.declared.code.Code.TheVariants as code
-use Rattle.imap_syntax.specs.declared.response.Response.{Response}
-use Rattle.imap_syntax.specs.declared.response.Response.TheVariants as response
-use Rattle.imap_syntax.specs.declared.response.Status.TheVariants as status
-use Rattle.imap_syntax.specs.declared.response.FetchItems.{FetchItems}
-use Rattle.imap_syntax.specs.UidSets.{Holds}
+use Rattle.imap_types.specs.declared.code.Code.{Code}
+use Rattle.imap_types.specs.declared.code.Code.TheVariants as code
+use Rattle.imap_types.specs.declared.response.Response.{Response}
+use Rattle.imap_types.specs.declared.response.Response.TheVariants as response
+use Rattle.imap_types.specs.declared.response.Status.TheVariants as status
+use Rattle.imap_types.specs.declared.response.FetchItems.{FetchItems}
+use Rattle.imap_types.specs.UidSets.{Holds}
 
 -- A response that may come while a command is answered: none that has a tag, that ends the link, or that says that the command isn't
 -- understood; and no EXPUNGE, for which VANISHED stands once QRESYNC is enabled.

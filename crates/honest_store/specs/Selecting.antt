@@ -1,11 +1,11 @@
 -- What SELECT tells (RFC 9051 section 6.3.2, RFC 7162 sections 3.1.2, 3.2.5 and 3.2.11).
 use Rattle.std.specs.Prelude.{◌≡◌, ◌≢◌, ◌⊎◌, ℕ, ◌<◌, true, false, List, [], ◌∷◌, Option, Some, None, All, IfSome}
 use Rattle.std.specs.List.{Any}
-use Rattle.imap_syntax.specs.declared.code.Code.{Code}
-use Rattle.imap_syntax.specs.declared.code.Code.TheVariants as code
-use Rattle.imap_syntax.specs.declared.response.Response.{Response}
-use Rattle.imap_syntax.specs.declared.response.Response.TheVariants as response
-use Rattle.imap_syntax.specs.declared.response.Status.TheVariants as status
+use Rattle.imap_types.specs.declared.code.Code.{Code}
+use Rattle.imap_types.specs.declared.code.Code.TheVariants as code
+use Rattle.imap_types.specs.declared.response.Response.{Response}
+use Rattle.imap_types.specs.declared.response.Response.TheVariants as response
+use Rattle.imap_types.specs.declared.response.Status.TheVariants as status
 use Rattle.honest_store.specs.StoreMail.{StoreFolder}
 use Rattle.honest_store.specs.Responses.{IsFetchOf, TellsFlags, IsVanishedOf, IsCoded, ok_code}
 use Rattle.honest_store.specs.Sessions.{CutAnswer}

@@ -1,8 +1,8 @@
 -- A session over a store, and an answer in it (RFC 9051 sections 2.2.2 and 3).
 use Rattle.std.specs.Prelude.{ℕ, List, [], ◌∷◌, ◌++◌, Option, map}
-use Rattle.imap_syntax.specs.declared.code.Code.{Code}
-use Rattle.imap_syntax.specs.declared.response.Response.{Response}
-use Rattle.imap_syntax.specs.declared.response.Status.{Status}
+use Rattle.imap_types.specs.declared.code.Code.{Code}
+use Rattle.imap_types.specs.declared.response.Response.{Response}
+use Rattle.imap_types.specs.declared.response.Status.{Status}
 use Rattle.honest_store.specs.StoreMail.{StoreMail}
 use Rattle.honest_store.specs.Responses.{ok_code}
 

@@ -1,7 +1,7 @@
 -- The mail of a store (RFC 9051 sections 2.3 and 5.1, RFC 7162 section 3.1), and look-ups in it.
 use Rattle.std.specs.Prelude.{◌≡◌, ℕ, ℤ, ◌==◌, Bool, List, Option, Some, find, bytes_eq}
 use Rattle.std.specs.List.{list_any}
-use Rattle.imap_syntax.specs.Folders.{folder_name}
+use Rattle.imap_types.specs.Folders.{folder_name}
 
 -- A message. Its date (RFC 9051 section 2.3.3), its size (section 2.3.4) and its octets are what they were from the first.
 pub record StoreMessage : Type 0 where

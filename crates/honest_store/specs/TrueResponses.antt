@@ -1,10 +1,10 @@
 -- Responses that are true as they come (RFC 9051 section 7.5.2, RFC 7162 section 3.2.10).
 use Rattle.std.specs.Prelude.{◌≡◌, ℕ, List, [], ◌∷◌, Option, Some, None, take, IfSome}
-use Rattle.imap_syntax.specs.declared.response.Response.{Response}
-use Rattle.imap_syntax.specs.declared.response.Response.TheVariants as response
-use Rattle.imap_syntax.specs.declared.response.FetchItems.{FetchItems}
-use Rattle.imap_syntax.specs.Items.{body_limit}
-use Rattle.imap_syntax.specs.UidSets.{Holds}
+use Rattle.imap_types.specs.declared.response.Response.{Response}
+use Rattle.imap_types.specs.declared.response.Response.TheVariants as response
+use Rattle.imap_types.specs.declared.response.FetchItems.{FetchItems}
+use Rattle.imap_types.specs.Items.{body_limit}
+use Rattle.imap_types.specs.UidSets.{Holds}
 use Rattle.honest_store.specs.StoreMail.{StoreMessage, StoreFolder, StoreMail, folder_numbered, message_numbered}
 use Rattle.honest_store.specs.Headers.{header_told}
 use Rattle.honest_store.specs.Responses.{MayCome}

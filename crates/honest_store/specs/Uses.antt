@@ -1,6 +1,6 @@
 -- A store over time, and its names: at no two times does one name stand for two folders with one UIDVALIDITY (RFC 9051 section 2.3.1.1).
 use Rattle.std.specs.Prelude.{◌≡◌, List, ◌++◌, None, Contains}
-use Rattle.imap_syntax.specs.declared.command.Command.{Command}
+use Rattle.imap_types.specs.declared.command.Command.{Command}
 use Rattle.honest_store.specs.StoreMail.{StoreFolder, NameUse, StoreMail}
 use Rattle.honest_store.specs.Others.{OthersStep}
 use Rattle.honest_store.specs.Sessions.{StoreSession, StoreAnswer}

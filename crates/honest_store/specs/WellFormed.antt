@@ -1,11 +1,11 @@
 -- What holds of a store's mail at every moment (RFC 9051 sections 2.3.1.1 and 5.1, RFC 7162 section 3.1).
 use Rattle.std.specs.Prelude.{◌≡◌, ◌≢◌, ℕ, ℤ, pos, ◌-ℤ◌, ◌^◌, ◌<◌, ◌≤◌, Bool, true, false, List, [], ◌∷◌, None, IfSome, All, Contains}
 use Rattle.std.specs.List.{AllPairs}
-use Rattle.imap_syntax.specs.Octets.{is_text}
-use Rattle.imap_syntax.specs.Texts.{Each}
-use Rattle.imap_syntax.specs.Folders.{folder_name}
-use Rattle.imap_syntax.specs.Items.{kept}
-use Rattle.imap_syntax.specs.Dates.{seconds_from}
+use Rattle.imap_types.specs.Octets.{is_text}
+use Rattle.imap_types.specs.Texts.{Each}
+use Rattle.imap_types.specs.Folders.{folder_name}
+use Rattle.imap_types.specs.Items.{kept}
+use Rattle.imap_types.specs.Dates.{seconds_from}
 use Rattle.honest_store.specs.StoreMail.{StoreMessage, ExpungedUid, StoreFolder, UnselectableName, NameUse, StoreMail, folder_called, message_numbered}
 use Rattle.honest_store.specs.Attributes.{is_unselectable}
 

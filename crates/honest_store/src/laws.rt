@@ -1,7 +1,7 @@
 //! What the definition of an honest answer promises, as clauses of functions that do nothing.
 ghost use Rattle.std.specs.Prelude.{◌≡◌, ◌⊎◌, ℕ, All};
-ghost use Rattle.imap_syntax.specs.declared.command.Command.{Command};
-ghost use Rattle.imap_syntax.specs.declared.response.Status.TheVariants as statuses;
+ghost use Rattle.imap_types.specs.declared.command.Command.{Command};
+ghost use Rattle.imap_types.specs.declared.response.Status.TheVariants as statuses;
 ghost use Rattle.honest_store.specs.StoreMail.{StoreMail};
 ghost use Rattle.honest_store.specs.WellFormed.{IsStoreMail};
 ghost use Rattle.honest_store.specs.Others.{NoStep, OthersStep, StepBesideFolder, StepKeepingNames};

@@ -5,7 +5,7 @@ use crate::scripted::{RoughInput, scripted_of};
 use crate::steps::Scenario;
 use client_front::{ClientListener, TcpClients, Ticks};
 use gate_host::{Clients, HostWorld, ListenerFront, SessionFront, StandardFront, TcpSessions};
-use gate_world::{Bytes, Text};
+use octets::{Bytes, Text};
 use std::alloc::Global;
 use std::io;
 use told_dialogues::{first_word, octets_of, put_octets};
@@ -32,7 +32,7 @@ fn played<L: ClientListener + Drop, T: Ticks + Drop>(
     clock: T,
     steps: &str,
 ) -> io::Result<String> {
-    let front = ListenerFront::new(peers.desk.rt.alloc(), listener, clock);
+    let front = ListenerFront::new(peers.desk.rt.alloc(), listener, clock)?;
     let mut scenario = begun(peers, "", front)?;
     let mut out = scenario.play(steps)?;
     write!(out, "; faults {}", scenario.world.front.faults)?;

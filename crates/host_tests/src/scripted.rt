@@ -57,6 +57,8 @@ impl ClientStream for ScriptedClient {
 
     ghost ends = { λ _ _. ⊤ };
 
+    ghost closes = { λ _. ⊤ };
+
     fn peek(&self, into: &mut [u8]) -> Option<usize> {
         let looks = self.looks.get();
         self.looks.set(looks.saturating_add(1));
@@ -90,6 +92,8 @@ impl ClientStream for ScriptedClient {
     }
 
     fn end_writing(&mut self) {}
+
+    fn close(self) {}
 }
 
 /// A listener to which one client comes; further ones can't be accepted, or there are none. So many of its waits end for the

@@ -4,7 +4,7 @@ ghost use Rattle.http_routes.specs.Accept as spec;
 
 use crate::cutting::{after, before};
 use crate::parts::decoded;
-use gate_world::Bytes;
+use octets::Bytes;
 use std::alloc::{AllocError, Global};
 
 /// The value of `accept`, with its escapes, where the query begins with it; else no octet.

@@ -4,7 +4,7 @@ ghost use Rattle.http_routes.specs.reading.Parts as spec;
 ghost use Rattle.percent_encoding.specs.Percent as percent;
 
 use crate::cutting::{after, before};
-use gate_world::Bytes;
+use octets::Bytes;
 use percent_encoding::percent_decode;
 use std::alloc::{AllocError, Global};
 

@@ -9,7 +9,7 @@ ghost use Rattle.http_routes.specs.reading.Parts as reading;
 use crate::accept::media_in;
 use crate::parts::{account_part, blob_part, decoded, name_part};
 use crate::{Kind, Request, Routes};
-use gate_world::Bytes;
+use octets::Bytes;
 use std::alloc::{AllocError, Global};
 
 /// What a request asks for.

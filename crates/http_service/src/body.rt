@@ -9,7 +9,8 @@ use crate::chunks::read_chunks;
 use crate::error::HttpError;
 use crate::filling::fill_to;
 use crate::head::{BodyKind, Head};
-use gate_world::{Bytes, Front, Unread, send_all};
+use gate_world::{Front, Unread, send_all};
+use octets::Bytes;
 use std::alloc::{AllocError, Global};
 use std::mem;
 

@@ -8,7 +8,8 @@ ghost use Rattle.http_service.specs.reading.Steps.{ReadsOctet, ReadsData, ReadsC
 use crate::error::HttpError;
 use crate::filling::fill_to;
 use crate::line_reading::{read_line, read_trailer};
-use gate_world::{Bytes, Front, Unread};
+use gate_world::{Front, Unread};
+use octets::Bytes;
 use std::alloc::Global;
 
 /// What a chunk's line may have without counting: its size and CR LF.

@@ -10,9 +10,9 @@ use crate::error::HttpError;
 use crate::fields::{body_in, content_type_in, is_expecting, token_in};
 use crate::lines::Lines;
 use crate::target::split_target;
-use gate_world::Bytes;
 use httparse::Status;
 use httparse::spans::{EMPTY_HEADER_SPAN, HeaderSpan, RequestSpans, Span, parse_request};
+use octets::Bytes;
 use std::alloc::{AllocError, Global};
 
 /// How a body's end is known (RFC 9112 section 6.3).

@@ -4,8 +4,8 @@ ghost use Rattle.http.specs.StatusCode.{reason_phrase};
 ghost use Rattle.http_service.specs.Responses as texts;
 
 use crate::media::MediaType;
-use gate_world::Bytes;
 use http::StatusCode;
+use octets::Bytes;
 use std::alloc::{AllocError, Global};
 
 /// The field that tells the scheme of the token, in a response of status 401.

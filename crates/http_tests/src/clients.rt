@@ -1,9 +1,10 @@
 // What is read of a client, and what it takes.
 use crate::written::{or_dash, put_all, put_short};
-use gate_world::{Bytes, Event, Front};
-use http_door::{HttpAsking, ask_over_http};
+use gate_world::{Event, Front};
+use http_requests::{HttpAsking, ask_over_http};
 use http_routes::Routes;
 use http_service::{Head, HttpError, Spare, read_body, read_head};
+use octets::Bytes;
 use scripted_world::{Script, ScriptWorld};
 use std::alloc::{AllocError, Global};
 

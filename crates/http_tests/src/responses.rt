@@ -1,10 +1,10 @@
 // What clients are sent.
 use crate::clients::Client;
 use crate::written::{put_all, written};
-use gate_world::Bytes;
 use http::StatusCode;
-use http_door::{HttpResponse, download_media, problem_media};
+use http_requests::{HttpResponse, download_media, problem_media};
 use http_service::{MediaType, Refusal};
+use octets::Bytes;
 use std::alloc::{AllocError, Global};
 use told_dialogues::{first_number, first_word};
 

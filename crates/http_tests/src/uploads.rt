@@ -1,7 +1,7 @@
 // Uploads that are kept and that are refused.
 use crate::written::{put_all, written};
 use blob_store::BlobStore;
-use gate_world::Bytes;
+use octets::Bytes;
 use std::alloc::{AllocError, Global};
 
 /// A store of uploads, and the ids of those that it took, in order.

@@ -1,5 +1,5 @@
 // Octets as text.
-use gate_world::Bytes;
+use octets::Bytes;
 use std::alloc::{AllocError, Global};
 use told_dialogues::{first_number, octets_of, put_octets};
 

@@ -4,16 +4,16 @@ use Rattle.std.proofs.Common.{arith}
 use Rattle.std.specs.Prelude.{◌==◌, nat_lt, nat_le}
 use Rattle.std.proofs.lemmas.Bool.{eqb-true, ltb-true, leb-false, and_parts, lt-ltb, le-leb, cond-true, cond-false}
 use Rattle.std.proofs.lemmas.List.{length-append, append-nil}
-use Rattle.imap_syntax.proofs.EachLemmas.{each_append}
+use Rattle.imap_types.proofs.EachLemmas.{each_append}
 use Rattle.imap_keywords.specs.declared.count.Pending.{Pending}
 use Rattle.imap_keywords.specs.declared.count.Pending.TheVariants as pending
 use Rattle.imap_keywords.specs.Counts.{capped, pend_on, pend, pends}
 use Rattle.imap_automaton.specs.Langs.{NoCount, IsFreeFrom}
 use Rattle.imap_keywords.proofs.Classes.{digit_no_brace}
-use Rattle.imap_syntax.specs.Octets.{is_digit}
-use Rattle.imap_syntax.specs.Texts.{Each}
-use Rattle.imap_syntax.specs.Numbers.{value_from}
-use Rattle.imap_syntax.specs.Free.{EndsInCount, IsFree}
+use Rattle.imap_types.specs.Octets.{is_digit}
+use Rattle.imap_types.specs.Texts.{Each}
+use Rattle.imap_types.specs.Numbers.{value_from}
+use Rattle.imap_types.specs.Free.{EndsInCount, IsFree}
 
 -- ---- from the automaton to the grammar
 

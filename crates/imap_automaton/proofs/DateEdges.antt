@@ -20,10 +20,10 @@ use Rattle.pushdown.proofs.Lists.{cons_head, cons_tail, no_append}
 use Rattle.imap_automaton.proofs.Tests.{from_test, to_test, at_true}
 use Rattle.imap_keywords.proofs.KeyLemmas.{is_key_octet, key_octets, key_octet_month, key_some}
 use Rattle.imap_automaton.proofs.DateForms.{starts_day, is_sign, two, four, time_of, zone_of, octets_of, of_octets}
-use Rattle.imap_syntax.specs.Octets.{is_digit, lower}
-use Rattle.imap_syntax.specs.Texts.{Each}
-use Rattle.imap_syntax.specs.Dates.{month_name}
-use Rattle.imap_syntax.specs.DateTimes.{seconds_of, IsMonth, IsDateTime}
+use Rattle.imap_types.specs.Octets.{is_digit, lower}
+use Rattle.imap_types.specs.Texts.{Each}
+use Rattle.imap_types.specs.Dates.{month_name}
+use Rattle.imap_types.specs.DateTimes.{seconds_of, IsMonth, IsDateTime}
 
 -- ---- after the month
 

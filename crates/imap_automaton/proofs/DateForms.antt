@@ -2,9 +2,9 @@
 use Rattle.std.proofs.Common.{◌≡◌, ◌⊎◌, ℕ, ◌+◌, ◌-◌, ◌*◌, Bool, true, false, ◌||◌, ℤ, List, [], ◌∷◌, ◌++◌, cond, refl, sym, ap, ◌∙◌, append_assoc, arith, inl, inr}
 use Rattle.std.specs.Prelude.{◌==◌}
 use Rattle.std.proofs.lemmas.Bool.{eqb-true, or_cases}
-use Rattle.imap_syntax.specs.Octets.{is_digit}
-use Rattle.imap_syntax.specs.Texts.{Each}
-use Rattle.imap_syntax.specs.DateTimes.{seconds_of, IsDigits, IsFixedDay, IsMonth, IsDateTime}
+use Rattle.imap_types.specs.Octets.{is_digit}
+use Rattle.imap_types.specs.Texts.{Each}
+use Rattle.imap_types.specs.DateTimes.{seconds_of, IsDigits, IsFixedDay, IsMonth, IsDateTime}
 
 -- the number of two digits, a space counting as none
 abbrev pub two : ℕ → ℕ → ℕ

@@ -35,7 +35,7 @@ use Rattle.imap_automaton.proofs.ValueEdges.{value_back, value_forth, value_empt
 use Rattle.imap_automaton.proofs.FolderEdges.{folder_back, folder_forth, folder_empty, end_stops, counts_stop, more_stop, folder_example}
 use Rattle.imap_automaton.proofs.WordEdges.{word_back, word_forth, word_empty, word_example}
 use Rattle.imap_automaton.proofs.LineEdges.{line_edge_back, line_edge_forth, line_empty, line_example}
-use Rattle.imap_syntax.specs.Octets.{is_atom}
+use Rattle.imap_types.specs.Octets.{is_atom}
 
 word_le : (place : Place) (key : Key) (at : ℕ) → SymFits (sym.Word place key at) ≡ true → at ≤ length (key_text key)
 word_le place key at fits = leb-true _ _ (and_parts (nat_le at (length (key_text key))) (is_among key (keys place)) fits).0

@@ -48,8 +48,8 @@ use Rattle.imap_keywords.specs.Counts.{PendFits}
 use Rattle.imap_automaton.specs.Flow.{ends_open, begins, may_yield, need, sym_left, is_octets}
 use Rattle.imap_automaton.proofs.ItemNameEdges.{takes_small}
 use Rattle.imap_keywords.proofs.KeyLemmas.{find_some, among_keys, goes_to, among_is}
-use Rattle.imap_syntax.specs.Octets.{is_digit, is_text, is_word, is_atom, lower}
-use Rattle.imap_syntax.specs.Texts.{Each}
+use Rattle.imap_types.specs.Octets.{is_digit, is_text, is_word, is_atom, lower}
+use Rattle.imap_types.specs.Texts.{Each}
 
 -- what a move may be of a symbol that ends open or not, may yield or not, has this room, at an octet outside a literal
 -- or not

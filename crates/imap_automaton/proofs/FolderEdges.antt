@@ -21,12 +21,12 @@ use Rattle.imap_automaton.specs.Langs.{AfterMove}
 use Rattle.pushdown.proofs.Lists.{cons_head, cons_tail}
 use Rattle.imap_automaton.proofs.Tests.{from_test, at_true, at_false, is_true_at, crlf_of, crlf_parts, mid}
 use Rattle.imap_automaton.proofs.StringEdges.{special_text, no_special, from_parts, escaped_pair, escaped_self, flat_some}
-use Rattle.imap_syntax.specs.Octets.{is_text, is_status_word, lower}
-use Rattle.imap_syntax.specs.Texts.{Each, Then, crlf}
-use Rattle.imap_syntax.specs.Numbers.{value_from}
-use Rattle.imap_syntax.specs.Strings.{escaped}
-use Rattle.imap_syntax.specs.Values.{IsFlat}
-use Rattle.imap_syntax.specs.Folders.{IsDelimiter, IsListEnd, IsCount, IsMoreCounts, IsCounts}
+use Rattle.imap_types.specs.Octets.{is_text, is_status_word, lower}
+use Rattle.imap_types.specs.Texts.{Each, Then, crlf}
+use Rattle.imap_types.specs.Numbers.{value_from}
+use Rattle.imap_types.specs.Strings.{escaped}
+use Rattle.imap_types.specs.Values.{IsFlat}
+use Rattle.imap_types.specs.Folders.{IsDelimiter, IsListEnd, IsCount, IsMoreCounts, IsCounts}
 
 -- ---- one octet, and what follows it
 

@@ -16,8 +16,8 @@ use Rattle.imap_automaton.specs.Langs.{NoCount, IsFreeFrom, OctetsRest, FreeLang
 use Rattle.pushdown.proofs.Lists.{cons_head, cons_tail, no_append}
 use Rattle.imap_automaton.proofs.Tests.{from_test, to_test, at_true, at_false, is_true_at, crlf_of, crlf_parts, mid}
 use Rattle.imap_keywords.proofs.Classes.{text_not_cr}
-use Rattle.imap_syntax.specs.Octets.{is_text, is_inside}
-use Rattle.imap_syntax.specs.Texts.{Each, crlf}
+use Rattle.imap_types.specs.Octets.{is_text, is_inside}
+use Rattle.imap_types.specs.Texts.{Each, crlf}
 
 -- ---- text
 

@@ -25,10 +25,10 @@ use Rattle.imap_keywords.specs.Keys.{Among}
 use Rattle.pushdown.proofs.Lists.{cons_head, cons_tail}
 use Rattle.imap_automaton.proofs.Tests.{from_test, at_true, at_false, is_true_at}
 use Rattle.imap_automaton.proofs.Rests.{value_mono, number_from, number_to, long_from, long_to}
-use Rattle.imap_syntax.specs.Octets.{is_digit, lower}
-use Rattle.imap_syntax.specs.Texts.{Then, crlf}
-use Rattle.imap_syntax.specs.Numbers.{value_from}
-use Rattle.imap_syntax.specs.Items as items
+use Rattle.imap_types.specs.Octets.{is_digit, lower}
+use Rattle.imap_types.specs.Texts.{Then, crlf}
+use Rattle.imap_types.specs.Numbers.{value_from}
+use Rattle.imap_types.specs.Items as items
 
 -- ---- numbers
 

@@ -15,11 +15,11 @@ use Rattle.imap_automaton.specs.ItemNameLangs.{SectionRest, NameForm, NameRest}
 use Rattle.imap_automaton.specs.Langs.{AfterMove}
 use Rattle.pushdown.proofs.Lists.{cons_head, cons_tail}
 use Rattle.imap_automaton.proofs.Tests.{from_test, at_true, at_false, both, mid}
-use Rattle.imap_syntax.specs.Octets.{is_digit, is_atom, lower}
-use Rattle.imap_syntax.specs.Texts.{Each, Then}
-use Rattle.imap_syntax.specs.Strings.{escaped}
-use Rattle.imap_syntax.specs.Values.{AllOf, IsValue}
-use Rattle.imap_syntax.specs.ItemNames.{is_plain, is_inner, IsUnit, concat, IsPartial, IsSection}
+use Rattle.imap_types.specs.Octets.{is_digit, is_atom, lower}
+use Rattle.imap_types.specs.Texts.{Each, Then}
+use Rattle.imap_types.specs.Strings.{escaped}
+use Rattle.imap_types.specs.Values.{AllOf, IsValue}
+use Rattle.imap_types.specs.ItemNames.{is_plain, is_inner, IsUnit, concat, IsPartial, IsSection}
 
 -- ---- names that may end
 

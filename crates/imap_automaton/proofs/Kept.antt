@@ -22,7 +22,7 @@ use Rattle.imap_automaton.specs.Responses.{responses}
 use Rattle.imap_automaton.specs.Langs.{Lang}
 use Rattle.imap_automaton.proofs.Edges.{yield_empty}
 use Rattle.imap_automaton.proofs.Fine.{fine, move_fine}
-use Rattle.imap_syntax.specs.Texts.{literal_limit}
+use Rattle.imap_types.specs.Texts.{literal_limit}
 use Rattle.pushdown.specs.Run.{inside}
 use Rattle.pushdown.specs.Flow.{move_good, move_needs, is_go, pushed_left, Leaves}
 

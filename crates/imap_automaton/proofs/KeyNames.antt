@@ -7,7 +7,7 @@ use Rattle.imap_automaton.specs.declared.sym.ItemName.{ItemName}
 use Rattle.imap_automaton.specs.declared.sym.ItemName.TheVariants as name
 use Rattle.imap_keywords.specs.Keys.{key_text}
 use Rattle.imap_automaton.specs.ItemNameRules.{takes, next_name, name_from}
-use Rattle.imap_syntax.specs.Octets.{lower}
+use Rattle.imap_types.specs.Octets.{lower}
 
 abbrev all_taken : ItemName → List ℕ → Bool
 all_taken s [] = true

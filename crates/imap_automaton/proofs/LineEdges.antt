@@ -34,15 +34,15 @@ use Rattle.imap_automaton.proofs.WordEdges.{cut, text_goes, text_comes, word_bac
 use Rattle.imap_automaton.proofs.CountLemmas.{free_from}
 use Rattle.imap_automaton.proofs.LineWords.{plain_key, plain_to, plain_from, numbered_to, numbered_from, tagged_to, tagged_from}
 use Rattle.imap_automaton.proofs.Rests.{value_mono}
-use Rattle.imap_syntax.specs.declared.code.Code.{Code}
-use Rattle.imap_syntax.specs.declared.response.Status.{Status}
-use Rattle.imap_syntax.specs.declared.response.Response.{Response}
-use Rattle.imap_syntax.specs.declared.response.Response.TheVariants as response
-use Rattle.imap_syntax.specs.Octets.{is_digit, is_alnum, is_text, is_word, lower}
-use Rattle.imap_syntax.specs.Texts.{Each, crlf}
-use Rattle.imap_syntax.specs.Numbers.{value_from, IsNumber}
-use Rattle.imap_syntax.specs.Lines.{IsLine, IsTagged}
-use Rattle.imap_syntax.specs.Spells.{IsWordLine, Numbered, IsUntagged, Spells}
+use Rattle.imap_types.specs.declared.code.Code.{Code}
+use Rattle.imap_types.specs.declared.response.Status.{Status}
+use Rattle.imap_types.specs.declared.response.Response.{Response}
+use Rattle.imap_types.specs.declared.response.Response.TheVariants as response
+use Rattle.imap_types.specs.Octets.{is_digit, is_alnum, is_text, is_word, lower}
+use Rattle.imap_types.specs.Texts.{Each, crlf}
+use Rattle.imap_types.specs.Numbers.{value_from, IsNumber}
+use Rattle.imap_types.specs.Lines.{IsLine, IsTagged}
+use Rattle.imap_types.specs.Spells.{IsWordLine, Numbered, IsUntagged, Spells}
 
 -- ---- text and fixed texts
 

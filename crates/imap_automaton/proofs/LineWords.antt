@@ -12,20 +12,20 @@ use Rattle.imap_automaton.specs.FolderLangs.{NameLine, DelimiterLine}
 use Rattle.pushdown.proofs.Lists.{cons_head, cons_tail}
 use Rattle.imap_keywords.proofs.KeyLemmas.{is_key_octet, key_octets, key_some, among_is}
 use Rattle.imap_automaton.proofs.CountLemmas.{free_to, free_from}
-use Rattle.imap_syntax.specs.declared.response.Status.{Status}
-use Rattle.imap_syntax.specs.declared.response.Status.TheVariants as status
-use Rattle.imap_syntax.specs.declared.response.StatusItems.{StatusItems}
-use Rattle.imap_syntax.specs.declared.response.Response.{Response}
-use Rattle.imap_syntax.specs.declared.response.Response.TheVariants as response
-use Rattle.imap_syntax.specs.Octets.{is_word, lower}
-use Rattle.imap_syntax.specs.Texts.{Each, Then, crlf, IsWord}
-use Rattle.imap_syntax.specs.Lines.{word_of, Completes, IsRest, IsCodedRest}
-use Rattle.imap_syntax.specs.declared.code.Code.{Code}
-use Rattle.imap_syntax.specs.reading.CodeReading.{code_in}
-use Rattle.imap_syntax.proofs.CodeLemmas.{code_has}
-use Rattle.imap_syntax.specs.Items.{kept, items_of}
-use Rattle.imap_syntax.specs.Folders.{folder_name, IsListLine, told_counts, no_counts, IsStatusLine}
-use Rattle.imap_syntax.specs.Spells.{keywords, IsFlagsLine, Says, IsWordLine}
+use Rattle.imap_types.specs.declared.response.Status.{Status}
+use Rattle.imap_types.specs.declared.response.Status.TheVariants as status
+use Rattle.imap_types.specs.declared.response.StatusItems.{StatusItems}
+use Rattle.imap_types.specs.declared.response.Response.{Response}
+use Rattle.imap_types.specs.declared.response.Response.TheVariants as response
+use Rattle.imap_types.specs.Octets.{is_word, lower}
+use Rattle.imap_types.specs.Texts.{Each, Then, crlf, IsWord}
+use Rattle.imap_types.specs.Lines.{word_of, Completes, IsRest, IsCodedRest}
+use Rattle.imap_types.specs.declared.code.Code.{Code}
+use Rattle.imap_types.specs.reading.CodeReading.{code_in}
+use Rattle.imap_types.proofs.CodeLemmas.{code_has}
+use Rattle.imap_types.specs.Items.{kept, items_of}
+use Rattle.imap_types.specs.Folders.{folder_name, IsListLine, told_counts, no_counts, IsStatusLine}
+use Rattle.imap_types.specs.Spells.{keywords, IsFlagsLine, Says, IsWordLine}
 
 -- ---- keywords
 

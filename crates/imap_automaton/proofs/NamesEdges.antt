@@ -11,10 +11,10 @@ use Rattle.imap_automaton.specs.Flow.{stops}
 use Rattle.imap_automaton.specs.Langs.{NamesLang, AfterMove}
 use Rattle.pushdown.proofs.Lists.{cons_head, cons_tail}
 use Rattle.imap_automaton.proofs.Tests.{from_test, at_true, at_false, is_true_at, mid}
-use Rattle.imap_syntax.specs.Octets.{is_atom}
-use Rattle.imap_syntax.specs.Texts.{Each}
-use Rattle.imap_syntax.specs.Lines.{spaced}
-use Rattle.imap_syntax.specs.Items.{IsAtom, IsName, AllNames, joined}
+use Rattle.imap_types.specs.Octets.{is_atom}
+use Rattle.imap_types.specs.Texts.{Each}
+use Rattle.imap_types.specs.Lines.{spaced}
+use Rattle.imap_types.specs.Items.{IsAtom, IsName, AllNames, joined}
 
 atom_not : (c : ℕ) → is_atom c ≡ true → ((c == 40) ≡ false) × ((c == 41) ≡ false) × ((c == 92) ≡ false) × ((c == 32) ≡ false)
 atom_not c e = (grind arith, grind arith, grind arith, grind arith)

@@ -17,10 +17,10 @@ use Rattle.imap_keywords.specs.Keys.{Among}
 use Rattle.pushdown.proofs.Lists.{cons_head, cons_tail, Cut, cut, one_cut}
 use Rattle.imap_automaton.proofs.Tests.{both}
 use Rattle.imap_keywords.proofs.KeyLemmas.{is_key_octet, key_octets, key_octet_parts}
-use Rattle.imap_syntax.specs.Octets.{is_atom, lower}
-use Rattle.imap_syntax.specs.Texts.{Each}
-use Rattle.imap_syntax.specs.ItemNames.{is_plain, IsFormed, told_names, IsOtherName}
-use Rattle.imap_syntax.specs.Items as items
+use Rattle.imap_types.specs.Octets.{is_atom, lower}
+use Rattle.imap_types.specs.Texts.{Each}
+use Rattle.imap_types.specs.ItemNames.{is_plain, IsFormed, told_names, IsOtherName}
+use Rattle.imap_types.specs.Items as items
 
 -- ---- keys
 

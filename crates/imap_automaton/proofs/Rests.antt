@@ -1,7 +1,7 @@
 -- The rests of numbers after no digit are the numbers.
 use Rattle.std.proofs.Common.{◌≡◌, ℕ, ◌+◌, ◌-◌, ◌*◌, ◌≤◌, List, [], ◌∷◌, refl, arith}
 use Rattle.imap_automaton.specs.Rests.{NumberRest, LongRest}
-use Rattle.imap_syntax.specs.Numbers.{value_from, IsNonZero, IsLong}
+use Rattle.imap_types.specs.Numbers.{value_from, IsNonZero, IsLong}
 
 -- further digits make a number no less
 pub value_mono : (v : ℕ) (t : List ℕ) → v ≤ value_from v t

@@ -18,7 +18,7 @@ use Rattle.imap_automaton.specs.Rules.{rule_of}
 use Rattle.imap_automaton.specs.Fits.{SymFits}
 use Rattle.imap_automaton.specs.Responses.{responses}
 use Rattle.imap_automaton.proofs.Lawful.{responses_lawful}
-use Rattle.imap_syntax.specs.Octets.{is_text, is_atom, lower}
+use Rattle.imap_types.specs.Octets.{is_text, is_atom, lower}
 use Rattle.pushdown.specs.declared.moves.Move.TheVariants as move
 use Rattle.pushdown.proofs.Room as room
 

@@ -18,12 +18,12 @@ use Rattle.pushdown.proofs.Lists.{cons_head, cons_tail}
 use Rattle.imap_automaton.proofs.Tests.{from_test, to_test, at_true, at_false, is_true_at, both, crlf_of, crlf_parts, mid}
 use Rattle.imap_automaton.proofs.ItemEdges.{number_more, number_goes, number_none, number_some, next_fits}
 use Rattle.imap_automaton.proofs.Rests.{number_from, number_to}
-use Rattle.imap_syntax.specs.declared.uid_set.UidRange.{UidRange}
-use Rattle.imap_syntax.specs.Octets.{is_digit, is_word, lower}
-use Rattle.imap_syntax.specs.Texts.{Each, Then, crlf, IsCrlf, IsWord}
-use Rattle.imap_syntax.specs.Numbers.{value_from}
-use Rattle.imap_syntax.specs.Lines.{IsPrinted, AllPrinted, spaced, IsWords}
-use Rattle.imap_syntax.specs.UidSets.{range_of, IsRange, IsSet, IsSetLine}
+use Rattle.imap_types.specs.declared.uid_set.UidRange.{UidRange}
+use Rattle.imap_types.specs.Octets.{is_digit, is_word, lower}
+use Rattle.imap_types.specs.Texts.{Each, Then, crlf, IsCrlf, IsWord}
+use Rattle.imap_types.specs.Numbers.{value_from}
+use Rattle.imap_types.specs.Lines.{IsPrinted, AllPrinted, spaced, IsWords}
+use Rattle.imap_types.specs.UidSets.{range_of, IsRange, IsSet, IsSetLine}
 
 -- ---- words
 

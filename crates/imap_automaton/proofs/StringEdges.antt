@@ -23,11 +23,11 @@ use Rattle.pushdown.proofs.Lists.{cons_head, cons_tail}
 use Rattle.imap_automaton.proofs.Tests.{from_test, at_true, at_false, is_true_at, mid}
 use Rattle.imap_keywords.proofs.Classes.{atom_apart}
 use Rattle.imap_automaton.proofs.FreeEdges.{octets_some}
-use Rattle.imap_syntax.specs.Octets.{is_digit, is_text, is_atom, lower}
-use Rattle.imap_syntax.specs.Texts.{Each, Then, plain_octets}
-use Rattle.imap_syntax.specs.Numbers.{value_from}
-use Rattle.imap_syntax.specs.Strings.{escaped, IsCounted, IsNString, IsAString}
-use Rattle.imap_syntax.specs.Values.{IsFlat}
+use Rattle.imap_types.specs.Octets.{is_digit, is_text, is_atom, lower}
+use Rattle.imap_types.specs.Texts.{Each, Then, plain_octets}
+use Rattle.imap_types.specs.Numbers.{value_from}
+use Rattle.imap_types.specs.Strings.{escaped, IsCounted, IsNString, IsAString}
+use Rattle.imap_types.specs.Values.{IsFlat}
 
 -- ---- quoted texts
 

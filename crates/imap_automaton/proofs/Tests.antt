@@ -4,7 +4,7 @@ use Rattle.std.specs.Prelude.{◌==◌}
 use Rattle.std.proofs.lemmas.Bool.{eqb-false}
 use Rattle.imap_automaton.specs.declared.sym.Sym.{Sym}
 use Rattle.pushdown.specs.declared.moves.Move.{Move}
-use Rattle.imap_syntax.specs.Texts.{crlf}
+use Rattle.imap_types.specs.Texts.{crlf}
 use Rattle.imap_automaton.specs.Langs.{AfterMove}
 use Rattle.pushdown.proofs.Lists.{cons_head}
 

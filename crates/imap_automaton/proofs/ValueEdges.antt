@@ -14,11 +14,11 @@ use Rattle.imap_automaton.specs.Langs.{AfterMove}
 use Rattle.pushdown.proofs.Lists.{cons_head, cons_tail, regroup, ungroup}
 use Rattle.imap_automaton.proofs.Tests.{from_test, at_true, at_false, is_true_at, mid}
 use Rattle.imap_automaton.proofs.StringEdges.{Starts, after_alone, alone_after, after_before, before_after, flat_back, flat_forth, no_flat, flat_some}
-use Rattle.imap_syntax.specs.Octets.{is_atom}
-use Rattle.imap_syntax.specs.Texts.{Then}
-use Rattle.imap_syntax.specs.Lines.{joined, spaced}
-use Rattle.imap_syntax.specs.Strings.{escaped, IsAString}
-use Rattle.imap_syntax.specs.Values.{AllOf, IsFlat, IsValue}
+use Rattle.imap_types.specs.Octets.{is_atom}
+use Rattle.imap_types.specs.Texts.{Then}
+use Rattle.imap_types.specs.Lines.{joined, spaced}
+use Rattle.imap_types.specs.Strings.{escaped, IsAString}
+use Rattle.imap_types.specs.Values.{AllOf, IsFlat, IsValue}
 
 -- ---- the kinds of values
 

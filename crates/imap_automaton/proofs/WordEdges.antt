@@ -41,9 +41,9 @@ use Rattle.imap_automaton.proofs.SetEdges.{words_more_back, words_more_forth, wo
 use Rattle.imap_automaton.proofs.FreeEdges.{text_back, text_forth, goes_back, goes_forth, free_empty}
 use Rattle.imap_keywords.proofs.KeyLemmas.{one_key, among_keys, key_some, key_in_word, key_lower, no_bang, find_some, find_none, is_among_is, goes_to, goes_from, goes_octet}
 use Rattle.imap_keywords.proofs.KeyLemmas.{whole_to, whole_from}
-use Rattle.imap_syntax.specs.Octets.{is_text, is_word, is_atom, lower}
-use Rattle.imap_syntax.specs.Texts.{Each, Then, crlf, IsCrlf}
-use Rattle.imap_syntax.specs.Lines.{IsLine, IsRest}
+use Rattle.imap_types.specs.Octets.{is_text, is_word, is_atom, lower}
+use Rattle.imap_types.specs.Texts.{Each, Then, crlf, IsCrlf}
+use Rattle.imap_types.specs.Lines.{IsLine, IsRest}
 
 -- ---- after a key
 

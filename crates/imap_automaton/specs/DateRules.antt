@@ -8,7 +8,7 @@ use Rattle.imap_automaton.specs.declared.sym.Sym.TheVariants as sym
 use Rattle.pushdown.specs.declared.moves.Move.{Move}
 use Rattle.pushdown.specs.declared.moves.Move.TheVariants as move
 use Rattle.imap_keywords.specs.Keys.{first_key}
-use Rattle.imap_syntax.specs.Octets.{is_digit}
+use Rattle.imap_types.specs.Octets.{is_digit}
 
 abbrev pub month_start : Sym
 month_start = sym.Word place.Month (first_key place.Month) 0

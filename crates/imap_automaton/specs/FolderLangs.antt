@@ -4,11 +4,11 @@ use Rattle.std.specs.Prelude.{◌==◌}
 use Rattle.imap_automaton.specs.declared.sym.Folder.{Folder}
 use Rattle.imap_automaton.specs.declared.sym.Folder.TheVariants as folder
 use Rattle.imap_automaton.specs.Rests.{LongRest, IsSpaced}
-use Rattle.imap_syntax.specs.Octets.{is_text, is_status_word}
-use Rattle.imap_syntax.specs.Texts.{Each, Then}
-use Rattle.imap_syntax.specs.Strings.{escaped}
-use Rattle.imap_syntax.specs.Values.{IsFlat}
-use Rattle.imap_syntax.specs.Folders.{IsDelimiter, IsListEnd, IsMoreCounts, IsCounts}
+use Rattle.imap_types.specs.Octets.{is_text, is_status_word}
+use Rattle.imap_types.specs.Texts.{Each, Then}
+use Rattle.imap_types.specs.Strings.{escaped}
+use Rattle.imap_types.specs.Values.{IsFlat}
+use Rattle.imap_types.specs.Folders.{IsDelimiter, IsListEnd, IsMoreCounts, IsCounts}
 
 -- ---- LIST
 

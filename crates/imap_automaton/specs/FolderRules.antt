@@ -11,7 +11,7 @@ use Rattle.imap_automaton.specs.declared.sym.Sym.TheVariants as sym
 use Rattle.imap_automaton.specs.declared.sym.Sym.{Sym}
 use Rattle.pushdown.specs.declared.moves.Move.{Move}
 use Rattle.pushdown.specs.declared.moves.Move.TheVariants as move
-use Rattle.imap_syntax.specs.Octets.{is_text, is_status_word, lower}
+use Rattle.imap_types.specs.Octets.{is_text, is_status_word, lower}
 
 -- one octet, and then a symbol
 abbrev pub octet_rule : ℕ → Folder → ℕ → Move Sym

@@ -11,7 +11,7 @@ use Rattle.imap_automaton.specs.declared.sym.Sym.{Sym}
 use Rattle.pushdown.specs.declared.moves.Move.{Move}
 use Rattle.pushdown.specs.declared.moves.Move.TheVariants as move
 use Rattle.imap_keywords.specs.Counts.{pend}
-use Rattle.imap_syntax.specs.Octets.{is_text}
+use Rattle.imap_types.specs.Octets.{is_text}
 
 -- what the end of a line is: a literal's where a count stands before it
 abbrev pub free_end : Pending → Move Sym

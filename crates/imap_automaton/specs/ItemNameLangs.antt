@@ -2,10 +2,10 @@
 use Rattle.std.specs.Prelude.{◌≡◌, ◌⊎◌, ℕ, ◌<◌, List, [], ◌∷◌, ◌++◌, length}
 use Rattle.imap_automaton.specs.declared.sym.ItemName.{ItemName}
 use Rattle.imap_automaton.specs.declared.sym.ItemName.TheVariants as name
-use Rattle.imap_syntax.specs.Octets.{is_digit}
-use Rattle.imap_syntax.specs.Texts.{Each, Then}
-use Rattle.imap_syntax.specs.Values.{AllOf, IsValue}
-use Rattle.imap_syntax.specs.ItemNames.{is_plain, IsUnit, concat, IsPartial, IsSection}
+use Rattle.imap_types.specs.Octets.{is_digit}
+use Rattle.imap_types.specs.Texts.{Each, Then}
+use Rattle.imap_types.specs.Values.{AllOf, IsValue}
+use Rattle.imap_types.specs.ItemNames.{is_plain, IsUnit, concat, IsPartial, IsSection}
 
 -- the rest of a section, and what may follow it
 pub record SectionRest (t : List ℕ) : Type 0 where

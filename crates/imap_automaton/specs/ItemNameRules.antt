@@ -8,8 +8,8 @@ use Rattle.imap_automaton.specs.declared.sym.Sym.TheVariants as sym
 use Rattle.imap_automaton.specs.declared.sym.Sym.{Sym}
 use Rattle.pushdown.specs.declared.moves.Move.{Move}
 use Rattle.pushdown.specs.declared.moves.Move.TheVariants as move
-use Rattle.imap_syntax.specs.Octets.{is_digit, is_atom}
-use Rattle.imap_syntax.specs.ItemNames.{is_inner}
+use Rattle.imap_types.specs.Octets.{is_digit, is_atom}
+use Rattle.imap_types.specs.ItemNames.{is_inner}
 
 -- a name may end here
 abbrev pub may_end : ItemName → Bool

@@ -35,16 +35,16 @@ use Rattle.imap_keywords.specs.Keys.{key_text, phrase_text, keys, in_word, Among
 pub use Rattle.imap_automaton.specs.Rests.{OctetsRest, NumberRest, LongRest, IsSpaced}
 use Rattle.imap_automaton.specs.StringLangs.{StrLang, ValueLang}
 use Rattle.imap_automaton.specs.FolderLangs.{FolderLang}
-use Rattle.imap_syntax.specs.declared.response.Response.{Response}
-use Rattle.imap_syntax.specs.Octets.{is_digit, is_alnum, is_text, is_word, is_atom, is_inside, lower}
-use Rattle.imap_syntax.specs.Texts.{Each, Then, crlf, IsCrlf}
-use Rattle.imap_syntax.specs.Numbers.{value_from}
-use Rattle.imap_syntax.specs.Lines.{IsLine, IsRest, IsPrinted, AllPrinted, spaced, IsWords}
-use Rattle.imap_syntax.specs.declared.uid_set.UidRange.{UidRange}
-use Rattle.imap_syntax.specs.UidSets as sets
-use Rattle.imap_syntax.specs.DateTimes.{IsDateTime}
-use Rattle.imap_syntax.specs.Items as items
-use Rattle.imap_syntax.specs.Spells.{Spells, IsUntagged}
+use Rattle.imap_types.specs.declared.response.Response.{Response}
+use Rattle.imap_types.specs.Octets.{is_digit, is_alnum, is_text, is_word, is_atom, is_inside, lower}
+use Rattle.imap_types.specs.Texts.{Each, Then, crlf, IsCrlf}
+use Rattle.imap_types.specs.Numbers.{value_from}
+use Rattle.imap_types.specs.Lines.{IsLine, IsRest, IsPrinted, AllPrinted, spaced, IsWords}
+use Rattle.imap_types.specs.declared.uid_set.UidRange.{UidRange}
+use Rattle.imap_types.specs.UidSets as sets
+use Rattle.imap_types.specs.DateTimes.{IsDateTime}
+use Rattle.imap_types.specs.Items as items
+use Rattle.imap_types.specs.Spells.{Spells, IsUntagged}
 
 -- ---- text with literals
 

@@ -14,7 +14,7 @@ use Rattle.pushdown.specs.declared.moves.Move.TheVariants as move
 use Rattle.imap_keywords.specs.Keys.{first_key, phrase_text}
 use Rattle.imap_automaton.specs.FreeRules.{text_rule}
 use Rattle.imap_automaton.specs.WordRules.{word_rule}
-use Rattle.imap_syntax.specs.Octets.{is_digit, is_alnum, is_text, lower}
+use Rattle.imap_types.specs.Octets.{is_digit, is_alnum, is_text, lower}
 
 abbrev pub word_start : Place → Sym
 word_start p = sym.Word p (first_key p) 0

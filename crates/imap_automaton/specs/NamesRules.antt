@@ -6,7 +6,7 @@ use Rattle.imap_automaton.specs.declared.sym.Sym.TheVariants as sym
 use Rattle.imap_automaton.specs.declared.sym.Sym.{Sym}
 use Rattle.pushdown.specs.declared.moves.Move.{Move}
 use Rattle.pushdown.specs.declared.moves.Move.TheVariants as move
-use Rattle.imap_syntax.specs.Octets.{is_atom}
+use Rattle.imap_types.specs.Octets.{is_atom}
 
 abbrev pub names_rule : Names → ℕ → Move Sym
 names_rule names.Open c = if c == 40 then move.One (sym.Names names.First) else move.Fail

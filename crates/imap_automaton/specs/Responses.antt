@@ -6,7 +6,7 @@ use Rattle.imap_automaton.specs.Rules as rules
 use Rattle.imap_automaton.specs.Fits.{SymFits}
 use Rattle.imap_automaton.specs.Flow as flow
 use Rattle.imap_automaton.specs.Langs.{Lang}
-use Rattle.imap_syntax.specs.Texts as texts
+use Rattle.imap_types.specs.Texts as texts
 use Rattle.pushdown.specs.Automaton.{Automaton}
 
 abbrev pub responses : Automaton Sym

@@ -1,8 +1,8 @@
 -- What is left of numbers, and of the octets of a literal.
 use Rattle.std.specs.Prelude.{◌≡◌, ℕ, ◌+◌, ◌<◌, ◌≤◌, List, ◌∷◌, length}
-use Rattle.imap_syntax.specs.Octets.{is_digit, is_inside}
-use Rattle.imap_syntax.specs.Texts.{Each}
-use Rattle.imap_syntax.specs.Numbers.{value_from}
+use Rattle.imap_types.specs.Octets.{is_digit, is_inside}
+use Rattle.imap_types.specs.Texts.{Each}
+use Rattle.imap_types.specs.Numbers.{value_from}
 
 pub record OctetsRest (n : ℕ) (t : List ℕ) : Type 0 where
   pub counted : length t ≡ n

@@ -10,7 +10,7 @@ use Rattle.imap_automaton.specs.declared.sym.Sym.TheVariants as sym
 use Rattle.imap_automaton.specs.declared.sym.Sym.{Sym}
 use Rattle.pushdown.specs.declared.moves.Move.{Move}
 use Rattle.pushdown.specs.declared.moves.Move.TheVariants as move
-use Rattle.imap_syntax.specs.Octets.{is_digit, is_word}
+use Rattle.imap_types.specs.Octets.{is_digit, is_word}
 
 -- after a word
 abbrev pub words_more : ℕ → Move Sym

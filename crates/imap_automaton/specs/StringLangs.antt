@@ -6,12 +6,12 @@ use Rattle.imap_automaton.specs.declared.sym.Str.TheVariants as str
 use Rattle.imap_automaton.specs.declared.sym.Value.{Value}
 use Rattle.imap_automaton.specs.declared.sym.Value.TheVariants as value
 use Rattle.imap_automaton.specs.Rests.{OctetsRest}
-use Rattle.imap_syntax.specs.Octets.{is_digit, is_text, is_atom, is_inside}
-use Rattle.imap_syntax.specs.Texts.{Each, Then}
-use Rattle.imap_syntax.specs.Numbers.{value_from}
-use Rattle.imap_syntax.specs.Lines.{joined, spaced}
-use Rattle.imap_syntax.specs.Strings.{escaped, IsCounted, IsNString}
-use Rattle.imap_syntax.specs.Values.{AllOf, IsFlat, IsValue}
+use Rattle.imap_types.specs.Octets.{is_digit, is_text, is_atom, is_inside}
+use Rattle.imap_types.specs.Texts.{Each, Then}
+use Rattle.imap_types.specs.Numbers.{value_from}
+use Rattle.imap_types.specs.Lines.{joined, spaced}
+use Rattle.imap_types.specs.Strings.{escaped, IsCounted, IsNString}
+use Rattle.imap_types.specs.Values.{AllOf, IsFlat, IsValue}
 
 -- ---- strings
 

@@ -10,7 +10,7 @@ use Rattle.imap_automaton.specs.declared.sym.Sym.{Sym}
 use Rattle.imap_automaton.specs.declared.sym.Sym.TheVariants as sym
 use Rattle.pushdown.specs.declared.moves.Move.{Move}
 use Rattle.pushdown.specs.declared.moves.Move.TheVariants as move
-use Rattle.imap_syntax.specs.Octets.{is_digit, is_text, is_atom, lower}
+use Rattle.imap_types.specs.Octets.{is_digit, is_text, is_atom, lower}
 
 -- what is read after the first octet of an atom, a quoted text or a literal
 abbrev pub flat_start : ℕ → Option Sym

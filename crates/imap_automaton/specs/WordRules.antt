@@ -23,7 +23,7 @@ use Rattle.imap_automaton.specs.FreeRules.{text_rule}
 use Rattle.imap_automaton.specs.SetRules.{words_more}
 use Rattle.imap_automaton.specs.DateRules.{time_rule}
 use Rattle.imap_automaton.specs.ItemNameRules.{name_from, item_name_rule}
-use Rattle.imap_syntax.specs.Octets.{lower}
+use Rattle.imap_types.specs.Octets.{lower}
 
 -- rest = empty / SP *text
 abbrev pub rest_rule : ℕ → Move Sym

@@ -1,7 +1,7 @@
 // The names of other items.
 ghost use Rattle.std.specs.Prelude.{◌≡◌};
 ghost use Rattle.imap_automaton.specs.ItemNameRules as rules;
-ghost use Rattle.imap_syntax.specs.ItemNames as names;
+ghost use Rattle.imap_types.specs.ItemNames as names;
 
 use crate::sym::{ItemName, Str, Sym, Value};
 use imap_keywords::{is_atom, is_digit};

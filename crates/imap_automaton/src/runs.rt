@@ -1,7 +1,7 @@
 // Runs of octets that one symbol takes: those of a word, of a number, of an atom, of a line's text.
 ghost use Rattle.std.specs.Prelude.{◌≡◌, ◌==◌, ◌+◌, ◌≤◌, ◌&&◌, IsTrue, nat_lt, get_or, length, take};
 ghost use Rattle.imap_keywords.specs.Keys as keywords;
-ghost use Rattle.imap_syntax.specs.Octets as classes;
+ghost use Rattle.imap_types.specs.Octets as classes;
 ghost use Rattle.imap_automaton.specs.Fits.{SymFits, ItemFits, LineFits};
 ghost use Rattle.imap_automaton.specs.Responses.{responses};
 ghost use Rattle.pushdown.specs.Run.{LeadsTo};

@@ -3,9 +3,9 @@ use Rattle.std.proofs.Common.{Option, Some, None, ◌+◌, ◌≡◌, ◌++◌, 
 use Rattle.std.proofs.lemmas.List.{append-nil}
 use Rattle.gate_world.specs.declared.event.Event.{Event}
 use Rattle.gate_world.specs.declared.event.Event.TheVariants.{Dialed, LinkEnded}
-use Rattle.imap_syntax.specs.declared.response.Response.{Response}
-use Rattle.imap_syntax.specs.declared.response.Response.TheVariants.{Untagged}
-use Rattle.imap_syntax.specs.declared.response.Status.TheVariants as status
+use Rattle.imap_types.specs.declared.response.Response.{Response}
+use Rattle.imap_types.specs.declared.response.Response.TheVariants.{Untagged}
+use Rattle.imap_types.specs.declared.response.Status.TheVariants as status
 use Rattle.imap_exchange.specs.declared.link_end.LinkEnd.{LinkEnd}
 use Rattle.imap_exchange.specs.declared.link_end.LinkEnd.TheVariants as end
 use Rattle.imap_client.specs.declared.connection.Stage.{Stage}

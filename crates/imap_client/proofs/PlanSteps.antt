@@ -4,8 +4,8 @@ use Rattle.std.proofs.lemmas.List.{append-nil}
 use Rattle.gate_world.specs.declared.event.Event.{Event}
 use Rattle.gate_world.specs.Tape.{Adds}
 use Rattle.gate_world.proofs.Joins.{join, none, widen}
-use Rattle.imap_syntax.specs.declared.command.Command.{Command}
-use Rattle.imap_syntax.specs.declared.response.Status.TheVariants as status
+use Rattle.imap_types.specs.declared.command.Command.{Command}
+use Rattle.imap_types.specs.declared.response.Status.TheVariants as status
 use Rattle.told_folder.specs.declared.exchange.Exchange.{Exchange}
 use Rattle.imap_exchange.specs.declared.link_end.LinkEnd.{LinkEnd}
 use Rattle.imap_exchange.specs.declared.link_end.LinkEnd.TheVariants as end

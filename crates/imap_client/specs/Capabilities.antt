@@ -2,10 +2,10 @@
 use Rattle.std.specs.Prelude.{Bool, false, List, ℕ, codes}
 use Rattle.std.specs.List.{list_any}
 use Rattle.std.specs.Str.{str_eq_ignore_ascii_case}
-use Rattle.imap_syntax.specs.declared.command.Command.{Command}
-use Rattle.imap_syntax.specs.declared.command.Command.TheVariants as command
-use Rattle.imap_syntax.specs.declared.response.Response.{Response}
-use Rattle.imap_syntax.specs.declared.response.Response.TheVariants.{Capability}
+use Rattle.imap_types.specs.declared.command.Command.{Command}
+use Rattle.imap_types.specs.declared.command.Command.TheVariants as command
+use Rattle.imap_types.specs.declared.response.Response.{Response}
+use Rattle.imap_types.specs.declared.response.Response.TheVariants.{Capability}
 use Rattle.told_folder.specs.declared.exchange.Exchange.{Exchange}
 
 -- the word is among the capabilities that the response tells, in letters of either case (RFC 9051 section 9)

@@ -1,6 +1,6 @@
 -- A life in which a client connected: what it asked, and that the capabilities count that the store told once the client was let in.
 use Rattle.std.specs.Prelude.{◌≡◌, ◌++◌, ℕ, Bool, true, false, List, [], ◌∷◌, codes, Ok}
-use Rattle.imap_syntax.specs.declared.command.Command.TheVariants as command
+use Rattle.imap_types.specs.declared.command.Command.TheVariants as command
 use Rattle.told_folder.specs.declared.exchange.Exchange.{Exchange}
 use Rattle.imap_client.specs.Capabilities.{tells}
 use Rattle.imap_client.specs.Connecting.{greeting_says}

@@ -1,7 +1,7 @@
 -- One link life: a greeting, and exchanges one after another (RFC 9051 sections 2.2 and 7.1).
 use Rattle.std.specs.Prelude.{◌≡◌, ◌++◌, ◌+◌, ℕ, Bool, true, false, List, [], ◌∷◌, length, fold, Option, None, IsTrue, if◌then◌else◌}
-use Rattle.imap_syntax.specs.declared.response.Response.{Response}
-use Rattle.imap_syntax.specs.Commands.{command_pieces}
+use Rattle.imap_types.specs.declared.response.Response.{Response}
+use Rattle.imap_types.specs.Commands.{command_pieces}
 use Rattle.told_folder.specs.declared.exchange.Exchange.{Exchange}
 use Rattle.imap_exchange.specs.Received.{Octets, nothing_given, room_left}
 use Rattle.imap_exchange.specs.Begins.{Begins}

@@ -1,8 +1,8 @@
 -- SELECT of a folder, and the UIDVALIDITY that it tells (RFC 9051 section 6.3.2, RFC 7162 section 3.2.5).
 use Rattle.std.specs.Prelude.{◌==◌, ◌||◌, ℕ, Bool, false, List, if◌then◌else◌, is_some, Option, Some, None}
 use Rattle.std.specs.List.{filter_map}
-use Rattle.imap_syntax.specs.declared.command.Command.TheVariants as command
-use Rattle.imap_syntax.specs.declared.response.Response.{Response}
+use Rattle.imap_types.specs.declared.command.Command.TheVariants as command
+use Rattle.imap_types.specs.declared.response.Response.{Response}
 use Rattle.told_folder.specs.Keyed.{last_of}
 use Rattle.told_folder.specs.declared.message.Folder.{Folder}
 use Rattle.told_mail.specs.Exchanges.{after_closed, validity_in}

@@ -1,6 +1,6 @@
 -- What a store takes of a plan's commands, in their order.
 use Rattle.std.specs.Prelude.{ℕ, ◌++◌, ◌+◌, List, [], ◌∷◌}
-use Rattle.imap_syntax.specs.Commands.{command_pieces, command_text, joined_pieces}
+use Rattle.imap_types.specs.Commands.{command_pieces, command_text, joined_pieces}
 use Rattle.told_folder.specs.declared.exchange.Exchange.{Exchange}
 use Rattle.imap_exchange.specs.Exchanges.{pieces_due}
 use Rattle.imap_client.specs.declared.plan.Due.{Due}

@@ -3,7 +3,7 @@ use Rattle.std.specs.Prelude.{◌≡◌, ◌++◌, ℕ, true, false, List, [], �
 use Rattle.std.specs.List.{flat_map}
 use Rattle.gate_world.specs.declared.event.Event.{Event}
 use Rattle.gate_world.specs.Octets.{store_took_in}
-use Rattle.imap_syntax.specs.declared.command.Command.TheVariants as command
+use Rattle.imap_types.specs.declared.command.Command.TheVariants as command
 use Rattle.told_folder.specs.declared.exchange.Exchange.{Exchange}
 use Rattle.told_folder.specs.declared.message.Folder.{Folder}
 use Rattle.told_mail.specs.Mail.{Mail, folder_in}

@@ -3,16 +3,17 @@ ghost use Rattle.std.specs.Prelude.{◌≡◌, true, false, ◌<◌, ◌≤◌, 
 ghost use Rattle.std.specs.Option.{option_copied};
 ghost use Rattle.gate_world.specs.Causes.{Rose, LinkAlone, NoFault};
 ghost use Rattle.gate_world.specs.Tape.{Adds};
-ghost use Rattle.imap_syntax.specs.declared.response.Status.TheVariants as statuses;
+ghost use Rattle.imap_types.specs.declared.response.Status.TheVariants as statuses;
 ghost use Rattle.imap_exchange.specs.Received.{nothing_given, room_left};
 ghost use Rattle.imap_exchange.specs.Answering.{HangsUp};
 ghost use Rattle.imap_client.specs.LinkLife.{LinkLife, Stands, fresh, begun_with, life_left};
 ghost use Rattle.imap_client.specs.Calls.{IsExchanged, is_torn};
 
 use crate::connection::special_use_after;
-use gate_world::{Bytes, Link};
+use gate_world::Link;
 use imap_exchange::{LinkEnd, Received, complete, hang_up_where};
-use imap_syntax::Command;
+use imap_types::Command;
+use octets::Bytes;
 use std::alloc::Global;
 use std::marker::Model;
 use told_mail::Exchange;

@@ -6,8 +6,8 @@ ghost use Rattle.imap_client.specs.Capabilities.{has_capability as capability_te
 ghost use Rattle.imap_client.specs.Connecting.{is_ok as ok_test, has_enabled as enabled_test, enables as enables_test, stage_after, due_at, planned_from};
 
 use crate::plan::{Due, Plan, Refusal};
-use gate_world::Bytes;
-use imap_syntax::{Command, Response, Status};
+use imap_types::{Command, Response, Status};
+use octets::Bytes;
 use std::alloc::{AllocError, Global};
 use told_mail::Exchange;
 

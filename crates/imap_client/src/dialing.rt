@@ -9,9 +9,10 @@ ghost use Rattle.imap_client.specs.Connecting.{Greets, Lives, Connects, greeting
 use crate::client::Client;
 use crate::connection::{Connection, Stage};
 use crate::following::follow;
-use gate_world::{Bytes, Link, Secrets};
+use gate_world::{Link, Secrets};
 use imap_exchange::{LinkEnd, Received, hang_up_where, next_response};
-use imap_syntax::{Response, Status};
+use imap_types::{Response, Status};
+use octets::Bytes;
 use std::alloc::{AllocError, Global};
 
 // What a greeting says: whether it is PREAUTH.

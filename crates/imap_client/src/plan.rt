@@ -5,7 +5,7 @@ ghost use Rattle.imap_client.specs.Refusals.{refusal_end};
 ghost use Rattle.imap_client.specs.declared.plan.Due.{Due as due_type};
 
 use imap_exchange::LinkEnd;
-use imap_syntax::Command;
+use imap_types::Command;
 use std::alloc::{AllocError, Global};
 use told_mail::Exchange;
 

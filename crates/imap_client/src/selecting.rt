@@ -6,7 +6,7 @@ ghost use Rattle.told_mail.specs.Exchanges as telling;
 ghost use Rattle.imap_client.specs.Selecting as selecting;
 
 use crate::plan::Due;
-use imap_syntax::{Code, Command, Response, Status};
+use imap_types::{Code, Command, Response, Status};
 use std::alloc::AllocError;
 use told_mail::{Folder, after_closed};
 

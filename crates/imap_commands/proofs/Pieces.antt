@@ -2,11 +2,11 @@
 use Rattle.std.proofs.Common.{◌≡◌, ℕ, List, [], ◌∷◌, ◌++◌, codes, refl, sym, ap, ◌∙◌}
 use Rattle.std.specs.Prelude.{ℤ}
 use Rattle.std.proofs.lemmas.List.{append_assoc}
-use Rattle.imap_syntax.specs.declared.command.Command.{Command}
-use Rattle.imap_syntax.specs.declared.command.Command.TheVariants.{Capability, Login, Enable, List as ListFolders, Select, Unselect, FetchFlags, FetchSlice, FetchNew, FetchBody}
-use Rattle.imap_syntax.specs.declared.command.Command.TheVariants.{Store, Move, Expunge, Append, Create, Delete, Rename, Subscribe}
-use Rattle.imap_syntax.specs.Commands.{Plain, Literal, tag_of, credential, put_before, pieces_of, parts_of, words_of, command_pieces}
-use Rattle.imap_syntax.specs.Texts.{crlf}
+use Rattle.imap_types.specs.declared.command.Command.{Command}
+use Rattle.imap_types.specs.declared.command.Command.TheVariants.{Capability, Login, Enable, List as ListFolders, Select, Unselect, FetchFlags, FetchSlice, FetchNew, FetchBody}
+use Rattle.imap_types.specs.declared.command.Command.TheVariants.{Store, Move, Expunge, Append, Create, Delete, Rename, Subscribe}
+use Rattle.imap_types.specs.Commands.{Plain, Literal, tag_of, credential, put_before, pieces_of, parts_of, words_of, command_pieces}
+use Rattle.imap_types.specs.Texts.{crlf}
 use Rattle.imap_commands.specs.reading.Written.{AddsPart}
 
 put_twice : (s t : List ℕ) (pieces : List (List ℕ)) → put_before s (put_before t pieces) ≡ put_before (s ++ t) pieces

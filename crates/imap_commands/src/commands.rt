@@ -1,15 +1,15 @@
 // The texts of commands (RFC 9051 section 6, RFC 6154 section 2, RFC 7162 section 3.2).
 ghost use Rattle.std.specs.Prelude.{◌≡◌, ◌++◌, ◌∷◌, [], ℕ, List, Some, IfOk, OnOk, codes};
 ghost use Rattle.std.specs.List.{list_all};
-ghost use Rattle.imap_syntax.specs.Commands as texts;
-ghost use Rattle.imap_syntax.specs.Commands.{Plain, Literal};
-ghost use Rattle.imap_syntax.specs.Texts.{crlf};
-ghost use Rattle.imap_syntax.specs.declared.command.Command.TheVariants.{Login};
+ghost use Rattle.imap_types.specs.Commands as texts;
+ghost use Rattle.imap_types.specs.Commands.{Plain, Literal};
+ghost use Rattle.imap_types.specs.Texts.{crlf};
+ghost use Rattle.imap_types.specs.declared.command.Command.TheVariants.{Login};
 ghost use Rattle.imap_commands.specs.reading.Written.{AddsPart};
 
-use gate_world::{Bytes, Names};
-use imap_syntax::Command;
+use imap_types::Command;
 use imap_values::push_date;
+use octets::{Bytes, Names};
 use std::alloc::{AllocError, Global};
 
 /// Adds the text in quotes, with `\` before each `"` and `\`: quoted (section 4.3).

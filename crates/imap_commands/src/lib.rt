@@ -4,4 +4,4 @@
 mod commands;
 
 pub use commands::write_command;
-pub use imap_syntax::Command;
+pub use imap_types::Command;

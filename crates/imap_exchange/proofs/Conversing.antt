@@ -12,13 +12,13 @@ use Rattle.std.specs.List.{flat_map}
 use Rattle.gate_world.specs.Octets.{store_took_in, Talk}
 use Rattle.gate_world.specs.Causes.{Rose}
 use Rattle.gate_world.proofs.Joins.{Talk-append, Talk-took}
-use Rattle.imap_syntax.specs.declared.command.Command.{Command}
-use Rattle.imap_syntax.specs.declared.code.Code.{Code}
-use Rattle.imap_syntax.specs.declared.response.Response.{Response}
-use Rattle.imap_syntax.specs.declared.response.Response.TheVariants.{Tagged, Continue}
-use Rattle.imap_syntax.specs.declared.response.Status.{Status}
-use Rattle.imap_syntax.specs.declared.response.Status.TheVariants as status
-use Rattle.imap_syntax.specs.Commands.{command_pieces, put_before, joined_pieces, tag_of, pieces_of, parts_of}
+use Rattle.imap_types.specs.declared.command.Command.{Command}
+use Rattle.imap_types.specs.declared.code.Code.{Code}
+use Rattle.imap_types.specs.declared.response.Response.{Response}
+use Rattle.imap_types.specs.declared.response.Response.TheVariants.{Tagged, Continue}
+use Rattle.imap_types.specs.declared.response.Status.{Status}
+use Rattle.imap_types.specs.declared.response.Status.TheVariants as status
+use Rattle.imap_types.specs.Commands.{command_pieces, put_before, joined_pieces, tag_of, pieces_of, parts_of}
 use Rattle.imap_exchange.specs.declared.link_end.LinkEnd.{LinkEnd}
 use Rattle.imap_exchange.specs.declared.link_end.LinkEnd.TheVariants as end
 use Rattle.imap_exchange.specs.declared.turn.Turn.TheVariants as turn

@@ -6,8 +6,8 @@ use Rattle.std.proofs.lemmas.List.Concat.{flat_map-append}
 use Rattle.std.proofs.lemmas.List.Elements.{All-nil}
 use Rattle.gate_world.specs.declared.event.Event.{Event}
 use Rattle.gate_world.specs.Octets.{store_gave_in, store_took_in, Talk}
-use Rattle.imap_syntax.specs.declared.response.Response.{Response}
-use Rattle.imap_syntax.specs.Commands.{joined_pieces}
+use Rattle.imap_types.specs.declared.response.Response.{Response}
+use Rattle.imap_types.specs.Commands.{joined_pieces}
 use Rattle.imap_exchange.specs.Exchanges.{IsOpen, Passes, pieces_due, IsDuePart, IsPaced}
 use Rattle.imap_exchange.specs.reading.Sending.{piece_at}
 use Rattle.imap_exchange.proofs.Verdicts.{Passes-more}

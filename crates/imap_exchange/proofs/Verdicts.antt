@@ -1,12 +1,12 @@
 -- Octets have one verdict on an exchange.
 use Rattle.std.proofs.Common.{◌≡◌, ◌≢◌, ◌⊎◌, ◌<◌, ◌≤◌, ◌++◌, ◌+◌, ℕ, List, [], ◌∷◌, length, refl, sym, ◌∙◌, ap, subst, append_assoc, length-append, arith, inl, inr, All}
 use Rattle.std.proofs.lemmas.List.Elements.{All-nil, All-cons, All-head, All-tail, All-append}
-use Rattle.imap_syntax.specs.declared.code.Code.{Code}
-use Rattle.imap_syntax.specs.declared.response.Response.{Response}
-use Rattle.imap_syntax.specs.declared.response.Response.TheVariants.{Tagged, Untagged}
-use Rattle.imap_syntax.specs.declared.response.Status.{Status}
-use Rattle.imap_syntax.specs.declared.response.Status.TheVariants as status
-use Rattle.imap_syntax.specs.Spells.{IsSpelling}
+use Rattle.imap_types.specs.declared.code.Code.{Code}
+use Rattle.imap_types.specs.declared.response.Response.{Response}
+use Rattle.imap_types.specs.declared.response.Response.TheVariants.{Tagged, Untagged}
+use Rattle.imap_types.specs.declared.response.Status.{Status}
+use Rattle.imap_types.specs.declared.response.Status.TheVariants as status
+use Rattle.imap_types.specs.Spells.{IsSpelling}
 use Rattle.imap_grammar.specs.Scan.{ScanOf}
 use Rattle.imap_grammar.specs.declared.answer.Scan.TheVariants as scan
 use Rattle.imap_grammar.proofs.Spellings.{need_more_none, bad_none, spelling_some, one_answer}

@@ -1,7 +1,7 @@
 -- The responses that a store's octets spell, one after another.
 use Rattle.std.specs.Prelude.{◌≡◌, ◌++◌, ℕ, List, [], ◌∷◌}
-use Rattle.imap_syntax.specs.declared.response.Response.{Response}
-use Rattle.imap_syntax.specs.Spells.{IsSpelling}
+use Rattle.imap_types.specs.declared.response.Response.{Response}
+use Rattle.imap_types.specs.Spells.{IsSpelling}
 
 -- The octets begin with these responses, and the rest stands after them.
 abbrev pub Begins : List Response → List ℕ → List ℕ → Type 0

@@ -2,8 +2,8 @@
 use Rattle.std.specs.Prelude.{◌≡◌, ◌⊎◌, ◌<◌, ◌++◌, ◌+◌, ℕ, Bool, true, false, List, [], length, Result, Ok, Err}
 use Rattle.gate_world.specs.declared.event.Event.{Event}
 use Rattle.gate_world.specs.Octets.{Talk}
-use Rattle.imap_syntax.specs.declared.response.Response.{Response}
-use Rattle.imap_syntax.specs.Spells.{IsSpelling}
+use Rattle.imap_types.specs.declared.response.Response.{Response}
+use Rattle.imap_types.specs.Spells.{IsSpelling}
 use Rattle.imap_grammar.specs.Scan.{ScanOf}
 use Rattle.imap_grammar.specs.declared.answer.Scan.TheVariants as scan
 use Rattle.imap_exchange.specs.declared.link_end.LinkEnd.{LinkEnd}

@@ -2,10 +2,10 @@
 ghost use Rattle.std.specs.Prelude.{◌≡◌, ◌≢◌, ◌+◌, ◌++◌, ◌∷◌, ◌<◌, ◌≤◌, List, ℕ, [], length, min, true, false, IfOk, OnOk, OnErr, IsErrOf, Option, IsTrue, ◌↔◌, string_bytes};
 ghost use Rattle.gate_world.specs.Causes.{Rose, LinkAlone};
 ghost use Rattle.gate_world.specs.Tape.{Adds};
-ghost use Rattle.imap_syntax.specs.Commands.{tag_of, command_pieces};
-ghost use Rattle.imap_syntax.specs.declared.code.Code.{Code as code_type};
-ghost use Rattle.imap_syntax.specs.declared.response.Status.{Status as status_type};
-ghost use Rattle.imap_syntax.specs.declared.response.Status.TheVariants as statuses;
+ghost use Rattle.imap_types.specs.Commands.{tag_of, command_pieces};
+ghost use Rattle.imap_types.specs.declared.code.Code.{Code as code_type};
+ghost use Rattle.imap_types.specs.declared.response.Status.{Status as status_type};
+ghost use Rattle.imap_types.specs.declared.response.Status.TheVariants as statuses;
 ghost use Rattle.imap_exchange.specs.Received.{room_left};
 ghost use Rattle.imap_exchange.specs.Answering.{selected_by, Converses, answer_of, IsOf};
 ghost use Rattle.imap_exchange.specs.reading.Turns.{is_settled_by};
@@ -15,9 +15,10 @@ use crate::received::Received;
 use crate::response::next_response;
 use crate::sending::send_piece;
 use crate::turn::{Turn, next_place, turn_of};
-use gate_world::{Bytes, Link, Listed};
+use gate_world::Link;
 use imap_commands::write_command;
-use imap_syntax::{Code, Command, Response, Status};
+use imap_types::{Code, Command, Response, Status};
+use octets::{Bytes, Listed};
 use std::alloc::{AllocError, Global};
 use told_folder::Exchange;
 

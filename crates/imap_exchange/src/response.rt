@@ -8,14 +8,14 @@ ghost use Rattle.imap_exchange.specs.reading.Filling.{is_up_after, is_up_at};
 ghost use Rattle.imap_grammar.specs.Scan.{ScanOf};
 ghost use Rattle.imap_grammar.specs.Fed.{IsScannerFed};
 ghost use Rattle.imap_grammar.specs.declared.answer.Scan.TheVariants.{Whole, NeedMore};
-ghost use Rattle.imap_syntax.specs.Spells.{IsSpelling};
+ghost use Rattle.imap_types.specs.Spells.{IsSpelling};
 ghost use Rattle.std.specs.Prelude.{[]};
 
 use crate::link_end::LinkEnd;
 use crate::received::Received;
 use gate_world::Link;
 use imap_grammar::{Scan, Scanner, decode, scan};
-use imap_syntax::Response;
+use imap_types::Response;
 use std::alloc::{AllocError, Global};
 
 // Takes the response off the front.

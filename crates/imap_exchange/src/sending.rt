@@ -5,7 +5,8 @@ ghost use Rattle.gate_world.specs.Tape.{Adds};
 ghost use Rattle.imap_exchange.specs.Answering.{HangsUp};
 ghost use Rattle.imap_exchange.specs.reading.Sending.{Offers, Takes, piece_at};
 
-use gate_world::{Bytes, Link};
+use gate_world::Link;
+use octets::Bytes;
 
 // Writes the octets to the store, a piece at a time: how many it took, from their front. Where those aren't all a write failed, and
 // the link life has ended.

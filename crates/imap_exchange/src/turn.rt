@@ -1,10 +1,10 @@
 // What one response does to the exchange that is due.
 ghost use Rattle.std.specs.Prelude.{◌≡◌, ◌+◌, ◌≤◌, min};
-ghost use Rattle.imap_syntax.specs.declared.response.Response.TheVariants.{Tagged};
+ghost use Rattle.imap_types.specs.declared.response.Response.TheVariants.{Tagged};
 ghost use Rattle.imap_exchange.specs.reading.Turns.{Judges};
 
 use crate::link_end::LinkEnd;
-use imap_syntax::{Code, Response, Status};
+use imap_types::{Code, Response, Status};
 
 /// What a response does to the exchange that waits for a tag.
 #[derive(Debug, Drop)]

@@ -3,10 +3,10 @@ use Rattle.std.proofs.Common.{◌≡◌, ℕ, zero, suc, ◌-◌, ◌<◌, ◌�
 use Rattle.std.specs.Prelude.{nat_lt, nat_le}
 use Rattle.std.proofs.lemmas.Bool.{and_parts, and_from, ltb-true, leb-true, lt-ltb, le-leb}
 use Rattle.imap_automaton.proofs.Tests.{both}
-use Rattle.imap_syntax.specs.declared.uid_set.UidRange.{UidRange}
-use Rattle.imap_syntax.specs.Numbers.{value_from, IsNonZero, IsLong}
-use Rattle.imap_syntax.specs.reading.CodeReading.{cut, nonzero_in, long_in, range_in, one_in_set, more_in_set, ranges_in}
-use Rattle.imap_syntax.proofs.CodeLemmas.{nonzero_sound, nonzero_complete, long_sound, long_complete}
+use Rattle.imap_types.specs.declared.uid_set.UidRange.{UidRange}
+use Rattle.imap_types.specs.Numbers.{value_from, IsNonZero, IsLong}
+use Rattle.imap_types.specs.reading.CodeReading.{cut, nonzero_in, long_in, range_in, one_in_set, more_in_set, ranges_in}
+use Rattle.imap_types.proofs.CodeLemmas.{nonzero_sound, nonzero_complete, long_sound, long_complete}
 use Rattle.imap_grammar.specs.reading.Codes.{put_ranges}
 use Rattle.imap_grammar.specs.reading.Reading as reading
 use Rattle.imap_values.proofs.Cuts.{number_is, long_is, long_capped, within_cap}

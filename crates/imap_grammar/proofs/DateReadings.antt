@@ -2,14 +2,14 @@
 use Rattle.std.proofs.Common.{◌≡◌, ℕ, zero, suc, ◌+◌, ◌-◌, ◌*◌, ◌≤◌, Bool, true, false, ℤ, List, [], ◌∷◌, ◌++◌, length, map, drop, cond, refl, sym, ap, subst, ◌∙◌, arith}
 use Rattle.std.specs.Prelude.{◌==◌}
 use Rattle.std.proofs.lemmas.Bool.{cond-true, cond-false}
-use Rattle.imap_syntax.proofs.EachLemmas.{each_to}
+use Rattle.imap_types.proofs.EachLemmas.{each_to}
 use Rattle.imap_automaton.proofs.DateForms.{two, four, starts_day, is_sign, time_of, zone_of, seconds_same, DateOctets, octets_of, digit_starts}
 use Rattle.imap_values.specs.Dates.{month_named, date_in}
 use Rattle.imap_values.proofs.Cuts.{small, plain_small, digit_small, small_lower}
-use Rattle.imap_syntax.specs.Octets.{is_digit, lower}
-use Rattle.imap_syntax.specs.Texts.{Each, plain_octets}
-use Rattle.imap_syntax.specs.Dates.{month_name}
-use Rattle.imap_syntax.specs.DateTimes.{seconds_of, IsMonth, IsDateTime}
+use Rattle.imap_types.specs.Octets.{is_digit, lower}
+use Rattle.imap_types.specs.Texts.{Each, plain_octets}
+use Rattle.imap_types.specs.Dates.{month_name}
+use Rattle.imap_types.specs.DateTimes.{seconds_of, IsMonth, IsDateTime}
 
 -- ---- months
 

@@ -4,7 +4,7 @@ use Rattle.std.proofs.Common.{ap, subst, ◌∙◌, append_assoc, arith, inl, in
 use Rattle.std.specs.Prelude.{◌==◌, codes}
 use Rattle.std.proofs.lemmas.Bool.{cond-true, cond-false}
 use Rattle.std.proofs.lemmas.List.{length-append, map-append}
-use Rattle.imap_syntax.proofs.EachLemmas.{each_to, each_append}
+use Rattle.imap_types.proofs.EachLemmas.{each_to, each_append}
 use Rattle.pushdown.proofs.Lists.{cons_head}
 use Rattle.imap_automaton.proofs.StringEdges.{no_special}
 use Rattle.imap_values.specs.Spans.{span, long_value, flags_in}
@@ -14,13 +14,13 @@ use Rattle.imap_values.proofs.Cuts.{small, plain_small, cut_at, digit_small}
 use Rattle.imap_grammar.proofs.ItemReadings.{joined_small, flags_read, long_read}
 use Rattle.imap_grammar.proofs.StringReadings.{quoted_small, Ends, astring_read}
 use Rattle.imap_values.proofs.Lengths.{plain_length, less_one}
-use Rattle.imap_syntax.specs.declared.response.StatusItems.{StatusItems}
-use Rattle.imap_syntax.specs.declared.response.Response.TheVariants as response
-use Rattle.imap_syntax.specs.Octets.{is_digit, is_status_word, lower}
-use Rattle.imap_syntax.specs.Texts.{Each, plain_of, plain_octets}
-use Rattle.imap_syntax.specs.Strings.{quoted}
-use Rattle.imap_syntax.specs.Items.{joined, kept}
-use Rattle.imap_syntax.specs.Folders.{folder_name, IsDelimiter, IsListEnd, IsListLine, IsCount, IsMoreCounts, IsCounts, told_as, told_counts, no_counts, IsStatusLine}
+use Rattle.imap_types.specs.declared.response.StatusItems.{StatusItems}
+use Rattle.imap_types.specs.declared.response.Response.TheVariants as response
+use Rattle.imap_types.specs.Octets.{is_digit, is_status_word, lower}
+use Rattle.imap_types.specs.Texts.{Each, plain_of, plain_octets}
+use Rattle.imap_types.specs.Strings.{quoted}
+use Rattle.imap_types.specs.Items.{joined, kept}
+use Rattle.imap_types.specs.Folders.{folder_name, IsDelimiter, IsListEnd, IsListLine, IsCount, IsMoreCounts, IsCounts, told_as, told_counts, no_counts, IsStatusLine}
 
 -- ---- LIST
 

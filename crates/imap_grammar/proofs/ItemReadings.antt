@@ -5,7 +5,7 @@ use Rattle.std.specs.Prelude.{◌==◌, nat_lt, codes, bytes_eq}
 use Rattle.std.proofs.lemmas.Bool.{cond-true, cond-false, or_cases}
 use Rattle.std.proofs.lemmas.List.{length-append, map-append}
 use Rattle.std.proofs.Math.Seq.{drop-append_seam}
-use Rattle.imap_syntax.proofs.EachLemmas.{each_to, each_append}
+use Rattle.imap_types.proofs.EachLemmas.{each_to, each_append}
 use Rattle.imap_automaton.specs.Flow.{stops}
 use Rattle.imap_automaton.specs.ItemRules.{item_start}
 use Rattle.imap_keywords.specs.Keys.{key_text, keys}
@@ -29,13 +29,13 @@ use Rattle.imap_grammar.proofs.PassingReadings.{item_passed}
 pub use Rattle.imap_values.proofs.NameReadings.{joined_small, flags_read, long_read}
 use Rattle.imap_values.proofs.Cuts.{small, plain_small, plain_join, cut_at, number_is, atom_small, digit_small, small_lower}
 use Rattle.imap_values.proofs.Lengths.{plain_length, less_one}
-use Rattle.imap_syntax.specs.declared.response.FetchItems.{FetchItems}
-use Rattle.imap_syntax.specs.Octets.{is_digit, is_atom, lower}
-use Rattle.imap_syntax.specs.Texts.{plain_of, plain_octets}
-use Rattle.imap_syntax.specs.Numbers.{IsNonZero, IsLong}
-use Rattle.imap_syntax.specs.DateTimes.{IsDateTime}
-use Rattle.imap_syntax.specs.Strings.{IsQuoted, IsLiteral, IsNString}
-use Rattle.imap_syntax.specs.Items.{joined, IsNames, Item, Uid, Flags, ModSeq, Date, Size, Header, Body, Other, IsItem, IsMore, IsItems, header_limit, body_limit, told, told_from}
+use Rattle.imap_types.specs.declared.response.FetchItems.{FetchItems}
+use Rattle.imap_types.specs.Octets.{is_digit, is_atom, lower}
+use Rattle.imap_types.specs.Texts.{plain_of, plain_octets}
+use Rattle.imap_types.specs.Numbers.{IsNonZero, IsLong}
+use Rattle.imap_types.specs.DateTimes.{IsDateTime}
+use Rattle.imap_types.specs.Strings.{IsQuoted, IsLiteral, IsNString}
+use Rattle.imap_types.specs.Items.{joined, IsNames, Item, Uid, Flags, ModSeq, Date, Size, Header, Body, Other, IsItem, IsMore, IsItems, header_limit, body_limit, told, told_from}
 
 -- ---- items
 

@@ -14,7 +14,7 @@ use Rattle.imap_automaton.proofs.Edges.{empty_may, ends_by, begin_no_yield}
 use Rattle.imap_automaton.proofs.Kept.{yield_open}
 use Rattle.imap_automaton.proofs.Lawful.{responses_lawful}
 use Rattle.imap_grammar.specs.reading.Passing.{beyond, passed}
-use Rattle.imap_syntax.specs.Texts.{plain_of, plain_octets}
+use Rattle.imap_types.specs.Texts.{plain_of, plain_octets}
 use Rattle.pushdown.specs.declared.moves.Move.{Move}
 use Rattle.pushdown.specs.Run.{moved, step, inside, inside_top, mark, inside_left, skipped}
 use Rattle.pushdown.specs.Flow.{room, first_begins, Good, Room}

@@ -17,21 +17,21 @@ use Rattle.imap_grammar.specs.reading.FolderReading.{list_in, status_in}
 use Rattle.imap_values.proofs.SetReadings.{words_read, vanished_read}
 use Rattle.imap_grammar.proofs.FolderReadings.{list_line_read, status_line_read}
 use Rattle.imap_values.proofs.Lengths.{plain_length}
-use Rattle.imap_syntax.specs.declared.response.Status.{Status}
-use Rattle.imap_syntax.specs.declared.response.Status.TheVariants as status
-use Rattle.imap_syntax.specs.declared.response.Response.{Response}
-use Rattle.imap_syntax.specs.declared.response.Response.TheVariants as response
-use Rattle.imap_syntax.specs.Octets.{is_digit, is_alnum, is_text, is_word, lower}
-use Rattle.imap_syntax.specs.Texts.{Each, Then, plain_of, plain_octets, crlf, IsWord}
-use Rattle.imap_syntax.specs.Numbers.{value_from, IsNumber}
-use Rattle.imap_syntax.specs.Lines.{word_of, IsRest, IsCodedRest, IsTagged, IsWords}
-use Rattle.imap_syntax.specs.reading.CodeReading.{code_in}
-use Rattle.imap_syntax.proofs.CodeLemmas.{has_code}
-use Rattle.imap_syntax.proofs.EachLemmas.{each_to, each_append}
-use Rattle.imap_syntax.specs.declared.code.Code.{Code}
-use Rattle.imap_syntax.specs.Items.{joined, no_items}
-use Rattle.imap_syntax.specs.Free.{IsFree}
-use Rattle.imap_syntax.specs.Spells.{keywords, IsFlagsLine, Says, IsWordLine, IsUntagged, Spells, IsSpelling}
+use Rattle.imap_types.specs.declared.response.Status.{Status}
+use Rattle.imap_types.specs.declared.response.Status.TheVariants as status
+use Rattle.imap_types.specs.declared.response.Response.{Response}
+use Rattle.imap_types.specs.declared.response.Response.TheVariants as response
+use Rattle.imap_types.specs.Octets.{is_digit, is_alnum, is_text, is_word, lower}
+use Rattle.imap_types.specs.Texts.{Each, Then, plain_of, plain_octets, crlf, IsWord}
+use Rattle.imap_types.specs.Numbers.{value_from, IsNumber}
+use Rattle.imap_types.specs.Lines.{word_of, IsRest, IsCodedRest, IsTagged, IsWords}
+use Rattle.imap_types.specs.reading.CodeReading.{code_in}
+use Rattle.imap_types.proofs.CodeLemmas.{has_code}
+use Rattle.imap_types.proofs.EachLemmas.{each_to, each_append}
+use Rattle.imap_types.specs.declared.code.Code.{Code}
+use Rattle.imap_types.specs.Items.{joined, no_items}
+use Rattle.imap_types.specs.Free.{IsFree}
+use Rattle.imap_types.specs.Spells.{keywords, IsFlagsLine, Says, IsWordLine, IsUntagged, Spells, IsSpelling}
 
 -- ---- words
 

@@ -8,8 +8,8 @@ use Rattle.imap_grammar.specs.declared.answer.Scan.TheVariants as scan
 use Rattle.imap_grammar.specs.Scan.{IsResponsePrefix, IsProperResponsePrefix, ScanOf}
 use Rattle.imap_grammar.specs.Fed.{scan_of}
 use Rattle.imap_grammar.proofs.Readings.{one_text_value}
-use Rattle.imap_syntax.specs.declared.response.Response.{Response}
-use Rattle.imap_syntax.specs.Spells.{Spells, IsSpelling}
+use Rattle.imap_types.specs.declared.response.Response.{Response}
+use Rattle.imap_types.specs.Spells.{Spells, IsSpelling}
 use Rattle.pushdown.specs.declared.answer.Answer.{Answer}
 use Rattle.pushdown.specs.declared.answer.Answer.TheVariants as answer
 use Rattle.pushdown.specs.Answers as texts

@@ -4,7 +4,7 @@ use Rattle.std.proofs.Common.{inr}
 use Rattle.std.specs.Prelude.{◌==◌}
 use Rattle.std.proofs.lemmas.Bool.{cond-true, cond-false}
 use Rattle.std.proofs.Math.Seq.{take-append_seam, drop-append_seam}
-use Rattle.imap_syntax.proofs.EachLemmas.{each_to, each_append}
+use Rattle.imap_types.proofs.EachLemmas.{each_to, each_append}
 use Rattle.imap_automaton.proofs.StringEdges.{no_special}
 use Rattle.imap_keywords.proofs.Classes.{atom_apart}
 use Rattle.imap_values.specs.Spans.{span, number_in}
@@ -12,9 +12,9 @@ use Rattle.imap_values.specs.Strings.{unquoted, literal_in, atom_in, astring_in}
 use Rattle.imap_values.proofs.Cuts.{small, plain_small, plain_join, cut_at, number_is, atom_small, digit_small, text_small}
 use Rattle.imap_values.proofs.Lengths.{plain_length}
 use Rattle.imap_values.proofs.StringLemmas.{with_octet}
-use Rattle.imap_syntax.specs.Octets.{is_digit, is_text, is_atom}
-use Rattle.imap_syntax.specs.Texts.{Each, plain_octets}
-use Rattle.imap_syntax.specs.Strings.{IsAtom, escaped, quoted, IsQuoted, IsCounted, IsAString}
+use Rattle.imap_types.specs.Octets.{is_digit, is_text, is_atom}
+use Rattle.imap_types.specs.Texts.{Each, plain_octets}
+use Rattle.imap_types.specs.Strings.{IsAtom, escaped, quoted, IsQuoted, IsCounted, IsAString}
 
 -- ---- quoted texts
 

@@ -2,9 +2,9 @@
 use Rattle.std.specs.Prelude.{◌≡◌, ◌≢◌, ℕ, ◌+◌, ◌<◌, ◌≤◌, List, [], ◌++◌, length, take}
 use Rattle.imap_grammar.specs.declared.answer.Scan.{Scan}
 use Rattle.imap_grammar.specs.declared.answer.Scan.TheVariants.{Whole, NeedMore, Bad}
-use Rattle.imap_syntax.specs.declared.response.Response.{Response}
-use Rattle.imap_syntax.specs.Texts.{plain_octets, outside, limit}
-use Rattle.imap_syntax.specs.Spells.{Spells, IsSpelling}
+use Rattle.imap_types.specs.declared.response.Response.{Response}
+use Rattle.imap_types.specs.Texts.{plain_octets, outside, limit}
+use Rattle.imap_types.specs.Spells.{Spells, IsSpelling}
 
 -- the octets begin a response: one taken without the limit, which they keep themselves
 pub record IsResponsePrefix (b : List ℕ) : Type 0 where

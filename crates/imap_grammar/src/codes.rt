@@ -1,14 +1,14 @@
 // Codes of status lines (RFC 9051 section 7.1, RFC 4315 section 3, RFC 7162, RFC 5530 section 3).
 ghost use Rattle.std.specs.Prelude.{◌≡◌, map, None, Some, IfOk, MatchOption};
-ghost use Rattle.imap_syntax.specs.Octets as classes;
-ghost use Rattle.imap_syntax.specs.reading.CodeReading as reading;
+ghost use Rattle.imap_types.specs.Octets as classes;
+ghost use Rattle.imap_types.specs.reading.CodeReading as reading;
 ghost use Rattle.imap_grammar.specs.reading.Codes.{ranges_of};
 
-use gate_world::Listed;
-use imap_syntax::{Code, UidRange, UidSet};
+use imap_types::{Code, UidRange, UidSet};
 use imap_values::{
     before, behind, is_decimal, is_key, is_sequence, long_of, number_of, octet_at, range_of,
 };
+use octets::Listed;
 use std::alloc::{AllocError, Global};
 
 /// Digits of a long number.
@@ -73,7 +73,7 @@ fn one_range(number: Option<u32>) -> Option<UidRange>
 }
 
 /// The range that the text spells: nz [":" nz].
-#[tactic(auto, unfolding(imap_syntax::specs::reading::CodeReading::range_in))]
+#[tactic(auto, unfolding(imap_types::specs::reading::CodeReading::range_in))]
 fn range_in(text: &[u8]) -> Option<UidRange>
     ensures { result ≡ reading.range_in text.now }
 {
@@ -117,7 +117,7 @@ fn set_in(alloc: Global, text: &[u8]) -> Result<Option<UidSet>, AllocError>
 }
 
 /// A code that is a word: "NOMODSEQ" / "CLOSED" / "OVERQUOTA".
-#[tactic(auto, unfolding(imap_syntax::specs::reading::CodeReading::bare_code))]
+#[tactic(auto, unfolding(imap_types::specs::reading::CodeReading::bare_code))]
 fn bare_code(word: &[u8]) -> Option<Code>
     ensures { result ≡ reading.bare_code (map classes.lower word.now) }
 {
@@ -204,7 +204,7 @@ fn copy_in(alloc: Global, text: &[u8]) -> Result<Option<Code>, AllocError>
 
 /// A code that is a word and what follows it after a space: ("UIDVALIDITY" / "UIDNEXT") SP nz,
 /// "HIGHESTMODSEQ" SP long, "APPENDUID" SP .. or "COPYUID" SP ...
-#[tactic(auto, unfolding(imap_syntax::specs::reading::CodeReading::code_with))]
+#[tactic(auto, unfolding(imap_types::specs::reading::CodeReading::code_with))]
 fn code_with(alloc: Global, word: &[u8], text: &[u8]) -> Result<Option<Code>, AllocError>
     ensures { IfOk result (λ code. code ≡ reading.code_with (map classes.lower word.now) text.now) }
 {
@@ -224,7 +224,7 @@ fn code_with(alloc: Global, word: &[u8], text: &[u8]) -> Result<Option<Code>, Al
 }
 
 /// The code that the text between the brackets is, where it is known.
-#[tactic(auto, unfolding(imap_syntax::specs::reading::CodeReading::known_in))]
+#[tactic(auto, unfolding(imap_types::specs::reading::CodeReading::known_in))]
 fn known_in(alloc: Global, text: &[u8]) -> Result<Option<Code>, AllocError>
     ensures { IfOk result (λ code. code ≡ reading.known_in text.now) }
 {
@@ -235,7 +235,7 @@ fn known_in(alloc: Global, text: &[u8]) -> Result<Option<Code>, AllocError>
 }
 
 /// The code of what follows a status: [SP "[" code "]" ..]. One that isn't known is `Code::Other`.
-#[tactic(auto, unfolding(imap_syntax::specs::reading::CodeReading::code_in))]
+#[tactic(auto, unfolding(imap_types::specs::reading::CodeReading::code_in))]
 pub fn code_in(alloc: Global, tail: &[u8]) -> Result<Code, AllocError>
     ensures { IfOk result (λ code. code ≡ reading.code_in tail.now) }
 {

@@ -1,20 +1,20 @@
 // What a response says (RFC 9051 sections 7 and 9, RFC 7162 section 3.2.10).
 ghost use Rattle.std.specs.Prelude.{◌≡◌, ◌++◌, List, [], ℕ, IfOk, map, Some, bytes_eq};
-ghost use Rattle.imap_syntax.specs.Octets as classes;
-ghost use Rattle.imap_syntax.specs.Spells.{IsSpelling};
-ghost use Rattle.imap_syntax.specs.declared.response.Response.{Response};
+ghost use Rattle.imap_types.specs.Octets as classes;
+ghost use Rattle.imap_types.specs.Spells.{IsSpelling};
+ghost use Rattle.imap_types.specs.declared.response.Response.{Response};
 ghost use Rattle.imap_grammar.specs.reading.Reading as reading;
 
 use crate::codes::code_in;
 use crate::folders;
 use crate::folders::list_in;
 use crate::items::items_in;
-use gate_world::{Bytes, Names};
-use imap_syntax::{Response, Status};
+use imap_types::{Response, Status};
 use imap_values::{
     before, behind, flags_in, is_key, is_sequence, name_len, number_of, octet_at, vanished_in,
     word_len, words_in,
 };
+use octets::{Bytes, Names};
 use std::alloc::{AllocError, Global};
 
 /// Octets of `FETCH (`.

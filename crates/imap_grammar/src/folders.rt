@@ -1,14 +1,14 @@
 // What LIST and STATUS tell of folders (RFC 9051 sections 7.3.1 and 7.3.3).
 ghost use Rattle.std.specs.Prelude.{◌≡◌, ◌≤◌, IfOk, length, map};
-ghost use Rattle.imap_syntax.specs.Octets as classes;
-ghost use Rattle.imap_syntax.specs.Folders as folders;
+ghost use Rattle.imap_types.specs.Octets as classes;
+ghost use Rattle.imap_types.specs.Folders as folders;
 ghost use Rattle.imap_values.specs.Spans as spans;
 ghost use Rattle.imap_grammar.specs.reading.FolderReading as reading;
 
-use gate_world::Bytes;
 use imap_keywords::is_status_word;
-use imap_syntax::{Response, StatusItems};
+use imap_types::{Response, StatusItems};
 use imap_values::{astring_in, before, behind, digits_len, flags_in, is_key, long_of, octet_at};
+use octets::Bytes;
 use std::alloc::{AllocError, Global};
 
 /// INBOX whatever the case of its letters, or the name as it is.

@@ -1,18 +1,18 @@
 // The items of a FETCH (RFC 9051 section 7.5.2).
 ghost use Rattle.std.specs.Prelude.{◌≡◌, ◌∷◌, [], IfOk, OnOk, map, take};
 ghost use Rattle.imap_automaton.specs.ItemRules.{item_start};
-ghost use Rattle.imap_syntax.specs.Items.{no_items};
-ghost use Rattle.imap_syntax.specs.Octets as classes;
+ghost use Rattle.imap_types.specs.Items.{no_items};
+ghost use Rattle.imap_types.specs.Octets as classes;
 ghost use Rattle.imap_grammar.specs.reading.ItemReading as reading;
 ghost use Rattle.imap_grammar.specs.reading.Passing as passing;
 
-use gate_world::Bytes;
 use imap_automaton::{Key, Place, Sym};
-use imap_syntax::FetchItems;
+use imap_types::FetchItems;
 use imap_values::{
     atom_in, atom_len, before, behind, date_in, digits_len, flags_in, is_key, literal_in, long_of,
     lower, number_of, octet_at, unquoted,
 };
+use octets::Bytes;
 use pushdown::{Stack, advance, marked_by, skip_inside};
 use std::alloc::{AllocError, Global};
 

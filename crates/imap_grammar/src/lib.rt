@@ -13,5 +13,5 @@ mod items;
 
 pub use answer::Scan;
 pub use decoder::{decode, no_spelling_within, one_value};
-pub use imap_syntax::{Code, FetchItems, Response, Status, StatusItems, UidRange, UidSet};
+pub use imap_types::{Code, FetchItems, Response, Status, StatusItems, UidRange, UidSet};
 pub use scanner::{Scanner, one_answer, scan};

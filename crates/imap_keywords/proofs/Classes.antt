@@ -1,7 +1,7 @@
 -- What a class says of an octet.
 use Rattle.std.proofs.Common.{◌≡◌, ℕ, ◌≤◌, true, false, arith}
 use Rattle.std.specs.Prelude.{◌==◌}
-use Rattle.imap_syntax.specs.Octets.{is_digit, is_alnum, is_text, is_word, is_atom}
+use Rattle.imap_types.specs.Octets.{is_digit, is_alnum, is_text, is_word, is_atom}
 
 -- the octets of digits
 pub digit_range : (c : ℕ) → is_digit c ≡ true → (48 ≤ c) × (c ≤ 57)

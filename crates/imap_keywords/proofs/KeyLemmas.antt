@@ -7,15 +7,15 @@ use Rattle.std.proofs.lemmas.List.{length-take-le, take-append-drop}
 use Rattle.std.proofs.lemmas.Slice.Eq.{bytes_eq-Decides}
 use Rattle.std.proofs.lemmas.Grind.{common_steps}
 use Rattle.std.proofs.Math.Seq.{take-length}
-use Rattle.imap_syntax.proofs.EachLemmas.{each_to, each_parts}
+use Rattle.imap_types.proofs.EachLemmas.{each_to, each_parts}
 use Rattle.imap_keywords.specs.declared.key.Key.{Key}
 use Rattle.imap_keywords.specs.declared.key.Key.TheVariants as key
 use Rattle.imap_keywords.specs.declared.key.Place.{Place}
 use Rattle.imap_keywords.specs.declared.key.Place.TheVariants as place
 use Rattle.imap_keywords.specs.Keys.{key_text, keys, goes_on, is_whole, is_among, in_word, Among}
 use Rattle.imap_keywords.proofs.Classes.{atom_apart}
-use Rattle.imap_syntax.specs.Octets.{is_word, is_atom, lower}
-use Rattle.imap_syntax.specs.Texts.{Each}
+use Rattle.imap_types.specs.Octets.{is_word, is_atom, lower}
+use Rattle.imap_types.specs.Texts.{Each}
 
 -- ---- texts of keys
 

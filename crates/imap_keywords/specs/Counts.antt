@@ -2,7 +2,7 @@
 use Rattle.std.specs.Prelude.{ℕ, Bool, true, ◌+◌, ◌-◌, ◌*◌, ◌&&◌, nat_lt, nat_le, ◌==◌, if◌then◌else◌, List, [], ◌∷◌}
 use Rattle.imap_keywords.specs.declared.count.Pending.{Pending}
 use Rattle.imap_keywords.specs.declared.count.Pending.TheVariants as pending
-use Rattle.imap_syntax.specs.Octets.{is_digit}
+use Rattle.imap_types.specs.Octets.{is_digit}
 
 abbrev pub capped : ℕ → ℕ
 capped v = if nat_le v 50000000 then v else 50000001

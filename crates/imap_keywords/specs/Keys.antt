@@ -6,7 +6,7 @@ use Rattle.imap_keywords.specs.declared.key.Place.{Place}
 use Rattle.imap_keywords.specs.declared.key.Place.TheVariants as place
 use Rattle.imap_keywords.specs.declared.phrase.Phrase.{Phrase}
 use Rattle.imap_keywords.specs.declared.phrase.Phrase.TheVariants as phrase
-use Rattle.imap_syntax.specs.Octets.{is_word, is_atom}
+use Rattle.imap_types.specs.Octets.{is_word, is_atom}
 
 abbrev pub phrase_text : Phrase → List ℕ
 phrase_text phrase.Space = 32 ∷ []

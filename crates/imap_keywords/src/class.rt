@@ -1,6 +1,6 @@
 // Classes of octets. An octet within a literal is 256 above itself.
 ghost use Rattle.std.specs.Prelude.{◌≡◌};
-ghost use Rattle.imap_syntax.specs.Octets as octets;
+ghost use Rattle.imap_types.specs.Octets as octets;
 
 /// Carriage return.
 pub const CR: u16 = 13;

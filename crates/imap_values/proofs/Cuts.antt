@@ -5,9 +5,9 @@ use Rattle.std.proofs.lemmas.Bool.{cond-true, cond-false, leb-true, leb-false, l
 use Rattle.std.proofs.lemmas.List.{map-append}
 use Rattle.std.proofs.Math.Seq.{take-append_seam, drop-append_seam}
 use Rattle.imap_values.specs.Spans.{span, cap, count_from, number_from, number_in, long_value}
-use Rattle.imap_syntax.specs.Octets.{is_digit, is_text, is_word, is_atom, lower}
-use Rattle.imap_syntax.specs.Texts.{Each, plain_of, plain_octets}
-use Rattle.imap_syntax.specs.Numbers.{value_from}
+use Rattle.imap_types.specs.Octets.{is_digit, is_text, is_word, is_atom, lower}
+use Rattle.imap_types.specs.Texts.{Each, plain_of, plain_octets}
+use Rattle.imap_types.specs.Numbers.{value_from}
 
 abbrev pub small : ℕ → Bool
 small c = nat_lt c 256

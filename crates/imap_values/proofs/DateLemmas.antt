@@ -10,8 +10,8 @@ use Rattle.jiff_core.proofs.CalendarLemmas.{day_count-end, days_in_month_bounds,
 use Rattle.jiff_core.proofs.DateLemmas.{epoch_day_injective}
 use Rattle.jiff_core.proofs.MarchLemmas.{day_count-early}
 use Rattle.jiff_core.proofs.SignedLemmas.{signed_arith}
-use Rattle.imap_syntax.specs.Dates.{Day, next_day, day_at}
-use Rattle.imap_syntax.specs.DateTimes.{days_to}
+use Rattle.imap_types.specs.Dates.{Day, next_day, day_at}
+use Rattle.imap_types.specs.DateTimes.{days_to}
 
 -- the calendar has the day, and counts the days before it
 record Counted (n : ℕ) (d : Day) : Type 0 where

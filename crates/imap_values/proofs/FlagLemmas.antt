@@ -8,8 +8,8 @@ use Rattle.std.specs.Prelude.{◌==◌}
 use Rattle.std.proofs.lemmas.Bool.{cond-true, cond-false}
 use Rattle.imap_values.proofs.Lengths.{less_one}
 use Rattle.imap_values.specs.Spans.{span, in_name, names_in, flags_in}
-use Rattle.imap_syntax.specs.Octets.{lower}
-use Rattle.imap_syntax.specs.Items.{add_name}
+use Rattle.imap_types.specs.Octets.{lower}
+use Rattle.imap_types.specs.Items.{add_name}
 
 -- putting an owned name in a set puts its octets in the set of the names' octets
 pub insert_items : (keys : List (Vec ℕ Global)) (k : Vec ℕ Global)

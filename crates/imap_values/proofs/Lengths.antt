@@ -1,8 +1,8 @@
 -- Lengths of texts, and counts that go down by one.
 use Rattle.std.proofs.Common.{◌≡◌, ℕ, suc, ◌-◌, ◌≤◌, List, [], ◌∷◌, length, arith}
 use Rattle.std.proofs.lemmas.List.{length-append, length-map}
-use Rattle.imap_syntax.specs.Texts.{plain_of, plain_octets}
-use Rattle.imap_syntax.specs.Lines.{spaced}
+use Rattle.imap_types.specs.Texts.{plain_of, plain_octets}
+use Rattle.imap_types.specs.Lines.{spaced}
 
 -- one less than one more
 pub less_one : (n : ℕ) → n ≡ suc n - 1

@@ -4,15 +4,15 @@ use Rattle.std.proofs.Common.{inl, inr}
 use Rattle.std.specs.Prelude.{◌==◌}
 use Rattle.std.proofs.lemmas.Bool.{cond-true, cond-false}
 use Rattle.std.proofs.lemmas.List.{length-append}
-use Rattle.imap_syntax.proofs.EachLemmas.{each_to, each_append}
+use Rattle.imap_types.proofs.EachLemmas.{each_to, each_append}
 use Rattle.imap_values.specs.Spans.{span, in_name, long_value, names_in, flags_in}
 use Rattle.imap_values.proofs.Cuts.{small, cut_at, long_is, atom_small}
 use Rattle.imap_values.proofs.Lengths.{spaced_long}
-use Rattle.imap_syntax.specs.Octets.{is_atom, lower}
-use Rattle.imap_syntax.specs.Texts.{Each}
-use Rattle.imap_syntax.specs.Numbers.{IsLong}
-use Rattle.imap_syntax.specs.Lines.{spaced}
-use Rattle.imap_syntax.specs.Items.{IsName, AllNames, joined, add_name, kept_from, kept}
+use Rattle.imap_types.specs.Octets.{is_atom, lower}
+use Rattle.imap_types.specs.Texts.{Each}
+use Rattle.imap_types.specs.Numbers.{IsLong}
+use Rattle.imap_types.specs.Lines.{spaced}
+use Rattle.imap_types.specs.Items.{IsName, AllNames, joined, add_name, kept_from, kept}
 
 -- ---- names
 

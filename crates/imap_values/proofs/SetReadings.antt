@@ -4,18 +4,18 @@ use Rattle.std.proofs.Common.{append_assoc, arith, inl, inr}
 use Rattle.std.specs.Prelude.{◌==◌, codes}
 use Rattle.std.proofs.lemmas.Bool.{cond-true, cond-false}
 use Rattle.std.proofs.lemmas.List.{length-append, append-nil}
-use Rattle.imap_syntax.proofs.EachLemmas.{each_to, each_append}
+use Rattle.imap_types.proofs.EachLemmas.{each_to, each_append}
 use Rattle.imap_values.specs.Spans.{span, number_in}
 use Rattle.imap_values.specs.Sets.{words_in, range_read, ranges_read, vanished_in}
 use Rattle.imap_values.proofs.Cuts.{small, plain_small, plain_join, cut_at, number_is, digit_small, word_small}
 use Rattle.imap_values.proofs.Lengths.{less_one, plain_length, spaced_long}
-use Rattle.imap_syntax.specs.declared.response.Response.TheVariants as response
-use Rattle.imap_syntax.specs.declared.uid_set.UidRange.{UidRange}
-use Rattle.imap_syntax.specs.Octets.{is_digit, is_word, lower}
-use Rattle.imap_syntax.specs.Texts.{Each, plain_of, plain_octets, crlf, IsWord}
-use Rattle.imap_syntax.specs.Numbers.{IsNonZero}
-use Rattle.imap_syntax.specs.Lines.{AllPrinted, spaced, IsWords}
-use Rattle.imap_syntax.specs.UidSets.{range_of, IsRange, IsSet, IsSetLine, IsVanished}
+use Rattle.imap_types.specs.declared.response.Response.TheVariants as response
+use Rattle.imap_types.specs.declared.uid_set.UidRange.{UidRange}
+use Rattle.imap_types.specs.Octets.{is_digit, is_word, lower}
+use Rattle.imap_types.specs.Texts.{Each, plain_of, plain_octets, crlf, IsWord}
+use Rattle.imap_types.specs.Numbers.{IsNonZero}
+use Rattle.imap_types.specs.Lines.{AllPrinted, spaced, IsWords}
+use Rattle.imap_types.specs.UidSets.{range_of, IsRange, IsSet, IsSetLine, IsVanished}
 
 -- ---- one word more, one range more
 

@@ -4,7 +4,7 @@ use Rattle.std.proofs.lemmas.Bool.{cond-true, cond-false, false_from_ne_true}
 use Rattle.std.proofs.lemmas.List.{drop_all, length-map}
 use Rattle.std.proofs.lemmas.Slice.Eq.{bytes_eq-Decides}
 use Rattle.imap_values.specs.Spans.{span, cap, count_from, all_digits}
-use Rattle.imap_syntax.specs.Octets.{is_digit, lower}
+use Rattle.imap_types.specs.Octets.{is_digit, lower}
 use Rattle.imap_keywords.proofs.Texts.{drop_at}
 use Rattle.imap_keywords.proofs.Texts.{drop_at}
 

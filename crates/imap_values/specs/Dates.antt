@@ -1,7 +1,7 @@
 -- How a spelled date is read back, by the places of its octets.
 use Rattle.std.specs.Prelude.{ℕ, ◌+◌, ◌-◌, ◌*◌, ◌==◌, if◌then◌else◌, List, map, take, drop, get_or, codes, bytes_eq, ℤ}
-use Rattle.imap_syntax.specs.Octets.{is_digit, lower}
-use Rattle.imap_syntax.specs.DateTimes.{seconds_of}
+use Rattle.imap_types.specs.Octets.{is_digit, lower}
+use Rattle.imap_types.specs.DateTimes.{seconds_of}
 
 -- the digit at a place, or 0
 abbrev pub digit_at : List ℕ → ℕ → ℕ

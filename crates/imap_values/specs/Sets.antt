@@ -1,10 +1,10 @@
 -- How words and sets of UIDs are read back: each function takes the octets from its place on.
 use Rattle.std.specs.Prelude.{ℕ, zero, suc, ◌+◌, true, false, ◌==◌, if◌then◌else◌, List, [], ◌∷◌, length, take, drop, get_or}
-use Rattle.imap_syntax.specs.declared.response.Response.{Response}
-use Rattle.imap_syntax.specs.declared.response.Response.TheVariants.{Vanished}
-use Rattle.imap_syntax.specs.declared.uid_set.UidRange.{UidRange}
-use Rattle.imap_syntax.specs.Octets.{is_digit, is_word}
-use Rattle.imap_syntax.specs.UidSets.{range_of}
+use Rattle.imap_types.specs.declared.response.Response.{Response}
+use Rattle.imap_types.specs.declared.response.Response.TheVariants.{Vanished}
+use Rattle.imap_types.specs.declared.uid_set.UidRange.{UidRange}
+use Rattle.imap_types.specs.Octets.{is_digit, is_word}
+use Rattle.imap_types.specs.UidSets.{range_of}
 use Rattle.imap_values.specs.Spans.{span, number_in}
 
 -- ---- words

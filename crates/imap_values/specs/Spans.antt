@@ -1,8 +1,8 @@
 -- Runs of octets, numbers and flags at the front of octets.
 use Rattle.std.specs.Prelude.{ℕ, zero, suc, ◌+◌, ◌-◌, ◌*◌, Bool, true, not, ◌&&◌, nat_lt, nat_le, ◌==◌, if◌then◌else◌, List, [], ◌∷◌, length, map, take, drop}
 use Rattle.std.specs.Prelude.{get_or}
-use Rattle.imap_syntax.specs.Octets.{is_digit, lower}
-use Rattle.imap_syntax.specs.Items.{add_name}
+use Rattle.imap_types.specs.Octets.{is_digit, lower}
+use Rattle.imap_types.specs.Items.{add_name}
 
 -- how many octets at the front are of the class
 unfoldable pub span : (ℕ → Bool) → List ℕ → ℕ

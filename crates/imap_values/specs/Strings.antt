@@ -1,6 +1,6 @@
 -- How a string is read back, from its first octet on: its value, and what follows it.
 use Rattle.std.specs.Prelude.{ℕ, Bool, true, false, ◌&&◌, ◌==◌, if◌then◌else◌, List, [], ◌∷◌, take, drop, get_or}
-use Rattle.imap_syntax.specs.Octets.{is_digit, is_atom}
+use Rattle.imap_types.specs.Octets.{is_digit, is_atom}
 use Rattle.imap_values.specs.Spans.{span, number_in}
 
 -- within a quoted text, after a `\` or not

@@ -1,13 +1,13 @@
 // The date of a message as a store tells it (RFC 9051 section 9, date-time).
 ghost use Rattle.std.specs.Prelude.{◌≡◌, ◌≤◌, map, pos, ◌-ℤ◌};
-ghost use Rattle.imap_syntax.specs.DateTimes as dates;
-ghost use Rattle.imap_syntax.specs.Octets as classes;
+ghost use Rattle.imap_types.specs.DateTimes as dates;
+ghost use Rattle.imap_types.specs.Octets as classes;
 ghost use Rattle.imap_values.specs.Dates as reading;
 
 use crate::dates::{
     DAYS_TO_EPOCH, SECONDS_OF_DAY, SECONDS_OF_HOUR, SECONDS_OF_MINUTE, SECONDS_TO_EPOCH,
 };
-use crate::octets::{before, behind, is_key, octet_at};
+use crate::front_octets::{before, behind, is_key, octet_at};
 use imap_keywords::is_digit;
 use jiff_core::civil::Date;
 

@@ -1,6 +1,6 @@
 // The date of an APPEND (RFC 9051 section 9, date-time).
 ghost use Rattle.std.specs.Prelude.{◌≡◌, ◌≤◌, ◌++◌, pos, ◌-ℤ◌, OnOk};
-ghost use Rattle.imap_syntax.specs.Dates as dates;
+ghost use Rattle.imap_types.specs.Dates as dates;
 
 use jiff_core::civil::Date;
 use std::alloc::AllocError;
@@ -94,7 +94,7 @@ fn month_name(month: u8) -> &'static [u8]
 }
 
 /// Adds a day: dd-Mon-yyyy.
-#[tactic(auto, unfolding(imap_syntax::specs::Dates::day_text))]
+#[tactic(auto, unfolding(imap_types::specs::Dates::day_text))]
 fn push_day(out: &mut Vec<u8>, year: u32, month: u8, day: u8) -> Result<(), AllocError>
     requires year { year ≤ 9999 }
     requires day { day ≤ 99 }
@@ -110,7 +110,7 @@ fn push_day(out: &mut Vec<u8>, year: u32, month: u8, day: u8) -> Result<(), Allo
 }
 
 /// Adds a time, by the seconds of its day: hh:mm:ss.
-#[tactic(auto, unfolding(imap_syntax::specs::Dates::clock_text))]
+#[tactic(auto, unfolding(imap_types::specs::Dates::clock_text))]
 fn push_clock(out: &mut Vec<u8>, seconds: u32) -> Result<(), AllocError>
     requires { seconds ≤ 86399 }
     ensures { OnOk result (out.new.items ≡ out.old.items ++ dates.clock_text seconds) }
@@ -125,7 +125,7 @@ fn push_clock(out: &mut Vec<u8>, seconds: u32) -> Result<(), AllocError>
 
 /// Adds the date in quotes, by the seconds since 1970-01-01T00:00:00Z: DQUOTE dd-Mon-yyyy SP hh:mm:ss SP "+0000" DQUOTE.
 /// One outside the years 0 to 9999 is written as the nearest within them.
-#[tactic(auto, unfolding(imap_syntax::specs::Dates::date_text))]
+#[tactic(auto, unfolding(imap_types::specs::Dates::date_text))]
 pub fn push_date(out: &mut Vec<u8>, date: i64) -> Result<(), AllocError>
     ensures { OnOk result (out.new.items ≡ out.old.items ++ dates.date_text date) }
 {

@@ -1,11 +1,11 @@
 // Flags: "(" [name *(SP name)] ")" (RFC 9051 section 9, flag-list and mbx-list-flags).
 ghost use Rattle.std.specs.Prelude.{◌≡◌, [], length, map, drop, bytes_eq, codes, IfOk, OnOk};
-ghost use Rattle.imap_syntax.specs.Octets as classes;
-ghost use Rattle.imap_syntax.specs.Items as items;
+ghost use Rattle.imap_types.specs.Octets as classes;
+ghost use Rattle.imap_types.specs.Items as items;
 ghost use Rattle.imap_values.specs.Spans as reading;
 
-use crate::octets::{before, behind, lower, name_len, octet_at};
-use gate_world::{Bytes, Names};
+use crate::front_octets::{before, behind, lower, name_len, octet_at};
+use octets::{Bytes, Names};
 use std::alloc::{AllocError, Global};
 use std::collections::BTreeSet;
 

@@ -2,7 +2,7 @@
 #![tactic(auto)]
 
 // Octets at the front.
-mod octets;
+mod front_octets;
 mod strings;
 
 // Values.
@@ -14,7 +14,7 @@ mod sets;
 pub use date_times::date_in;
 pub use dates::push_date;
 pub use flags::flags_in;
-pub use octets::{
+pub use front_octets::{
     before, behind, digits_len, is_decimal, is_key, is_sequence, long_of, lower, name_len,
     number_of, octet_at, word_len,
 };

@@ -1,12 +1,12 @@
 // Words and sets of UIDs.
 ghost use Rattle.std.specs.Prelude.{◌≡◌, ◌++◌, ◌∷◌, [], length, IfOk};
-ghost use Rattle.imap_syntax.specs.UidSets.{range_of};
-ghost use Rattle.imap_syntax.specs.declared.response.Response.{Response};
+ghost use Rattle.imap_types.specs.UidSets.{range_of};
+ghost use Rattle.imap_types.specs.declared.response.Response.{Response};
 ghost use Rattle.imap_values.specs.Sets as reading;
 
-use crate::octets::{before, behind, digits_len, number_of, octet_at, word_len};
-use gate_world::{Bytes, Listed, Names};
-use imap_syntax::{Response, UidRange, UidSet};
+use crate::front_octets::{before, behind, digits_len, number_of, octet_at, word_len};
+use imap_types::{Response, UidRange, UidSet};
+use octets::{Bytes, Listed, Names};
 use std::alloc::{AllocError, Global};
 
 /// Octets of `(EARLIER) `.

@@ -1,12 +1,12 @@
 // Strings at the front of octets (RFC 9051 sections 4.3 and 9).
 ghost use Rattle.std.specs.Prelude.{◌≡◌, ◌≤◌, IfOk, length, true, false};
-ghost use Rattle.imap_syntax.specs.Octets as classes;
+ghost use Rattle.imap_types.specs.Octets as classes;
 ghost use Rattle.imap_values.specs.Spans as spans;
 ghost use Rattle.imap_values.specs.Strings as reading;
 
-use crate::octets::{before, behind, digits_len, number_of, octet_at};
-use gate_world::Bytes;
+use crate::front_octets::{before, behind, digits_len, number_of, octet_at};
 use imap_keywords::is_atom;
+use octets::Bytes;
 use std::alloc::{AllocError, Global};
 
 /// How many octets of an atom stand at the front.

@@ -4,13 +4,13 @@ use Rattle.std.proofs.Common.{Ok, Err, ◌<◌, ◌≤◌}
 use Rattle.std.specs.List.{list_all}
 use Rattle.std.specs.Str.{bytes_eq}
 use Rattle.std.proofs.Math.Bool.{or-true, or-false}
-use Rattle.gate_world.proofs.Steps.{is_or_not}
+use Rattle.octets.proofs.Steps.{is_or_not}
 use Rattle.std.proofs.lemmas.Bool.{le-ltb, lt-ltb}
 use Rattle.std.proofs.lemmas.Option.{none-some, same_Some}
-use Rattle.jmap_methods.specs.Arguments.{is_among}
+use Rattle.jmap_arguments.specs.Arguments.{is_among}
 use Rattle.jmap_core.specs.Request.{Form, RequestData, admitted, is_capability, core_capability, mail_capability, using_of}
 use Rattle.jmap_core.specs.reading.Forms.{noted, known_capabilities}
-use Rattle.jmap_methods.specs.declared.using.Using.{Using}
+use Rattle.jmap_arguments.specs.declared.using.Using.{Using}
 use Rattle.jmap_core.specs.declared.request.LimitName.TheVariants.{MaxCallsInRequest}
 use Rattle.jmap_core.specs.declared.request.RequestError.{RequestError}
 use Rattle.jmap_core.specs.declared.request.RequestError.TheVariants.{UnknownCapability, Limit}

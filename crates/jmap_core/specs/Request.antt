@@ -6,11 +6,11 @@ use Rattle.std.specs.Str.{is_utf8}
 use Rattle.serde_json.specs.Data.{Data, null, boolean, number, string, array, object, Items, no_items, item, Members}
 use Rattle.serde_json.specs.Find.{get, as_str, as_array, as_object}
 use Rattle.serde_json.specs.Read.{read}
-use Rattle.jmap_methods.specs.Arguments.{texts_in, is_among}
+use Rattle.jmap_arguments.specs.Arguments.{texts_in, is_among}
 use Rattle.result_references.specs.Call.{CallData, call_data}
 use Rattle.jmap_core.specs.CreatedIds.{Ids, given_to}
 use Rattle.jmap_core.specs.declared.request.Request.{Request}
-use Rattle.jmap_methods.specs.declared.using.Using.{Using}
+use Rattle.jmap_arguments.specs.declared.using.Using.{Using}
 use Rattle.jmap_core.specs.declared.request.LimitName.TheVariants.{MaxCallsInRequest}
 use Rattle.jmap_core.specs.declared.request.RequestError.{RequestError}
 use Rattle.jmap_core.specs.declared.request.RequestError.TheVariants.{NotJson, NotRequest, UnknownCapability, Limit}

@@ -2,8 +2,8 @@
 use Rattle.std.specs.Prelude.{ℕ, List, [], ◌∷◌, ◌++◌, length, codes, decimal, map, true, false}
 use Rattle.serde_json.specs.Data.{unsigned, Data, null, boolean, number, string, array, object, no_items, no_members, member}
 use Rattle.serde_json.specs.View.{items_of}
-use Rattle.jmap_methods.specs.Arguments.{account_id}
-use Rattle.jmap_methods.specs.declared.arguments.TheConstants.{MAX_OBJECTS_IN_GET}
+use Rattle.jmap_arguments.specs.Arguments.{account_id}
+use Rattle.jmap_arguments.specs.declared.arguments.TheConstants.{MAX_OBJECTS_IN_GET}
 use Rattle.jmap_core.specs.declared.request_body.TheConstants.{MAX_CALLS_IN_REQUEST}
 use Rattle.jmap_core.specs.declared.session.TheConstants.{MAX_SIZE_REQUEST, MAX_SIZE_UPLOAD, MAX_CONCURRENT_REQUESTS, MAX_CONCURRENT_UPLOAD, MAX_OBJECTS_IN_SET}
 use Rattle.jmap_core.specs.declared.session.TheConstants.{MAX_SIZE_ATTACHMENTS_PER_EMAIL, MAX_SIZE_MAILBOX_NAME}

@@ -5,7 +5,7 @@ ghost use Rattle.serde_json.specs.View.{view, members_view};
 ghost use Rattle.jmap_core.specs.CreatedIds.{put_id, id_of, id_members};
 ghost use Rattle.jmap_core.specs.reading.Pairs.{pairs};
 
-use gate_world::Text;
+use octets::Text;
 use serde_json::{Map, Value, put};
 use std::alloc::{AllocError, Global};
 use std::collections::BTreeMap;

@@ -12,7 +12,7 @@ mod response;
 mod session;
 
 pub use created_ids::CreatedIds;
-pub use problem::{problem_status, problem_text};
+pub use problem::problem_text;
 pub use request::{LimitName, Request, RequestError};
 pub use request_body::{MAX_CALLS_IN_REQUEST, read_request};
 pub use response::{response_text, response_value};

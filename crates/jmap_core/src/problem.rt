@@ -1,6 +1,6 @@
 // The answers to bodies that are no request, which are constant.
 ghost use Rattle.std.specs.Prelude.{◌≡◌};
-ghost use Rattle.jmap_core.specs.Problem.{status_of, text_of_problem};
+ghost use Rattle.jmap_core.specs.Problem.{text_of_problem};
 ghost use Rattle.jmap_core.specs.declared.request.RequestError.TheVariants.{NotJson, NotRequest, UnknownCapability, Limit};
 ghost use Rattle.jmap_core.specs.declared.request.LimitName.TheVariants.{MaxSizeRequest, MaxCallsInRequest, MaxSizeUpload};
 
@@ -56,20 +56,6 @@ fn upload_too_large() -> &'static [u8]
     ensures { result.now ≡ text_of_problem (Limit MaxSizeUpload) }
 {
     MAX_SIZE_UPLOAD
-}
-
-/// The HTTP status of the answer: 413 for a size that is too large, 503 out of memory, else 400.
-pub fn problem_status(error: RequestError) -> u16
-    ensures { result ≡ status_of error }
-{
-    match error {
-        RequestError::NotJson | RequestError::NotRequest | RequestError::UnknownCapability => 400,
-        RequestError::Limit { name } => match name {
-            LimitName::MaxSizeRequest | LimitName::MaxSizeUpload => 413,
-            LimitName::MaxCallsInRequest => 400,
-        },
-        RequestError::Memory => 503,
-    }
 }
 
 /// The body of the answer (RFC 8620 section 3.6.1); out of memory it is empty.

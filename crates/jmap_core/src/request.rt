@@ -3,7 +3,7 @@ ghost use Rattle.std.specs.Prelude.{◌≡◌};
 ghost use Rattle.jmap_core.specs.declared.request.RequestError.TheVariants.{Memory};
 
 use crate::created_ids::CreatedIds;
-use jmap_methods::Using;
+use jmap_arguments::Using;
 use result_references::Call;
 use std::alloc::AllocError;
 use thiserror::Error;

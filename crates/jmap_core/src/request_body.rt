@@ -3,8 +3,8 @@ ghost use Rattle.std.specs.Prelude.{◌≡◌, [], IfOk, map, option_map, option
 ghost use Rattle.serde_json.specs.Find.{get, as_array};
 ghost use Rattle.serde_json.specs.View.{view, items_view, members_view};
 ghost use Rattle.jmap_core.specs.CreatedIds.{given_to};
-ghost use Rattle.jmap_methods.specs.Arguments.{texts_in};
-ghost use Rattle.jmap_methods.specs.Outcome.{Agrees};
+ghost use Rattle.jmap_arguments.specs.Arguments.{texts_in};
+ghost use Rattle.jmap_arguments.specs.Outcome.{Agrees};
 ghost use Rattle.jmap_core.specs.Request as spec;
 ghost use Rattle.jmap_core.specs.Request.{request_data, json_in, requested};
 ghost use Rattle.result_references.specs.Call.{call_data};
@@ -13,8 +13,8 @@ ghost use Rattle.jmap_core.specs.declared.request.RequestError.TheVariants.{Memo
 
 use crate::created_ids::CreatedIds;
 use crate::request::{LimitName, Request, RequestError};
-use gate_world::Text;
-use jmap_methods::{Using, texts_in};
+use jmap_arguments::{Using, texts_in};
+use octets::Text;
 use result_references::Call;
 use serde_json::{Map, Value};
 use std::alloc::{AllocError, Global};

@@ -6,7 +6,7 @@ ghost use Rattle.jmap_core.specs.Session.{session_state_text, core_limits, email
 ghost use Rattle.jmap_core.specs.Session.{api_path, download_path, events_path, upload_path};
 
 use crate::MAX_CALLS_IN_REQUEST;
-use jmap_methods::{ACCOUNT_ID, MAX_OBJECTS_IN_GET};
+use jmap_arguments::{ACCOUNT_ID, MAX_OBJECTS_IN_GET};
 use serde_json::{Map, Value, json, put};
 use std::alloc::{AllocError, Global};
 

@@ -2,7 +2,7 @@
 #![tactic(auto)]
 
 ghost use Rattle.std.specs.Prelude.{◌≡◌, [], map, string_bytes, IfOk};
-ghost use Rattle.jmapgate.specs.Clientele.{AreListenedFor};
+ghost use Rattle.jmapgate.specs.Clientele.{AreEnded, AreListenedFor};
 ghost use Rattle.jmapgate.specs.Devices.{NamesListener, NamesStore};
 
 use client_front::TcpClients;
@@ -10,7 +10,8 @@ use gate_host::{
     Clients, Host, HostWorld, ListenerFront, SessionFront, StandardFront, TcpSessions,
 };
 use gate_words::{Task, WordsError, read_words};
-use gate_world::{Bytes, Text, Watcher};
+use gate_world::Watcher;
+use octets::{Bytes, Text};
 use std::alloc::{AllocError, Global};
 use std::env;
 use std::env::VarError;
@@ -52,7 +53,7 @@ enum Clientele {
 /// Makes the devices that the words ask for, and runs the gateway over them.
 fn run(rt: HostRuntime) -> Result<u8, AllocError> {
     let words = words_of(&rt)?;
-    match clientele_of(rt, listening_of(rt.alloc(), &words)?) {
+    match clientele_of(rt, listening_of(rt.alloc(), &words)?)? {
         Clientele::Requests(front) => run_over(rt, &words, front),
         Clientele::Sessions(front) => run_over(rt, &words, front),
         Clientele::Standard(front) => run_over(rt, &words, front),
@@ -61,19 +62,20 @@ fn run(rt: HostRuntime) -> Result<u8, AllocError> {
 
 /// The clients that are listened for, or the one on standard input and output. Where there is no listening at the address, each
 /// of the front's calls fails.
-fn clientele_of(rt: HostRuntime, listening: Listening) -> Clientele
-    ensures { AreListenedFor listening result }
+fn clientele_of(rt: HostRuntime, listening: Listening) -> Result<Clientele, AllocError>
+    ensures { IfOk result (AreListenedFor listening) }
 {
     match listening {
         Listening::Requests(address) => {
             let listener = TcpClients::bind(rt.alloc(), &rt, address.as_str());
-            Clientele::Requests(ListenerFront::new(rt.alloc(), listener, rt))
+            let front = ListenerFront::new(rt.alloc(), listener, rt)?;
+            Ok(Clientele::Requests(front))
         }
         Listening::Sessions(address) => {
             let listener = TcpSessions::bind(&rt, rt, address.as_str());
-            Clientele::Sessions(SessionFront::new(listener))
+            Ok(Clientele::Sessions(SessionFront::new(listener)))
         }
-        Listening::Nobody => Clientele::Standard(StandardFront::new(rt.input(), rt.output())),
+        Listening::Nobody => Ok(Clientele::Standard(StandardFront::new(rt.input(), rt.output()))),
     }
 }
 
@@ -83,10 +85,21 @@ fn run_over<C: Clients>(rt: HostRuntime, words: &[String], front: C) -> Result<u
     let password = variable(&rt, "JMAPGATE_PASSWORD")?;
     let token = variable(&rt, "JMAPGATE_TOKEN")?;
     let mut world = HostWorld::new(rt, store, front, password, token);
-    let mut watchers: Vec<Box<dyn Watcher>> = Vec::new(rt.alloc());
-    let status = gateway::run(words, &mut world, &mut watchers);
+    Ok(run_to_end(rt.alloc(), words, &mut world))
+}
+
+/// Runs the gateway, and waits for the clients whose response is whole, which the program's end would close.
+fn run_to_end<C: Clients>(
+    alloc: Global,
+    words: &[String],
+    world: &mut HostWorld<HostRuntime, C>,
+) -> u8
+    ensures { AreEnded C.ends world.new.front }
+{
+    let mut watchers: Vec<Box<dyn Watcher>> = Vec::new(alloc);
+    let status = gateway::run(words, world, &mut watchers);
     world.front.end();
-    Ok(status)
+    status
 }
 
 /// The words after the program's name. Where one of them is no UTF-8 there are none, which are refused as well.

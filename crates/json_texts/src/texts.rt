@@ -3,7 +3,7 @@ ghost use Rattle.std.specs.Prelude.{◌≡◌, IfOk};
 ghost use Rattle.serde_json.specs.View.{view};
 ghost use Rattle.json_texts.specs.Texts.{text_data, optional_text};
 
-use gate_world::Bytes;
+use octets::Bytes;
 use serde_json::Value;
 use std::alloc::{AllocError, Global};
 

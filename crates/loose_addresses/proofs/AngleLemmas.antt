@@ -5,8 +5,7 @@ use Rattle.std.proofs.lemmas.List.{drop_all, drop_more}
 use Rattle.text_words.specs.Cuts.{Each, front}
 use Rattle.text_words.proofs.CutLemmas.{run_cut}
 use Rattle.header_addresses.proofs.MailboxLemmas.{and_parts}
-use Rattle.loose_addresses.specs.LooseLists.{is_at, is_no_angle, HasAngle, IsLastAngle, NoAngle}
-use Rattle.loose_addresses.specs.declared.angles.Scan.{Scan}
+use Rattle.loose_addresses.specs.Angles.{is_at, is_no_angle, IsLastAngle, NoAngle}
 use Rattle.loose_addresses.specs.reading.AngleSteps.{closes, has_at, opens, OpensAt, Tells}
 
 closes_past : (c : ℕ) (t : List ℕ) → is_no_angle c ≡ true → closes (c ∷ t) ≡ closes t

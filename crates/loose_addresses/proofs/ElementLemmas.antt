@@ -1,6 +1,6 @@
 -- Elements are found lump by lump, and the addresses of a text element by element.
-use Rattle.std.proofs.Common.{◌≡◌, ◌≢◌, ◌⊎◌, inl, inr, ℕ, ◌+◌, ◌<◌, ◌≤◌, Bool, true, false, List, [], ◌∷◌, ◌++◌, length, take, drop, map, refl, sym, ap, ◌∙◌, subst, arith, append_assoc, take-append-drop, Bor, Option, Some, None, option_to_list, MatchOption}
-use Rattle.std.specs.List.{AllZip, flat_map}
+use Rattle.std.proofs.Common.{◌≡◌, ◌≢◌, inl, inr, ℕ, ◌+◌, ◌<◌, ◌≤◌, Bool, true, false, List, [], ◌∷◌, ◌++◌, length, take, drop, refl, sym, ap, ◌∙◌, subst, arith, append_assoc, take-append-drop, Bor, Option, Some, None, option_to_list, MatchOption}
+use Rattle.std.specs.List.{AllZip}
 use Rattle.std.proofs.Math.Seq.{take-add}
 use Rattle.std.proofs.lemmas.List.{append-nil, append_cancel_right, length-append, length-drop, take_at, drop_at, drop-drop}
 use Rattle.text_words.specs.Sequence.{Sequence}
@@ -10,9 +10,11 @@ use Rattle.header_tokens.specs.reading.ClosingCounts.{TellClosings}
 use Rattle.header_tokens.proofs.ClosingLemmas.{tell_end}
 use Rattle.header_tokens.specs.Tokens.{IsComment, IsQuoted}
 use Rattle.header_addresses.specs.declared.address.Address.{Address}
-use Rattle.loose_addresses.specs.LooseLists.{is_separator, IsLump, Closed, Octet, Separator, before_first, elements_of, IsElementRead, AreLoose}
-use Rattle.loose_addresses.specs.reading.ElementSteps.{LumpOf, AreElementLumps, IsElementBefore, EndsElement, BeginsWithElement, LastElement, NextElement, AreLeft}
-use Rattle.loose_addresses.proofs.LooseLemmas.{some_lump}
+use Rattle.loose_addresses.specs.Angles.{joined}
+use Rattle.loose_addresses.specs.LooseLists.{IsElementRead, AreLoose}
+use Rattle.loose_addresses.specs.Lumps.{is_separator, IsWordShape, BeginsLoose, IsLump, Whole, Octet, Separator, AreLumpsBefore, before_first, elements_of}
+use Rattle.loose_addresses.specs.reading.ElementSteps.{LumpOf, IsElementBefore, EndsElement, BeginsWithElement, LastElement, NextElement, AreLeft}
+use Rattle.loose_addresses.proofs.LumpLemmas.{some_lump}
 
 -- ---- lump by lump
 
@@ -70,13 +72,22 @@ pub ends_nothing : (t : List ℕ) → t ≡ [] → EndsElement t
 ends_nothing t e = let P : List ℕ → Type 0 = λ u. EndsElement u in subst P (sym e) tt
 
 -- an octet that begins nothing that is closed
-pub lump_one : (t : List ℕ) → 0 < length t → is_separator (first_octet t) ≡ false → BeginsUnclosed t → LumpOf 1 t
+pub lump_one : (t : List ℕ) → 0 < length t → is_separator (first_octet t) ≡ false → BeginsLoose t → LumpOf 1 t
 lump_one [] h p n = absurd (omega arith)
 lump_one (c ∷ t) h p n = record { unit = c ∷ []; rest = t; whole = refl; is = Octet c t p n; counted = refl }
 
 -- what is closed
 pub lump_closed : (t x rest : List ℕ) → IsClosed x → t ≡ x ++ rest → LumpOf (length x) t
-lump_closed t x rest i e = record { unit = x; rest = rest; whole = e; is = Closed x rest i; counted = refl }
+lump_closed t x rest i e = record { unit = x; rest = rest; whole = e; is = Whole x rest (inl i); counted = refl }
+
+-- an encoded word
+pub lump_word : (t x rest : List ℕ) → IsWordShape x → t ≡ x ++ rest → LumpOf (length x) t
+lump_word t x rest i e = record { unit = x; rest = rest; whole = e; is = Whole x rest (inr i); counted = refl }
+
+-- what begins with neither
+pub begins_loose : (t : List ℕ) → BeginsUnclosed t → ((x y : List ℕ) → IsWordShape x → t ≢ x ++ y) → BeginsLoose t
+begins_loose t u n x y (inl i) = u x y i
+begins_loose t u n x y (inr i) = n x y i
 
 -- what begins with none of the four begins with nothing that is closed
 pub none_closed : (t : List ℕ) → ((x y : List ℕ) → IsComment x → t ≢ x ++ y) → ((x y : List ℕ) → IsQuoted x → t ≢ x ++ y)
@@ -114,38 +125,34 @@ all_some : List (List ℕ) → List (Option (List ℕ))
 all_some [] = []
 all_some (u ∷ us) = Some u ∷ all_some us
 
-joined : List (List ℕ) → List ℕ
-joined [] = []
-joined (u ∷ us) = u ++ joined us
-
-last_lumps : (us : List (List ℕ)) (t : List ℕ) → AreElementLumps us [] t → Sequence IsLump (all_some us) t
+last_lumps : (us : List (List ℕ)) (t : List ℕ) → AreLumpsBefore us [] t → Sequence IsLump (all_some us) t
 unfolding all_some
 last_lumps [] t h = h
 last_lumps (u ∷ us) t h = record { unit = h.unit; rest = h.rest; whole = h.whole; is = h.is; more = last_lumps us h.rest h.more }
 
-next_lumps : (us : List (List ℕ)) (c : ℕ) (more t : List ℕ) (ls : List (Option (List ℕ))) → is_separator c ≡ true → AreElementLumps us (c ∷ more) t → Sequence IsLump ls more
+next_lumps : (us : List (List ℕ)) (c : ℕ) (more t : List ℕ) (ls : List (Option (List ℕ))) → is_separator c ≡ true → AreLumpsBefore us (c ∷ more) t → Sequence IsLump ls more
     → Sequence IsLump (all_some us ++ None ∷ ls) t
 unfolding all_some
 next_lumps [] c more t ls s h g = record { unit = c ∷ []; rest = more; whole = h; is = Separator c more s; more = g }
 next_lumps (u ∷ us) c more t ls s h g = record { unit = h.unit; rest = h.rest; whole = h.whole; is = h.is; more = next_lumps us c more h.rest ls s h.more g }
 
 last_elements : (us : List (List ℕ)) → elements_of (all_some us) ≡ joined us ∷ []
-unfolding all_some joined
+unfolding all_some
 last_elements [] = refl
 last_elements (u ∷ us) = ap (before_first u) (last_elements us)
 
 next_elements : (us : List (List ℕ)) (ls : List (Option (List ℕ))) → elements_of (all_some us ++ None ∷ ls) ≡ joined us ∷ elements_of ls
-unfolding all_some joined
+unfolding all_some
 next_elements [] ls = refl
 next_elements (u ∷ us) ls = ap (before_first u) (next_elements us ls)
 
 lump_unit : (v : Option (List ℕ)) (x s u : List ℕ) → IsLump v x s → v ≡ Some u → u ≡ x
-lump_unit _ _ s u (Closed x _ f) e = cc
+lump_unit _ _ s u (Whole x _ f) e = cc
 lump_unit _ _ s u (Octet c _ n m) e = cc
 lump_unit _ _ s u (Separator c _ n) e = absurd cc
 
-lumps_text : (us : List (List ℕ)) (rest t : List ℕ) → AreElementLumps us rest t → t ≡ joined us ++ rest
-unfolding joined
+-- they are the text before what follows
+pub lumps_text : (us : List (List ℕ)) (rest t : List ℕ) → AreLumpsBefore us rest t → t ≡ joined us ++ rest
 lumps_text [] rest t h = h
 lumps_text (u ∷ us) rest t h =
     h.whole ∙ ap (λ (x : List ℕ). x ++ h.rest) (sym (lump_unit (Some u) h.unit h.rest u h.is refl)) ∙ ap (λ (x : List ℕ). u ++ x) (lumps_text us rest h.rest h.more)

@@ -1,126 +1,34 @@
 -- A text has one list of addresses, as far as they read.
-use Rattle.std.proofs.Common.{◌≡◌, ◌≢◌, ◌⊎◌, inl, inr, ℕ, ◌<◌, Bool, true, false, not, ◌||◌, eqb, List, [], ◌∷◌, ◌++◌, length, refl, sym, ap, ◌∙◌, subst, append_assoc, arith}
+use Rattle.std.proofs.Common.{◌≡◌, inl, inr, ℕ, ◌<◌, true, false, not, List, [], ◌∷◌, ◌++◌, length, refl, sym, ap, ◌∙◌, subst, arith}
 use Rattle.std.proofs.Common.{Option, Some, None, option_to_list}
 use Rattle.std.specs.List.{AllZip, flat_map}
 use Rattle.std.proofs.lemmas.Bool.{cases_lt}
 use Rattle.std.proofs.lemmas.List.{append_cancel_left}
 use Rattle.text_words.specs.Cuts.{Each}
-use Rattle.text_words.specs.Sequence.{SameStart, IsDetermined}
 use Rattle.text_words.proofs.CutLemmas.{one_run}
 use Rattle.text_words.proofs.SequenceLemmas.{one_reading}
 use Rattle.header_words.proofs.WordLemmas as words
 use Rattle.header_words.proofs.WordLemmas.{same_length}
 use Rattle.header_words.specs.OneLine.{one_line}
+use Rattle.header_words.specs.declared.encoded_word.Edges.TheVariants as edges
 use Rattle.mail_header.specs.RawForms.{raw_form}
 use Rattle.mail_header.specs.WhiteEnd.{some_text}
-use Rattle.header_tokens.specs.declared.token.Alphabet.TheVariants as alphabet
-use Rattle.header_tokens.specs.declared.token.Kind.{Kind}
-use Rattle.header_tokens.specs.declared.token.Kind.TheVariants as kind
-use Rattle.header_tokens.specs.Closings.{is_no_greater_octet, IsAngle, IsClosed}
-use Rattle.header_tokens.specs.Tokens.{Spelled, IsToken, is_mark}
-use Rattle.header_tokens.proofs.LeadingLemmas.{one_token}
 use Rattle.header_addresses.specs.declared.address.Address.{Address}
 use Rattle.header_addresses.specs.declared.address.Group.{Group}
-use Rattle.header_addresses.specs.Names.{IsAddressesForm, IsGroupsForm}
 use Rattle.header_addresses.proofs.FormLemmas.{zip_one, one_addresses, one_groups}
 use Rattle.header_addresses.proofs.PartLemmas.{one_head, one_one, one_phrase}
+use Rattle.loose_addresses.specs.Angles.{is_angle, NoAngle, IsLastAngle, begins_less, HaveNone, joined, IsLastOf, IsAddressAngle, Outside, Anywhere}
 use Rattle.loose_addresses.specs.LooseForms as loose
 use Rattle.loose_addresses.specs.LooseForms.{IsLooseAddressesForm, IsLooseGroupsForm, some_list}
-use Rattle.loose_addresses.specs.LooseLists.{is_separator, IsLump, Closed, Octet, Separator, elements_of, IsBehindHead, Dropped, NoHead, is_angle, HasAngle, IsLastAngle}
-use Rattle.loose_addresses.specs.LooseLists.{trimmed, IsNameBefore, Phrase, AsItStands, ReadsAs, Strict, InAngle, Bare, PassedOver, IsElementRead, AreLoose}
-
--- ---- lumps
-
--- the text is a token wherever it stands, and no mark
-record IsTokenHere (x : List ℕ) : Type 0 where
-  kind_is : Kind
-  token : (s : List ℕ) → IsToken alphabet.Mail (record { kind = kind_is; text = x }) x s
-  no_mark : kind_is ≡ kind.Mark → ⊥
-
-is_mark_kind : Kind → Bool
-is_mark_kind kind.Mark = true
-is_mark_kind _ = false
-
-sorted : (x : List ℕ) → IsClosed x → IsTokenHere x ⊎ IsAngle x
-unfolding is_mark_kind
-sorted x (inl q) = inl (record { kind_is = kind.Quoted; token = λ s. record { text_is = refl; spelled = q; ends = tt }; no_mark = λ e. let f = ap is_mark_kind e in absurd cc })
-sorted x (inr (inl q)) = inl (record { kind_is = kind.Comment; token = λ s. record { text_is = refl; spelled = q; ends = tt }; no_mark = λ e. let f = ap is_mark_kind e in absurd cc })
-sorted x (inr (inr (inl q))) = inl (record { kind_is = kind.Literal; token = λ s. record { text_is = refl; spelled = q; ends = tt }; no_mark = λ e. let f = ap is_mark_kind e in absurd cc })
-sorted x (inr (inr (inr a))) = inr a
-
--- no such token begins with a mark
-token_mark : (x s t : List ℕ) (c : ℕ) → IsTokenHere x → is_mark alphabet.Mail c ≡ true → x ++ s ≡ c ∷ t → ⊥
-token_mark x s t c k m e =
-    let o = (one_token alphabet.Mail).one (record { kind = k.kind_is; text = x }) (record { kind = kind.Mark; text = c ∷ [] }) x (c ∷ []) s t e (k.token s)
-    (record { text_is = refl; spelled = (c, refl, m); ends = tt }) in
-    k.no_mark (ap (λ (v : Spelled). v.kind) o.value)
-
-angle_text : (a s : List ℕ) → (60 ∷ (a ++ 62 ∷ [])) ++ s ≡ 60 ∷ (a ++ 62 ∷ s)
-angle_text a s = ap (λ (u : List ℕ). 60 ∷ u) (append_assoc a (62 ∷ []) s)
-
-angle_begins : (x s : List ℕ) (a : IsAngle x) → x ++ s ≡ 60 ∷ (a.inner ++ 62 ∷ s)
-angle_begins x s a = ap (λ (u : List ℕ). u ++ s) a.whole ∙ angle_text a.inner s
-
-closed_one : (x y s t : List ℕ) → x ++ s ≡ y ++ t → IsClosed x → IsClosed y → x ≡ y
-closed_one x y s t e f g = by (sorted x f) (sorted y g)
-  where
-    by : IsTokenHere x ⊎ IsAngle x → IsTokenHere y ⊎ IsAngle y → x ≡ y
-    by (inl k) (inl l) = ((one_token alphabet.Mail).one _ _ x y s t e (k.token s) (l.token t)).unit
-    by (inl k) (inr b) = absurd (token_mark x s _ 60 k refl (e ∙ angle_begins y t b))
-    by (inr a) (inl l) = absurd (token_mark y t _ 60 l refl (sym e ∙ angle_begins x s a))
-    by (inr a) (inr b) =
-        let w : 60 ∷ (a.inner ++ 62 ∷ s) ≡ 60 ∷ (b.inner ++ 62 ∷ t) = sym (angle_begins x s a) ∙ e ∙ angle_begins y t b in
-        let inner : a.inner ++ 62 ∷ s ≡ b.inner ++ 62 ∷ t = cc in
-        let c = one_run is_no_greater_octet a.inner s b.inner t 62 a.first b.first refl inner in
-        a.whole ∙ ap (λ (u : List ℕ). 60 ∷ (u ++ 62 ∷ [])) c.front ∙ sym b.whole
-
-separator_mark : (c : ℕ) → is_separator c ≡ true → is_mark alphabet.Mail c ≡ true
-separator_mark c e = grind arith
-
-no_separator : (c : ℕ) → is_separator c ≡ true → c ≡ 60 → ⊥
-no_separator c e f = grind arith
-
-closed_separator : (x s t : List ℕ) (c : ℕ) → IsClosed x → is_separator c ≡ true → x ++ s ≡ c ∷ t → ⊥
-closed_separator x s t c f m e = by (sorted x f)
-  where
-    by : IsTokenHere x ⊎ IsAngle x → ⊥
-    by (inl k) = token_mark x s t c k (separator_mark c m) e
-    by (inr a) = let w : 60 ∷ (a.inner ++ 62 ∷ s) ≡ c ∷ t = sym (angle_begins x s a) ∙ e in let h : c ≡ 60 = cc in no_separator c m h
-
-same : (v w : Option (List ℕ)) (x y s t : List ℕ) → x ++ s ≡ y ++ t → v ≡ w → x ≡ y → SameStart v w x y s t
-same v w x y s t e p q = record { value = p; unit = q; rest = append_cancel_left y s t (ap (λ (u : List ℕ). u ++ s) (sym q) ∙ e) }
-
-one_lump : (v w : Option (List ℕ)) (x y s t : List ℕ) → x ++ s ≡ y ++ t → IsLump v x s → IsLump w y t → SameStart v w x y s t
-one_lump _ _ _ _ s t e (Closed x _ f) (Closed y _ g) = let h = closed_one x y s t e f g in same _ _ _ _ s t e (ap (λ (u : List ℕ). Some u) h) h
-one_lump _ _ _ _ s t e (Closed x _ f) (Octet d _ n m) = absurd (m x s f (sym e))
-one_lump _ _ _ _ s t e (Closed x _ f) (Separator d _ n) = absurd (closed_separator x s t d f n e)
-one_lump _ _ _ _ s t e (Octet c _ n m) (Closed y _ g) = absurd (m y t g e)
-one_lump _ _ _ _ s t e (Octet c _ n m) (Octet d _ k l) = let h : c ≡ d = cc in same _ _ _ _ s t e (ap (λ (u : ℕ). Some (u ∷ [])) h) (ap (λ (u : ℕ). u ∷ []) h)
-one_lump _ _ _ _ s t e (Octet c _ n m) (Separator d _ k) = let h : c ≡ d = cc in let i : is_separator c ≡ true = ap is_separator h ∙ k in absurd cc
-one_lump _ _ _ _ s t e (Separator c _ n) (Closed y _ g) = absurd (closed_separator y t s c g n (sym e))
-one_lump _ _ _ _ s t e (Separator c _ n) (Octet d _ k l) = let h : c ≡ d = cc in let i : is_separator d ≡ true = ap is_separator (sym h) ∙ n in absurd cc
-one_lump _ _ _ _ s t e (Separator c _ n) (Separator d _ k) = let h : c ≡ d = cc in same _ _ _ _ s t e refl (ap (λ (u : ℕ). u ∷ []) h)
-
-closed_some : (x : List ℕ) → IsClosed x → x ≢ []
-closed_some x f e = by (sorted x f)
-  where
-    by : IsTokenHere x ⊎ IsAngle x → ⊥
-    by (inl k) = (one_token alphabet.Mail).some _ x [] (k.token []) e
-    by (inr a) = let w = a.whole in absurd cc
-
-pub some_lump : (v : Option (List ℕ)) (x s : List ℕ) → IsLump v x s → x ≢ []
-some_lump _ _ s (Closed x _ f) = closed_some x f
-some_lump _ _ s (Octet c _ n m) = λ e. absurd cc
-some_lump _ _ s (Separator c _ n) = λ e. absurd cc
-
--- a text begins with one lump
-pub lump_determined : IsDetermined IsLump
-lump_determined = record { one = one_lump; some = some_lump }
+use Rattle.loose_addresses.specs.LooseLists.{trimmed, in_angles, IsBehindHead, Dropped, NoHead, IsNameBefore, Phrase, AsItStands, IsEmailIn, OneInside, AsWritten}
+use Rattle.loose_addresses.specs.LooseLists.{ReadsAs, Strict, InAngle, Bare, PassedOver, IsElementRead, AreLoose}
+use Rattle.loose_addresses.specs.Lumps.{elements_of}
+use Rattle.loose_addresses.proofs.LumpLemmas.{lump_determined, one_row}
 
 -- ---- what an element reads as
 
 one_behind : (r q t : List ℕ) → IsBehindHead r t → IsBehindHead q t → r ≡ q
-one_behind _ _ _ (Dropped r t g) (Dropped q _ h) = one_head r q t g h
+one_behind _ _ _ (Dropped r t g) (Dropped q _ h) = one_head r q t g.head h.head
 one_behind _ _ _ (Dropped r t g) (NoHead _ n) = absurd (n r g)
 one_behind _ _ _ (NoHead t n) (Dropped q _ h) = absurd (n q h)
 one_behind _ _ _ (NoHead t n) (NoHead _ m) = refl
@@ -160,30 +68,78 @@ one_last b x c d y k t g h = elim (cases_lt (length b) (length d)) [
     w : b ++ 60 ∷ (x ++ 62 ∷ c) ≡ d ++ 60 ∷ (y ++ 62 ∷ k)
     w = sym g.has.whole ∙ h.has.whole
 
+-- ---- the last one outside
+
+-- where lumps have none, one of them has none
+pub none_of : (front : List (List ℕ)) (lump : List ℕ) (back : List (List ℕ)) → HaveNone (front ++ lump ∷ back) → begins_less lump ≡ true → NoAngle lump
+none_of [] lump back h b = h.0 b
+none_of (f ∷ front) lump back h b = none_of front lump back h.1 b
+
+record SameLump (f g : List (List ℕ)) (l m : List ℕ) : Type 0 where
+  front : f ≡ g
+  lump : l ≡ m
+
+same_lump : (f g : List (List ℕ)) (l m : List ℕ) (b c : List (List ℕ)) → f ++ l ∷ b ≡ g ++ m ∷ c → begins_less l ≡ true → begins_less m ≡ true → (NoAngle l → ⊥) → (NoAngle m → ⊥)
+    → HaveNone b → HaveNone c → SameLump f g l m
+same_lump [] [] l m b c e p q n k h i = record { front = refl; lump = cc }
+same_lump [] (j ∷ g) l m b c e p q n k h i = let w : b ≡ g ++ m ∷ c = cc in absurd (k (none_of g m c (subst (λ (us : List (List ℕ)). HaveNone us) w h) q))
+same_lump (j ∷ f) [] l m b c e p q n k h i = let w : c ≡ f ++ l ∷ b = cc in absurd (n (none_of f l b (subst (λ (us : List (List ℕ)). HaveNone us) w i) p))
+same_lump (j ∷ f) (d ∷ g) l m b c e p q n k h i =
+    let w : f ++ l ∷ b ≡ g ++ m ∷ c = cc in
+    let first : j ≡ d = cc in
+    let s = same_lump f g l m b c w p q n k h i in
+    record { front = ap (λ (u : List ℕ). u ∷ f) first ∙ ap (λ (us : List (List ℕ)). d ∷ us) s.front; lump = s.lump }
+
+one_of : (b x d y : List ℕ) (us : List (List ℕ)) → IsLastOf b x us → IsLastOf d y us → SameAngle b d x y
+one_of b x d y us g h =
+    let s = same_lump g.front h.front g.lump h.lump g.back h.back (sym g.lumps_are ∙ h.lumps_are) g.opens h.opens
+    (λ n. n g.inner x g.behind g.is.has) (λ n. n h.inner y h.behind h.is.has) g.none_behind h.none_behind in
+    let o = one_last g.inner x g.behind h.inner y h.behind h.lump (subst (λ (u : List ℕ). IsLastAngle g.inner x g.behind u) s.lump g.is) h.is in
+    record {
+      before = g.before_is ∙ ap (λ (us : List (List ℕ)). joined us ++ g.inner) s.front ∙ ap (λ (u : List ℕ). joined h.front ++ u) o.before ∙ sym h.before_is;
+      inner = o.inner;
+    }
+
+one_address_angle : (b x d y t : List ℕ) → IsAddressAngle b x t → IsAddressAngle d y t → SameAngle b d x y
+one_address_angle b x d y t (Outside g) (Outside h) =
+    one_of b x d y h.lumps (subst (λ (us : List (List ℕ)). IsLastOf b x us) (one_row g.lumps h.lumps t g.are h.are) g.is) h.is
+one_address_angle b x d y t (Outside g) (Anywhere n k h) = absurd (n b x g)
+one_address_angle b x d y t (Anywhere n c g) (Outside h) = absurd (n d y h)
+one_address_angle b x d y t (Anywhere n c g) (Anywhere m k h) = one_last b x c d y k t g h
+
+-- ---- names, emails, elements
+
 one_name_before : (before : List ℕ) (x y : Option (List ℕ)) → IsNameBefore before x → IsNameBefore before y → x ≡ y
 one_name_before before _ _ (Phrase s g) (Phrase t h) = ap (λ (u : List ℕ). Some u) (one_phrase s t before g h)
 one_name_before before _ _ (Phrase s g) (AsItStands n t h) = absurd (n s g)
 one_name_before before _ _ (AsItStands n s g) (Phrase t h) = absurd (n t h)
-one_name_before before _ _ (AsItStands n s g) (AsItStands m t h) = ap (λ (u : List ℕ). some_text (trimmed u)) (words.one_text false (one_line before) s t g h)
+one_name_before before _ _ (AsItStands n s g) (AsItStands m t h) = ap (λ (u : List ℕ). some_text (trimmed u)) (words.one_text_between edges.Quotes false (one_line before) s t g h)
+
+one_email : (x e f : List ℕ) → IsEmailIn x e → IsEmailIn x f → e ≡ f
+one_email x _ _ (OneInside a g) (OneInside b h) = ap (λ (u : Address). u.email) (one_one a b (in_angles x) g h)
+one_email x _ _ (OneInside a g) (AsWritten n) = absurd (n a g)
+one_email x _ _ (AsWritten n) (OneInside a g) = absurd (n a g)
+one_email x _ _ (AsWritten n) (AsWritten m) = refl
 
 one_read : (t : List ℕ) (a b : Option Address) → ReadsAs t a → ReadsAs t b → a ≡ b
 one_read t _ _ (Strict a g) (Strict b h) = ap (λ (u : Address). Some u) (one_one a b t g h)
-one_read t _ _ (Strict a g) (InAngle d y k m n h i) = absurd (n a g)
+one_read t _ _ (Strict a g) (InAngle d y l f n h i j) = absurd (n a g)
 one_read t _ _ (Strict a g) (Bare n h i) = absurd (n a g)
 one_read t _ _ (Strict a g) (PassedOver n h i) = absurd (n a g)
-one_read t _ _ (InAngle b x c m n g i) (Strict a h) = absurd (n a h)
-one_read t _ _ (InAngle b x c m n g i) (InAngle d y k l o h j) =
-    let s = one_last b x c d y k t g h in
-    let e = one_name_before d m l (subst (λ (u : List ℕ). IsNameBefore u m) s.before i) j in
-    ap (λ (u : Option (List ℕ)). Some (record { name = u; email = x })) e ∙ ap (λ (u : List ℕ). Some (record { name = l; email = u })) s.inner
-one_read t _ _ (InAngle b x c m n g i) (Bare o h j) = absurd (h b x c g.has)
-one_read t _ _ (InAngle b x c m n g i) (PassedOver o h j) = absurd (h b x c g.has)
+one_read t _ _ (InAngle b x m e n g i j) (Strict a h) = absurd (n a h)
+one_read t _ _ (InAngle b x m e n g i j) (InAngle d y l f o h k p) =
+    let s = one_address_angle b x d y t g h in
+    let name = one_name_before d m l (subst (λ (u : List ℕ). IsNameBefore u m) s.before i) k in
+    let email = one_email y e f (subst (λ (u : List ℕ). IsEmailIn u e) s.inner j) p in
+    ap (λ (u : Option (List ℕ)). Some (record { name = u; email = e })) name ∙ ap (λ (u : List ℕ). Some (record { name = l; email = u })) email
+one_read t _ _ (InAngle b x m e n g i j) (Bare o h k) = absurd (h b x g)
+one_read t _ _ (InAngle b x m e n g i j) (PassedOver o h k) = absurd (h b x g)
 one_read t _ _ (Bare n g i) (Strict a h) = absurd (n a h)
-one_read t _ _ (Bare n g i) (InAngle d y k l o h j) = absurd (g d y k h.has)
+one_read t _ _ (Bare n g i) (InAngle d y l f o h k p) = absurd (g d y h)
 one_read t _ _ (Bare n g i) (Bare o h j) = refl
 one_read t _ _ (Bare n g i) (PassedOver o h j) = absurd (j i)
 one_read t _ _ (PassedOver n g i) (Strict a h) = absurd (n a h)
-one_read t _ _ (PassedOver n g i) (InAngle d y k l o h j) = absurd (g d y k h.has)
+one_read t _ _ (PassedOver n g i) (InAngle d y l f o h k p) = absurd (g d y h)
 one_read t _ _ (PassedOver n g i) (Bare o h j) = absurd (i j)
 one_read t _ _ (PassedOver n g i) (PassedOver o h j) = refl
 

@@ -1,3 +1,5 @@
+pub mod Lumps
+pub mod Angles
 pub mod LooseLists
 pub mod LooseForms
 pub mod reading

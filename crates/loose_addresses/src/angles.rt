@@ -1,6 +1,6 @@
 // The last address in angle brackets.
 ghost use Rattle.std.specs.Prelude.{◌≡◌, ℕ, List, [], ◌∷◌, MatchOption};
-ghost use Rattle.loose_addresses.specs.LooseLists as lists;
+ghost use Rattle.loose_addresses.specs.Angles as angles;
 ghost use Rattle.loose_addresses.specs.reading.AngleSteps as reading;
 
 use text_words::{Class, behind, cut};
@@ -9,7 +9,7 @@ use text_words::{Class, behind, cut};
 struct NoAngle;
 
 impl Class<u8> for NoAngle {
-    ghost test = { lists.is_no_angle };
+    ghost test = { angles.is_no_angle };
 
     fn has(&self, item: &u8) -> bool {
         !(*item == b'<' || *item == b'>')
@@ -55,7 +55,7 @@ fn opens(scan: Scan, octet: u8) -> bool
 
 /// Where the last angle brackets with an `@` in them open.
 fn last_open(text: &[u8]) -> Option<usize>
-    ensures { MatchOption result (lists.NoAngle text.now) (λ n. reading.OpensAt n text.now) }
+    ensures { MatchOption result (angles.NoAngle text.now) (λ n. reading.OpensAt n text.now) }
 {
     let mut scan = Scan {
         closes: false,
@@ -75,7 +75,7 @@ fn last_open(text: &[u8]) -> Option<usize>
 
 /// What stands before the last angle brackets with an `@` in them, and in them.
 pub(crate) fn last_angle(text: &[u8]) -> Option<(&[u8], &[u8])>
-    ensures { MatchOption result (lists.NoAngle text.now) (λ r. (behind : List ℕ) × lists.IsLastAngle r.0.now r.1.now behind text.now) }
+    ensures { MatchOption result (angles.NoAngle text.now) (λ r. (behind : List ℕ) × angles.IsLastAngle r.0.now r.1.now behind text.now) }
 {
     let Some(at) = last_open(text) else {
         return None;

@@ -1,23 +1,27 @@
 // What an element reads as.
-ghost use Rattle.std.specs.Prelude.{◌≡◌, ℕ, false, List, IfOk};
-ghost use Rattle.header_words.specs.EncodedWords.{IsText};
+ghost use Rattle.std.specs.Prelude.{◌≡◌, ℕ, false, List, IfOk, MatchOption};
+ghost use Rattle.header_words.specs.EncodedWords.{IsTextBetween};
 ghost use Rattle.header_words.specs.OneLine.{one_line};
+ghost use Rattle.header_words.specs.declared.encoded_word.Edges.TheVariants as edges;
 ghost use Rattle.mail_header.specs.WhiteEnd.{some_text};
+ghost use Rattle.header_addresses.specs.Parts.{HasHead};
 ghost use Rattle.loose_addresses.specs.LooseLists as lists;
 
-use crate::angles::last_angle;
 use crate::bare::{bare_text, trimmed};
-use gate_world::Bytes;
+use crate::lumps::ends_lumps;
+use crate::outside::address_angle;
 use header_addresses::{Address, behind_head, name_of_phrase, one_address};
-use header_words::{as_one_line, decode_words};
+use header_tokens::closings::closings;
+use header_words::{Edges, as_one_line, decode_words_between};
+use octets::Bytes;
 use std::alloc::{AllocError, Global};
 
 /// The name that a text is as it stands.
 fn name_as_it_stands(alloc: Global, before: &[u8]) -> Result<Option<Bytes>, AllocError>
-    ensures { IfOk result (λ n. (text : List ℕ) × IsText false (one_line before.now) text × (n ≡ some_text (lists.trimmed text))) }
+    ensures { IfOk result (λ n. (text : List ℕ) × IsTextBetween edges.Quotes false (one_line before.now) text × (n ≡ some_text (lists.trimmed text))) }
 {
     let line = as_one_line(alloc, before)?;
-    let text = decode_words(alloc, line.as_slice())?;
+    let text = decode_words_between(alloc, Edges::Quotes, line.as_slice())?;
     let name = trimmed(text.as_slice());
     if name.is_empty() {
         Ok(None)
@@ -36,18 +40,48 @@ fn name_before(alloc: Global, before: &[u8]) -> Result<Option<Bytes>, AllocError
     }
 }
 
+/// The text in angle brackets.
+fn in_angles(alloc: Global, text: &[u8]) -> Result<Vec<u8>, AllocError>
+    ensures { IfOk result (λ v. v.items ≡ lists.in_angles text.now) }
+{
+    let mut whole = Vec::new(alloc);
+    whole.push(b'<')?;
+    whole.extend_from_slice(text)?;
+    whole.push(b'>')?;
+    Ok(whole)
+}
+
+/// The text as one line without white space at its ends.
+fn as_written(alloc: Global, text: &[u8]) -> Result<Bytes, AllocError>
+    ensures { IfOk result (λ b. b ≡ lists.trimmed (one_line text.now)) }
+{
+    let line = as_one_line(alloc, text)?;
+    Bytes::copy_of(alloc, trimmed(line.as_slice()))
+}
+
+/// The email that a text in angle brackets is.
+fn email_in(alloc: Global, text: &[u8]) -> Result<Bytes, AllocError>
+    ensures { IfOk result (λ b. lists.IsEmailIn text.now b) }
+{
+    let whole = in_angles(alloc, text)?;
+    match one_address(alloc, whole.as_slice())? {
+        Some(address) => Ok(address.email),
+        None => as_written(alloc, text),
+    }
+}
+
 /// The address in angle brackets, with the name that stands before them.
-fn in_angle(alloc: Global, before: &[u8], email: &[u8]) -> Result<Address, AllocError>
-    ensures { IfOk result (λ a. lists.IsNameBefore before.now a.name × (a.email ≡ email.now)) }
+fn in_angle(alloc: Global, before: &[u8], text: &[u8]) -> Result<Address, AllocError>
+    ensures { IfOk result (λ a. lists.IsNameBefore before.now a.name × lists.IsEmailIn text.now a.email) }
 {
     let name = name_before(alloc, before)?;
-    let email = Bytes::copy_of(alloc, email)?;
+    let email = email_in(alloc, text)?;
     Ok(Address { name, email })
 }
 
 /// The address without angle brackets that the text is.
 fn bare_address(alloc: Global, text: &[u8]) -> Result<Option<Address>, AllocError>
-    ensures { IfOk result (λ r. lists.NotOne text.now → lists.NoAngle text.now → lists.ReadsAs text.now r) }
+    ensures { IfOk result (λ r. lists.NotOne text.now → lists.NoAddressAngle text.now → lists.ReadsAs text.now r) }
 {
     match bare_text(text) {
         None => Ok(None),
@@ -62,9 +96,9 @@ fn bare_address(alloc: Global, text: &[u8]) -> Result<Option<Address>, AllocErro
 fn read_loosely(alloc: Global, text: &[u8]) -> Result<Option<Address>, AllocError>
     ensures { IfOk result (λ r. lists.NotOne text.now → lists.ReadsAs text.now r) }
 {
-    match last_angle(text) {
+    match address_angle(alloc, text)? {
         None => bare_address(alloc, text),
-        Some((before, email)) => Ok(Some(in_angle(alloc, before, email)?)),
+        Some((before, inner)) => Ok(Some(in_angle(alloc, before, inner)?)),
     }
 }
 
@@ -77,11 +111,41 @@ fn read_behind(alloc: Global, text: &[u8]) -> Result<Option<Address>, AllocError
     }
 }
 
+/// What follows a phrase and `:` at the front, where they are whole lumps.
+fn behind_whole<'a>(
+    alloc: Global,
+    element: &[u8],
+    rest: &'a [u8],
+) -> Result<Option<&'a [u8]>, AllocError>
+    requires { HasHead rest.now element.now }
+    ensures { IfOk result (λ r. MatchOption r
+        (lists.BeginsGroup rest.now element.now → ⊥)
+        (λ r. lists.BeginsGroup r.now element.now)) }
+{
+    let closed = closings(alloc, element)?;
+    if ends_lumps(element, closed.as_slice(), element.len() - rest.len()) {
+        return Ok(Some(rest));
+    }
+    Ok(None)
+}
+
+/// What follows a group's beginning.
+fn behind_group(alloc: Global, element: &[u8]) -> Result<Option<&[u8]>, AllocError>
+    ensures { IfOk result (λ r. MatchOption r
+        ((rest : List ℕ) → lists.BeginsGroup rest element.now → ⊥)
+        (λ r. lists.BeginsGroup r.now element.now)) }
+{
+    match behind_head(alloc, element)? {
+        None => Ok(None),
+        Some(rest) => behind_whole(alloc, element, rest),
+    }
+}
+
 /// The address that an element reads as, where it reads.
 pub(crate) fn read_element(alloc: Global, element: &[u8]) -> Result<Option<Address>, AllocError>
     ensures { IfOk result (λ r. lists.IsElementRead element.now r) }
 {
-    match behind_head(alloc, element)? {
+    match behind_group(alloc, element)? {
         None => read_behind(alloc, element),
         Some(rest) => read_behind(alloc, rest),
     }

@@ -1,56 +1,10 @@
-// The elements of a value: what stands between commas and semicolons outside what is closed.
-ghost use Rattle.std.specs.Prelude.{◌≡◌, ◌<◌, ◌≤◌, false, None, Some, length, take, drop, IfSome, MatchOption};
-ghost use Rattle.header_tokens.specs.Closings.{BeginsUnclosed};
+// The elements of a value: what stands between commas and semicolons outside lumps.
+ghost use Rattle.std.specs.Prelude.{◌<◌, ◌≤◌, None, Some, length, take, drop, IfSome, MatchOption};
 ghost use Rattle.header_tokens.specs.reading.ClosingCounts.{TellClosings};
-ghost use Rattle.header_tokens.specs.Kinds as kinds;
-ghost use Rattle.loose_addresses.specs.LooseLists as lists;
 ghost use Rattle.loose_addresses.specs.reading.ElementSteps as reading;
 
-use header_tokens::closings::angle_at;
-use header_tokens::first_octet;
-use header_tokens::tokens::{comment_at, literal_at, quoted_at};
+use crate::lumps::lump_at;
 use text_words::first;
-
-fn is_separator(octet: u8) -> bool
-    ensures { result ≡ lists.is_separator octet }
-{
-    octet == b',' || octet == b';'
-}
-
-/// How many octets what is closed at the front has.
-fn closed_len(text: &[u8]) -> Option<usize>
-    ensures { MatchOption result (BeginsUnclosed text.now) (λ n. reading.LumpOf n text.now) }
-{
-    if let Some((comment, _)) = comment_at(text) {
-        return Some(comment.len());
-    }
-    if let Some((quoted, _)) = quoted_at(text) {
-        return Some(quoted.len());
-    }
-    if let Some((literal, _)) = literal_at(text) {
-        return Some(literal.len());
-    }
-    if let Some((angle, _)) = angle_at(text) {
-        return Some(angle.len());
-    }
-    None
-}
-
-/// How many octets the lump at the front has. Whether it is closed is known.
-fn lump_len(text: &[u8], closed: bool) -> usize
-    requires some { 0 < length text.now }
-    requires plain { lists.is_separator (kinds.first_octet text.now) ≡ false }
-    requires open { closed ≡ false → BeginsUnclosed text.now }
-    ensures { reading.LumpOf result text.now }
-{
-    if !closed {
-        return 1;
-    }
-    match closed_len(text) {
-        None => 1,
-        Some(len) => len,
-    }
-}
 
 /// How many octets the element at the front has.
 fn element_len(text: &[u8], closed: &[bool]) -> usize
@@ -61,11 +15,10 @@ fn element_len(text: &[u8], closed: &[bool]) -> usize
 {
     let mut at = 0;
     while at < text.len() {
-        let (_, rest) = text.split_at(at);
-        if is_separator(first_octet(rest)) {
+        let Some(len) = lump_at(text, closed, at) else {
             return at;
-        }
-        at += lump_len(rest, closed[rest.len() - 1]);
+        };
+        at += len;
     }
     at
 }

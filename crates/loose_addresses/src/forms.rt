@@ -6,10 +6,10 @@ ghost use Rattle.loose_addresses.specs.LooseLists as lists;
 
 use crate::element::read_element;
 use crate::elements::next_element;
-use gate_world::Listed;
 use header_addresses::{Address, Group, as_addresses, as_groups};
 use header_tokens::closings::closings;
 use mail_header::as_raw;
+use octets::Listed;
 use std::alloc::{AllocError, Global};
 
 /// Adds the address that the element reads as, if it reads.

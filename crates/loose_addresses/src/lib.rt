@@ -2,11 +2,16 @@
 //! (RFC 8621 sections 4.1.2.3 and 4.1.2.4).
 #![tactic(auto)]
 
-// Elements, and what each reads as.
+// Lumps, and the elements that they make.
+pub(crate) mod elements;
+pub(crate) mod lumps;
+pub(crate) mod word_shape;
+
+// What each element reads as.
 pub(crate) mod angles;
 pub(crate) mod bare;
 pub(crate) mod element;
-pub(crate) mod elements;
+pub(crate) mod outside;
 
 // What they say together.
 pub mod forms;

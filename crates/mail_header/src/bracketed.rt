@@ -5,7 +5,7 @@ ghost use Rattle.mail_header.specs.Bracketed as brackets;
 ghost use Rattle.mail_header.specs.reading.HeaderLines as reading;
 
 use crate::raw_forms::as_raw;
-use gate_world::{Bytes, Names};
+use octets::{Bytes, Names};
 use std::alloc::{AllocError, Global};
 use text_words::{Class, behind, first, is_white, run_before};
 

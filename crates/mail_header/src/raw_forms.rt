@@ -5,8 +5,8 @@ ghost use Rattle.mail_header.specs.Lines as lines;
 ghost use Rattle.mail_header.specs.RawForms as forms;
 ghost use Rattle.mail_header.specs.reading.HeaderLines as reading;
 
-use gate_world::Bytes;
 use header_words::{Edges, decode_words_between};
+use octets::Bytes;
 use std::alloc::{AllocError, Global};
 use text_words::{Blank, begins_with_lf, cut};
 

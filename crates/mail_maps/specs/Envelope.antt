@@ -11,7 +11,7 @@ use Rattle.header_dates.specs.declared.date.Moment.{Moment}
 use Rattle.thread_rule.specs.BaseSubject.{IsBaseOf}
 use Rattle.thread_rule.specs.Ids.{each_once}
 use Rattle.mail_maps.specs.declared.envelope.Envelope.{Envelope}
-use Rattle.mail_maps.specs.declared.envelope.Party.{Party}
+use Rattle.mail_maps.specs.declared.envelope.AddressField.{AddressField}
 
 -- the text form of a field, where there is one
 pub data IsFieldText : Option (List ℕ) → Option (List ℕ) → Type 0 where
@@ -47,7 +47,7 @@ pub data IsFirstOf : Option (List ℕ) → Option (List ℕ) → Type 0 where
   NoMailbox : IsFirstOf None None
   First : (raw : List ℕ) (list : Option (List Address)) → IsLooseAddressesForm raw list → IsFirstOf (Some raw) (first_name list)
 
-pub record IsPartyOf (raw : Option (List ℕ)) (p : Party) : Type 0 where
+pub record IsAddressFieldOf (raw : Option (List ℕ)) (p : AddressField) : Type 0 where
   pub text : IsSearchText raw p.text
   pub first : IsFirstOf raw p.first
 
@@ -75,8 +75,8 @@ pub record AreAllIds (fields : List NameAndRaw) (ids : List (List ℕ)) : Type 0
 pub record SaysEnvelope (fields : List NameAndRaw) (e : Envelope) : Type 0 where
   pub subject : IsFieldText (last_named (codes "subject") fields) e.subject
   pub base : IsBaseOf (unwrap_or e.subject []) e.base
-  pub from : IsPartyOf (last_named (codes "from") fields) e.from
-  pub to : IsPartyOf (last_named (codes "to") fields) e.to
+  pub from : IsAddressFieldOf (last_named (codes "from") fields) e.from
+  pub to : IsAddressFieldOf (last_named (codes "to") fields) e.to
   pub cc : IsSearchText (last_named (codes "cc") fields) e.cc
   pub bcc : IsSearchText (last_named (codes "bcc") fields) e.bcc
   pub sent_at : IsTimeOf (last_named (codes "date") fields) e.sent_at

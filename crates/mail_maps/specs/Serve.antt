@@ -7,7 +7,7 @@ use Rattle.std.specs.Ordering.{int_eq}
 use Rattle.std.specs.Str.{bytes_eq}
 use Rattle.change_list.specs.Advance.{Tests}
 use Rattle.mail_maps.specs.declared.envelope.Envelope.{Envelope}
-use Rattle.mail_maps.specs.declared.envelope.Party.{Party}
+use Rattle.mail_maps.specs.declared.envelope.AddressField.{AddressField}
 use Rattle.mail_maps.specs.declared.row.EmailRow.{EmailRow}
 use Rattle.mail_maps.specs.declared.row.MailboxRow.{MailboxRow}
 use Rattle.mail_maps.specs.declared.row.Role.{Role}
@@ -63,12 +63,12 @@ same_names a b = pointwise bytes_eq a b
 abbrev pub same_text : Option (List ℕ) → Option (List ℕ) → Bool
 same_text a b = option_eq bytes_eq a b
 
-abbrev pub same_party : Party → Party → Bool
-same_party a b = same_text a.text b.text && same_text a.first b.first
+abbrev pub same_address_field : AddressField → AddressField → Bool
+same_address_field a b = same_text a.text b.text && same_text a.first b.first
 
 abbrev pub same_envelope : Envelope → Envelope → Bool
 same_envelope a b =
-    same_text a.subject b.subject && (same_text a.cc b.cc && (same_text a.bcc b.bcc && (same_party a.from b.from && (same_party a.to b.to
+    same_text a.subject b.subject && (same_text a.cc b.cc && (same_text a.bcc b.bcc && (same_address_field a.from b.from && (same_address_field a.to b.to
     && (bytes_eq a.base b.base && (option_eq int_eq a.sent_at b.sent_at && same_names a.ids b.ids))))))
 
 abbrev pub same_immutable : Immutable → Immutable → Bool

@@ -1,18 +1,19 @@
 // Reading an envelope from a header.
-ghost use Rattle.std.specs.Prelude.{◌≡◌, ◌++◌, [], IfOk, OnOk};
-ghost use Rattle.std.specs.Option.{option_map, unwrap_or};
+ghost use Rattle.std.specs.Prelude.{◌≡◌, ◌++◌, IfOk, OnOk};
+ghost use Rattle.std.specs.Option.{option_map};
 ghost use Rattle.mail_header.specs.Fields.{last_named, names_and_raws};
 ghost use Rattle.thread_rule.specs.BaseSubject.{IsBaseOf};
 ghost use Rattle.mail_maps.specs.reading.EndedIds.{ended};
 ghost use Rattle.mail_maps.specs.Envelope as envelope;
-ghost use Rattle.mail_maps.specs.Envelope.{IsEnvelopeOf, IsFieldText, IsSearchText, IsFirstOf, IsPartyOf, IsTimeOf, AreIdsOf};
+ghost use Rattle.mail_maps.specs.Envelope.{IsEnvelopeOf, IsFieldText, IsSearchText, IsFirstOf, IsAddressFieldOf, IsTimeOf, AreIdsOf};
 
-use crate::{Envelope, Party};
-use gate_world::{Bytes, Names};
+use crate::envelope::text_or_empty;
+use crate::{AddressField, Envelope};
 use header_addresses::Address;
 use header_dates::{Moment, as_date};
 use loose_addresses::as_loose_addresses;
 use mail_header::{Fields, as_message_ids, as_search_text, as_text, fields};
+use octets::{Bytes, Names};
 use std::alloc::{AllocError, Global};
 use thread_rule::{Ids, base_subject, push_id};
 
@@ -110,12 +111,16 @@ fn first_named(alloc: Global, fields: &Fields<'_>, name: &[u8]) -> Result<Option
     }
 }
 
-fn party_named(alloc: Global, fields: &Fields<'_>, name: &[u8]) -> Result<Party, AllocError>
-    ensures { IfOk result (λ party. IsPartyOf (last_named name.now (names_and_raws fields.now)) party) }
+fn address_field_named(
+    alloc: Global,
+    fields: &Fields<'_>,
+    name: &[u8],
+) -> Result<AddressField, AllocError>
+    ensures { IfOk result (λ address_field. IsAddressFieldOf (last_named name.now (names_and_raws fields.now)) address_field) }
 {
     let text = search_text_named(alloc, fields, name)?;
     let first = first_named(alloc, fields, name)?;
-    Ok(Party { text, first })
+    Ok(AddressField { text, first })
 }
 
 fn seconds_in(moment: Option<Moment>) -> Option<i64>
@@ -188,16 +193,6 @@ fn all_ids(alloc: Global, fields: &Fields<'_>) -> Result<Ids, AllocError>
     Ok(ids)
 }
 
-/// The text, the empty one where there is none.
-fn text_or_empty(text: &Option<Bytes>) -> &[u8]
-    ensures { result.now ≡ unwrap_or text.now [] }
-{
-    match text {
-        None => &[],
-        Some(text) => text.as_slice(),
-    }
-}
-
 fn base_of(alloc: Global, text: &[u8]) -> Result<Bytes, AllocError>
     ensures { IfOk result (λ base. IsBaseOf text.now base) }
 {
@@ -212,8 +207,8 @@ fn envelope_of(alloc: Global, fields: &Fields<'_>) -> Result<Envelope, AllocErro
     let base = base_of(alloc, text_or_empty(&subject))?;
     let cc = search_text_named(alloc, fields, CC)?;
     let bcc = search_text_named(alloc, fields, BCC)?;
-    let from = party_named(alloc, fields, FROM)?;
-    let to = party_named(alloc, fields, TO)?;
+    let from = address_field_named(alloc, fields, FROM)?;
+    let to = address_field_named(alloc, fields, TO)?;
     let sent_at = time_named(alloc, fields, DATE)?;
     let ids = all_ids(alloc, fields)?;
     Ok(Envelope {

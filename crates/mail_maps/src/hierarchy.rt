@@ -9,7 +9,7 @@ ghost use Rattle.mail_maps.specs.Mailboxes.{folders_of};
 ghost use Rattle.mail_maps.specs.reading.Fronts as fronts;
 ghost use Rattle.mail_maps.specs.reading.Fronts.{AreLengths, has_length};
 
-use gate_world::Text;
+use octets::Text;
 use std::alloc::{AllocError, Global};
 use std::collections::BTreeSet;
 use told_folder::{Folder, Held};

@@ -6,7 +6,7 @@ ghost use Rattle.std.specs.Ordering.{nat_cmp};
 ghost use Rattle.mail_maps.specs.Keywords as keywords;
 ghost use Rattle.mail_maps.specs.reading.Sets.{set_items};
 
-use gate_world::{Bytes, Names};
+use octets::{Bytes, Names};
 use std::alloc::{AllocError, Global};
 use std::collections::BTreeSet;
 

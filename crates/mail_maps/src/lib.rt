@@ -23,7 +23,7 @@ mod threads;
 // Laws.
 pub mod laws;
 
-pub use envelope::{Envelope, Party};
+pub use envelope::{AddressField, Envelope, text_or_empty};
 pub use header::read_envelope;
 pub use mailboxes::mailboxes_of;
 pub use row::{EmailRow, MailboxRow, Rights, Role};

@@ -1,7 +1,7 @@
 // The rows of the served types.
 
 use crate::Envelope;
-use gate_world::{Bytes, Names, Text};
+use octets::{Bytes, Names, Text};
 
 /// An Email (RFC 8621 section 4). What most queries read stands first, so that they read one place in memory a row.
 #[derive(Debug, Drop)]

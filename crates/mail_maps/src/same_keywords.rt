@@ -8,7 +8,7 @@ ghost use Rattle.mail_maps.specs.Serve.{same_names};
 ghost use Rattle.mail_maps.specs.reading.Compared as compared;
 
 use crate::keywords::{has_name, keyword_of, keywords_of};
-use gate_world::{Bytes, Names};
+use octets::{Bytes, Names};
 use std::alloc::{AllocError, Global};
 use std::cmp::Ordering;
 

@@ -9,13 +9,13 @@ use Rattle.std.proofs.lemmas.Slice.Eq.{slice_eq-Decides, bytes_eq-Decides}
 use Rattle.std.proofs.lemmas.Bool.Decides.{Decides-eqb, Decides-int_eq, Decides-and, Decides-like}
 use Rattle.change_list.specs.Advance.{IsExact}
 use Rattle.mail_maps.specs.declared.envelope.Envelope.{Envelope}
-use Rattle.mail_maps.specs.declared.envelope.Party.{Party}
+use Rattle.mail_maps.specs.declared.envelope.AddressField.{AddressField}
 use Rattle.mail_maps.specs.declared.row.Role.{Role}
 use Rattle.mail_maps.specs.declared.row.Role.TheVariants as role
 use Rattle.mail_maps.specs.declared.row.Rights.{Rights}
 use Rattle.mail_maps.specs.declared.tally.FolderCounts.{FolderCounts}
 use Rattle.mail_maps.specs.Roles.{role_number, same_role}
-use Rattle.mail_maps.specs.Serve.{Immutable, Email, ServedMailbox, same_names, same_text, same_party, same_envelope, same_immutable, same_email, same_rights, same_counts}
+use Rattle.mail_maps.specs.Serve.{Immutable, Email, ServedMailbox, same_names, same_text, same_address_field, same_envelope, same_immutable, same_email, same_rights, same_counts}
 use Rattle.mail_maps.specs.Serve.{same_mailbox, mailbox_tests, email_tests, thread_tests}
 use Rattle.mail_rows.proofs.OneTake.{envelope_same}
 
@@ -31,11 +31,11 @@ names a b = slice_eq-Decides bytes_eq-Decides a b _ refl
 text : (a b : Option (List ℕ)) → Decides (same_text a b) (a ≡ b)
 text a b = option_decides bytes_eq bytes_eq-Decides a b
 
-party_same : (a b c d : Option (List ℕ)) → a ≡ b → c ≡ d → ◌≡◌ {A = Party} (record { text = a; first = c }) (record { text = b; first = d })
-party_same a b c d g h = cc
+address_field_same : (a b c d : Option (List ℕ)) → a ≡ b → c ≡ d → ◌≡◌ {A = AddressField} (record { text = a; first = c }) (record { text = b; first = d })
+address_field_same a b c d g h = cc
 
-party : (a b : Party) → Decides (same_party a b) (a ≡ b)
-party a b = Decides-like _ (λ h. party_same _ _ _ _ h.0 h.1) (λ e. (ap (λ (x : Party). x.text) e, ap (λ (x : Party). x.first) e))
+address_field : (a b : AddressField) → Decides (same_address_field a b) (a ≡ b)
+address_field a b = Decides-like _ (λ h. address_field_same _ _ _ _ h.0 h.1) (λ e. (ap (λ (x : AddressField). x.text) e, ap (λ (x : AddressField). x.first) e))
     (Decides-and _ _ (text a.text b.text) (text a.first b.first))
 
 envelope : (a b : Envelope) → Decides (same_envelope a b) (a ≡ b)
@@ -55,7 +55,7 @@ envelope a b =
       ),
     ))
     (Decides-and _ _ (text a.subject b.subject) (Decides-and _ _ (text a.cc b.cc)
-    (Decides-and _ _ (text a.bcc b.bcc) (Decides-and _ _ (party a.from b.from) (Decides-and _ _ (party a.to b.to)
+    (Decides-and _ _ (text a.bcc b.bcc) (Decides-and _ _ (address_field a.from b.from) (Decides-and _ _ (address_field a.to b.to)
     (Decides-and _ _ (bytes_eq-Decides a.base b.base) (Decides-and _ _ (option_decides int_eq Decides-int_eq a.sent_at b.sent_at) (names a.ids b.ids))))))))
 
 immutable_same : (m n s t u v : ℕ) (r q : ℤ) (h k : List ℕ) (e f : Envelope) → m ≡ n → r ≡ q → s ≡ t → u ≡ v → h ≡ k → e ≡ f

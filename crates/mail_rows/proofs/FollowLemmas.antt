@@ -11,8 +11,8 @@ use Rattle.mail_rows.specs.NumberedRows.{NumberedRows, AreBelow}
 use Rattle.mail_rows.specs.Remaining.{remaining}
 use Rattle.mail_rows.specs.Taking.{newcomers, left, arrivals, TakesMail}
 use Rattle.mail_rows.specs.RowTouches.{email_touches}
-use Rattle.mail_rows.specs.declared.remaining.Gone.{Gone}
-use Rattle.mail_rows.specs.reading.Stays.{touch_of_addition, touch_of_removal, gone_in, changes_in}
+use Rattle.mail_rows.specs.declared.remaining.RemovedEmail.{RemovedEmail}
+use Rattle.mail_rows.specs.reading.RowPass.{touch_of_addition, touch_of_removal, gone_in, changes_in}
 use Rattle.mail_rows.specs.reading.Indexes.{AddsRows, numbers_from}
 use Rattle.mail_rows.proofs.IndexLemmas.{as_under}
 use Rattle.mail_rows.proofs.TakingLemmas.{takes_from_adds, added, rows_added, next_added, keys_added, from_added}
@@ -45,7 +45,7 @@ module _ (n : NumberedRows) (hs : List Held) (after : NumberedRows) (t : TakesMa
   rows_are : after.rows ≡ remaining hs n.rows ++ more
   rows_are = ap (λ (x : NumberedRows). x.rows) t.after_is ∙ rows_added (left n hs) (arrivals n hs) t.envelopes
 
-  module _ (gone : List Gone) (changed entries : List Entry) (first next : ℕ) where
+  module _ (gone : List RemovedEmail) (changed entries : List Entry) (first next : ℕ) where
     -- the touches of what goes, what is changed and what is added
     abbrev pub gathered : List Entry
     gathered = map touch_of_removal gone ++ (changed ++ map touch_of_addition (numbers_from first (next - first)))
@@ -59,7 +59,7 @@ module _ (n : NumberedRows) (hs : List Held) (after : NumberedRows) (t : TakesMa
         ap (λ (k : ℕ). numbers_from k (next - first)) f ∙ ap (numbers_from n.next) count ∙ sym (keys_added (left n hs) (arrivals n hs) t.envelopes) in
         let now : email_touches n.rows after.rows ≡ map touch_of_removal (gone_in hs n.rows) ++ (changes_in hs n.rows ++ map touch_of_addition (keys_of more)) =
         ap (email_touches n.rows) rows_are ∙ touches_are hs n.rows more n.next sorted (as_under n.next n.rows below) (from_added (left n hs) (arrivals n hs) t.envelopes) in
-        all ∙ ap (λ (gs : List Gone). map touch_of_removal gs ++ (changed ++ map touch_of_addition (numbers_from first (next - first)))) gone_is
+        all ∙ ap (λ (gs : List RemovedEmail). map touch_of_removal gs ++ (changed ++ map touch_of_addition (numbers_from first (next - first)))) gone_is
         ∙ ap (λ (cs : List Entry). map touch_of_removal (gone_in hs n.rows) ++ (cs ++ map touch_of_addition (numbers_from first (next - first)))) changed_is
         ∙ ap (λ (ks : List ℕ). map touch_of_removal (gone_in hs n.rows) ++ (changes_in hs n.rows ++ map touch_of_addition ks)) numbers
         ∙ sym now

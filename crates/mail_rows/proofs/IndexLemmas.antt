@@ -18,14 +18,14 @@ use Rattle.mail_maps.specs.Visible.{Placed, shown}
 use Rattle.mail_rows.specs.NumberedRows.{AreBelow}
 use Rattle.mail_rows.specs.Remaining.{updated, remaining_row, put_remaining, remaining}
 use Rattle.mail_rows.specs.Joining.{row_member, members_of}
-use Rattle.mail_rows.specs.declared.remaining.Gone.{Gone}
-use Rattle.mail_rows.specs.reading.Stays.{gone_of, is_hidden, gone_in}
+use Rattle.mail_rows.specs.declared.remaining.RemovedEmail.{RemovedEmail}
+use Rattle.mail_rows.specs.reading.RowPass.{gone_of, is_hidden, gone_in}
 use Rattle.mail_rows.specs.reading.Indexes.{number_after, number_of, AreIndexes, number_left, members_left}
 use Rattle.mail_rows.proofs.RowLemmas.{is_here, below_is_not, less_is_below, Under, insert_last, under_more}
 
 -- ---- the numbers of marks, as Emails go
 
-none_left : (gs : List Gone) (q : ℕ) → number_left gs q None ≡ None
+none_left : (gs : List RemovedEmail) (q : ℕ) → number_left gs q None ≡ None
 none_left [] q = refl
 none_left (g ∷ gs) q = elim (nat_eq g.mark q) as (λ (b : Bool). number_left gs q (cond b None None) ≡ None) [ true ↦ none_left gs q | false ↦ none_left gs q ]
 
@@ -72,7 +72,7 @@ module _ (hs : List Held) (q : ℕ) where
       by true same g rest =
           let list : gone_in hs (e ∷ es) ≡ gone_of e ∷ gone_in hs es =
           ap (λ (v : Option Placed). map gone_of (cond (not (is_some v)) (e ∷ filter (is_hidden hs) es) (filter (is_hidden hs) es))) (hidden (eqb-true e.1.mark q same)) in
-          ap (λ (gs : List Gone). number_left gs q (number_after (cond (nat_eq e.1.mark q) (Some e.0) o) es q)) list
+          ap (λ (gs : List RemovedEmail). number_left gs q (number_after (cond (nat_eq e.1.mark q) (Some e.0) o) es q)) list
           ∙ ap (λ (b : Bool). number_left (gone_in hs es) q (cond b None (number_after (cond (nat_eq e.1.mark q) (Some e.0) o) es q))) same
           ∙ none_left (gone_in hs es) q
       by false other g rest =
@@ -165,7 +165,7 @@ module _ (hs : List Held) where
   below_remaining k (e ∷ es) h = below_put k e.0 (remaining_row hs e.1) (remaining hs es) h.0 (below_remaining k es h.1)
 
 -- the indexes of the rows that remain, after what goes is taken out of them
-pub indexes_left : (hs : List Held) (es rows : Rows) (next : ℕ) (gone : List Gone) (marks marks' : BTreeMap ℕ ℕ) (book book' : Members)
+pub indexes_left : (hs : List Held) (es rows : Rows) (next : ℕ) (gone : List RemovedEmail) (marks marks' : BTreeMap ℕ ℕ) (book book' : Members)
     → IsStrictlySortedBy nat_cmp (keys_of es) → AreIndexes es next marks book
     → rows ≡ remaining hs es → gone ≡ gone_in hs es
     → ((q : ℕ) → get nat_cmp marks' q ≡ number_left gone q (get nat_cmp marks q))
@@ -175,8 +175,8 @@ indexes_left hs es rows next gone marks marks' book book' sorted was is go m b =
     let P : Rows → Type 0 = λ rs. AreIndexes rs next marks' book' in
     subst P (sym is) (record {
       below = below_remaining hs next es was.below;
-      marks_are = λ q. m q ∙ ap (number_left gone q) (was.marks_are q) ∙ ap (λ (gs : List Gone). number_left gs q (number_of es q)) go ∙ marks_left hs q es;
-      book_is = b ∙ ap (members_left gone) was.book_is ∙ ap (λ (gs : List Gone). members_left gs (members_of es)) go ∙ members_left_are hs es sorted;
+      marks_are = λ q. m q ∙ ap (number_left gone q) (was.marks_are q) ∙ ap (λ (gs : List RemovedEmail). number_left gs q (number_of es q)) go ∙ marks_left hs q es;
+      book_is = b ∙ ap (members_left gone) was.book_is ∙ ap (λ (gs : List RemovedEmail). members_left gs (members_of es)) go ∙ members_left_are hs es sorted;
     })
 
 -- ---- one row more

@@ -10,8 +10,8 @@ use Rattle.change_list.specs.declared.entries.Entry.{Entry}
 use Rattle.told_folder.specs.declared.message.Message.{Message}
 use Rattle.told_folder.specs.declared.message.Held.{Held}
 use Rattle.mail_maps.specs.Visible.{Placed, placed_in}
-use Rattle.mail_rows.specs.declared.remaining.Gone.{Gone}
-use Rattle.mail_rows.specs.reading.Stays.{is_new_message, is_unmarked, unmarked, touch_of_addition}
+use Rattle.mail_rows.specs.declared.remaining.RemovedEmail.{RemovedEmail}
+use Rattle.mail_rows.specs.reading.RowPass.{is_new_message, is_unmarked, unmarked, touch_of_addition}
 use Rattle.mail_rows.specs.reading.Indexes.{number_left, members_left, numbers_from}
 
 -- what is left at a place is the element there and what is left after it
@@ -59,17 +59,17 @@ mark_test : (a b : ℕ) → is_at (nat_cmp a) b ≡ nat_eq a b
 mark_test a b = grind (arith, common_steps)
 
 -- one mark less
-pub mark_forgotten : (gone : List Gone) (i : ℕ) (g : Gone) (q : ℕ) (old new r : Option ℕ) → i < length gone → g ≡ get_or gone i g
+pub mark_forgotten : (gone : List RemovedEmail) (i : ℕ) (g : RemovedEmail) (q : ℕ) (old new r : Option ℕ) → i < length gone → g ≡ get_or gone i g
     → new ≡ cond (is_at (nat_cmp g.mark) q) None old → number_left (drop i gone) q old ≡ r → number_left (drop (i + 1) gone) q new ≡ r
 mark_forgotten gone i g q old new r within is made all =
     ap (number_left (drop (i + 1) gone) q) (made ∙ ap (λ (t : Bool). cond t None old) (mark_test g.mark q))
-    ∙ sym (ap (λ (gs : List Gone). number_left gs q old) (next_left gone i g within is)) ∙ all
+    ∙ sym (ap (λ (gs : List RemovedEmail). number_left gs q old) (next_left gone i g within is)) ∙ all
 
 -- one member less
-pub member_forgotten : (gone : List Gone) (i : ℕ) (g : Gone) (old new r : Members) → i < length gone → g ≡ get_or gone i g
+pub member_forgotten : (gone : List RemovedEmail) (i : ℕ) (g : RemovedEmail) (old new r : Members) → i < length gone → g ≡ get_or gone i g
     → new ≡ remove_entry (is_at (nat_cmp g.number)) old → members_left (drop i gone) old ≡ r → members_left (drop (i + 1) gone) new ≡ r
 member_forgotten gone i g old new r within is made all =
-    ap (members_left (drop (i + 1) gone)) made ∙ sym (ap (λ (gs : List Gone). members_left gs old) (next_left gone i g within is)) ∙ all
+    ap (members_left (drop (i + 1) gone)) made ∙ sym (ap (λ (gs : List RemovedEmail). members_left gs old) (next_left gone i g within is)) ∙ all
 
 -- ---- numbers
 

@@ -17,9 +17,9 @@ use Rattle.header_dates.proofs.DateLemmas.{one_date}
 use Rattle.thread_rule.specs.BaseSubject.{IsBaseOf, spaced}
 use Rattle.thread_rule.proofs.NormalForms.{one_normal}
 use Rattle.mail_maps.specs.declared.envelope.Envelope.{Envelope}
-use Rattle.mail_maps.specs.declared.envelope.Party.{Party}
+use Rattle.mail_maps.specs.declared.envelope.AddressField.{AddressField}
 use Rattle.thread_rule.specs.Ids.{each_once}
-use Rattle.mail_maps.specs.Envelope.{IsFieldText, NoText, Text, IsSearchText, NoSearchText, SearchText, IsFirstOf, NoMailbox, First, first_name, IsPartyOf, IsTimeOf, NoDate, Date, AreIdsOf, NoIds, Ids, AreAllIds}
+use Rattle.mail_maps.specs.Envelope.{IsFieldText, NoText, Text, IsSearchText, NoSearchText, SearchText, IsFirstOf, NoMailbox, First, first_name, IsAddressFieldOf, IsTimeOf, NoDate, Date, AreIdsOf, NoIds, Ids, AreAllIds}
 use Rattle.mail_maps.specs.Envelope.{SaysEnvelope, IsEnvelopeOf}
 use Rattle.mail_maps.specs.Visible.{Placed}
 use Rattle.told_folder.specs.declared.message.Held.{Held}
@@ -39,8 +39,8 @@ one_first : (raw x y : Option (List ℕ)) → IsFirstOf raw x → IsFirstOf raw 
 one_first _ _ _ NoMailbox NoMailbox = refl
 one_first _ _ _ (First raw l g) (First _ m h) = ap first_name (one_loose_addresses raw l m g h)
 
-one_party : (raw : Option (List ℕ)) (p q : Party) → IsPartyOf raw p → IsPartyOf raw q → p ≡ q
-one_party raw p q g h =
+one_address_field : (raw : Option (List ℕ)) (p q : AddressField) → IsAddressFieldOf raw p → IsAddressFieldOf raw q → p ≡ q
+one_address_field raw p q g h =
     ap (λ (u : Option (List ℕ)). record { text = u; first = p.first }) (one_search_text raw p.text q.text g.text h.text)
     ∙ ap (λ (u : Option (List ℕ)). record { text = q.text; first = u }) (one_first raw p.first q.first g.first h.first)
 
@@ -70,7 +70,7 @@ one_base : (text x y : List ℕ) → IsBaseOf text x → IsBaseOf text y → x �
 one_base text x y g h = one_normal (spaced text) x y g.reached g.normal h.reached h.normal
 
 -- envelopes with equal fields are equal
-pub envelope_same : (a b c d e f : Option (List ℕ)) (p q r s : Party) (k l : List ℕ) (m n : Option ℤ) (i j : List (List ℕ))
+pub envelope_same : (a b c d e f : Option (List ℕ)) (p q r s : AddressField) (k l : List ℕ) (m n : Option ℤ) (i j : List (List ℕ))
     → a ≡ b → c ≡ d → e ≡ f → p ≡ q → r ≡ s → k ≡ l → m ≡ n → i ≡ j
     → ◌≡◌ {A = Envelope} (record { subject = a; cc = c; bcc = e; from = p; to = r; base = k; sent_at = m; ids = i })
     (record { subject = b; cc = d; bcc = f; from = q; to = s; base = l; sent_at = n; ids = j })
@@ -83,8 +83,8 @@ one_said fs e f g h =
     envelope_same _ _ _ _ _ _ _ _ _ _ _ _ _ _ _ _ subject
     (one_search_text (last_named (codes "cc") fs) e.cc f.cc g.cc h.cc)
     (one_search_text (last_named (codes "bcc") fs) e.bcc f.bcc g.bcc h.bcc)
-    (one_party (last_named (codes "from") fs) e.from f.from g.from h.from)
-    (one_party (last_named (codes "to") fs) e.to f.to g.to h.to)
+    (one_address_field (last_named (codes "from") fs) e.from f.from g.from h.from)
+    (one_address_field (last_named (codes "to") fs) e.to f.to g.to h.to)
     (one_base (unwrap_or f.subject []) e.base f.base (subst P subject g.base) h.base)
     (one_time (last_named (codes "date") fs) e.sent_at f.sent_at g.sent_at h.sent_at)
     (all_ids fs e.ids f.ids g.ids h.ids)

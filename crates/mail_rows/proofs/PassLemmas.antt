@@ -9,8 +9,8 @@ use Rattle.mail_maps.specs.declared.row.EmailRow.{EmailRow}
 use Rattle.mail_maps.specs.Rows.{Rows}
 use Rattle.mail_maps.specs.Visible.{Placed, shown}
 use Rattle.mail_rows.specs.Remaining.{remaining_row, put_remaining, remaining}
-use Rattle.mail_rows.specs.reading.Stays.{PassSoFar, none_passed, gone_of, change_where, is_moved, is_another, update_where, gather_where, gather_one, gather_all}
-use Rattle.mail_rows.specs.reading.Stays.{is_hidden, gone_in, changes_where, changes_in, updates_where, updates_in}
+use Rattle.mail_rows.specs.reading.RowPass.{PassSoFar, none_passed, gone_of, change_where, is_moved, is_another, update_where, gather_where, gather_one, gather_all}
+use Rattle.mail_rows.specs.reading.RowPass.{is_hidden, gone_in, changes_where, changes_in, updates_where, updates_in}
 
 append_none : {A : Type 0} (xs : List A) → xs ++ [] ≡ xs
 append_none [] = refl

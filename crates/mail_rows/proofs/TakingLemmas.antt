@@ -10,7 +10,7 @@ use Rattle.mail_maps.specs.Rows.{Rows}
 use Rattle.mail_maps.specs.Visible.{Placed, placed_in, visible, is_visible_place}
 use Rattle.mail_rows.specs.NumberedRows.{NumberedRows, knows}
 use Rattle.mail_rows.specs.Taking.{is_newcomer, newcomers, new_row, with_row, with_rows, TakesMail, left, arrivals}
-use Rattle.mail_rows.specs.reading.Stays.{is_unmarked, unmarked}
+use Rattle.mail_rows.specs.reading.RowPass.{is_unmarked, unmarked}
 use Rattle.mail_rows.specs.reading.Indexes.{number_after, number_of, AddsRow, AddsRows, numbers_from}
 use Rattle.mail_rows.proofs.RowLemmas.{From}
 

@@ -19,7 +19,7 @@ use Rattle.mail_maps.specs.Serve.{email_of, immutable_of, same_email, same_names
 use Rattle.mail_maps.specs.Visible.{Placed, shown}
 use Rattle.mail_rows.specs.Remaining.{updated, remaining_row, put_remaining, remaining}
 use Rattle.mail_rows.specs.RowTouches.{email_touches}
-use Rattle.mail_rows.specs.reading.Stays.{is_moved, touch_of_change, touch_of_addition, touch_of_removal, gone_of, change_where, changes_where, is_hidden, gone_in, changes_in}
+use Rattle.mail_rows.specs.reading.RowPass.{is_moved, touch_of_change, touch_of_addition, touch_of_removal, gone_of, change_where, changes_where, is_hidden, gone_in, changes_in}
 use Rattle.mail_rows.proofs.Exact.{immutable}
 use Rattle.mail_rows.proofs.PassLemmas.{all_remaining}
 use Rattle.mail_rows.proofs.RowLemmas.{found_is, Under, From, AllIn, all_in, none_above, none_over, none_before, row_at-append}

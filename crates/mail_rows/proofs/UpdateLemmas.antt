@@ -19,10 +19,10 @@ use Rattle.mail_maps.specs.Rows.{Rows}
 use Rattle.mail_maps.specs.Serve.{same_names}
 use Rattle.mail_maps.specs.Visible.{Placed, shown}
 use Rattle.mail_rows.specs.Remaining.{updated, remaining}
-use Rattle.mail_rows.specs.declared.remaining.Gone.{Gone}
+use Rattle.mail_rows.specs.declared.remaining.RemovedEmail.{RemovedEmail}
 use Rattle.mail_rows.specs.declared.remaining.Update.{Update}
-use Rattle.mail_rows.specs.reading.Stays.{is_moved, is_another, update_of, update_where, updates_where, updates_in, gone_of, is_hidden, gone_in, row_left, with_update, row_if}
-use Rattle.mail_rows.specs.reading.Stays.{row_updated}
+use Rattle.mail_rows.specs.reading.RowPass.{is_moved, is_another, update_of, update_where, updates_where, updates_in, gone_of, is_hidden, gone_in, row_left, with_update, row_if}
+use Rattle.mail_rows.specs.reading.RowPass.{row_updated}
 use Rattle.mail_rows.proofs.RowLemmas.{is_here, less_is_below, below_is_less, found_is, none_above}
 use Rattle.mail_rows.proofs.LoopLemmas.{next_left}
 use Rattle.mail_rows.proofs.PassLemmas.{sorted_remaining}
@@ -62,11 +62,11 @@ row_absent rows u q none = by (nat_eq u.number q) refl
 -- ---- loops
 
 -- one row less
-pub row_forgotten : (gone : List Gone) (i : ℕ) (g : Gone) (q : ℕ) (old new r : Option EmailRow) → i < length gone → g ≡ get_or gone i g
+pub row_forgotten : (gone : List RemovedEmail) (i : ℕ) (g : RemovedEmail) (q : ℕ) (old new r : Option EmailRow) → i < length gone → g ≡ get_or gone i g
     → new ≡ cond (is_at (nat_cmp g.number) q) None old → row_left (drop i gone) q old ≡ r → row_left (drop (i + 1) gone) q new ≡ r
 row_forgotten gone i g q old new r within is made all =
     ap (row_left (drop (i + 1) gone) q) (made ∙ ap (λ (t : Bool). cond t None old) (number_test g.number q))
-    ∙ sym (ap (λ (gs : List Gone). row_left gs q old) (next_left gone i g within is)) ∙ all
+    ∙ sym (ap (λ (gs : List RemovedEmail). row_left gs q old) (next_left gone i g within is)) ∙ all
 
 -- one update more
 pub update_taken : (us rest : List Update) (u : Update) (q : ℕ) (old new r : Option EmailRow) → us ≡ u ∷ rest → new ≡ row_if u q old
@@ -101,7 +101,7 @@ same_row row p e =
 
 -- ---- all rows
 
-none_left : (gs : List Gone) (q : ℕ) → row_left gs q None ≡ None
+none_left : (gs : List RemovedEmail) (q : ℕ) → row_left gs q None ≡ None
 none_left [] q = refl
 none_left (g ∷ gs) q = elim (nat_eq g.number q) as (λ (b : Bool). row_left gs q (cond b None None) ≡ None) [ true ↦ none_left gs q | false ↦ none_left gs q ]
 
@@ -235,10 +235,10 @@ same_rows (x ∷ xs) (y ∷ ys) s t same =
     (same_rows xs ys (sorted_tail nat_cmp x.0 (keys_of xs) s) (sorted_tail nat_cmp y.0 (keys_of ys) t) (one_later y xs ys (subst P first s) t (subst Q first same)))
 
 -- rows in order that have at each number what the pass leaves there are those that remain
-pub rows_remain : (hs : List Held) (es after : Rows) (gone : List Gone) (updates : List Update) → InOrder es → InOrder after → gone ≡ gone_in hs es → updates ≡ updates_in hs es
+pub rows_remain : (hs : List Held) (es after : Rows) (gone : List RemovedEmail) (updates : List Update) → InOrder es → InOrder after → gone ≡ gone_in hs es → updates ≡ updates_in hs es
     → ((q : ℕ) → row_at after q ≡ row_updated updates q (row_left gone q (row_at es q))) → after ≡ remaining hs es
 rows_remain hs es after gone updates sorted ordered go up made =
     same_rows after (remaining hs es) ordered (sorted_remaining hs es sorted)
     (λ q. made q ∙ ap (λ (us : List Update). row_updated us q (row_left gone q (row_at es q))) up
-    ∙ ap (λ (gs : List Gone). row_updated (updates_in hs es) q (row_left gs q (row_at es q))) go
+    ∙ ap (λ (gs : List RemovedEmail). row_updated (updates_in hs es) q (row_left gs q (row_at es q))) go
     ∙ updated_at hs q es sorted ∙ sym (remaining_at hs es sorted q))

@@ -11,7 +11,7 @@ use Rattle.told_folder.specs.declared.message.Held.{Held}
 use Rattle.told_folder.proofs.KeyedLemmas.{none_above}
 use Rattle.told_mail.specs.Mail.{Mail, IsMail}
 use Rattle.mail_maps.specs.Visible.{Placed, is_served, is_visible_place, placed_in, visible, shown}
-use Rattle.mail_rows.specs.reading.Stays.{if_served, served_if, served_at}
+use Rattle.mail_rows.specs.reading.RowPass.{if_served, served_if, served_at}
 
 not_equal : (a b : ℕ) → a < b → nat_eq a b ≡ false
 not_equal a b l = grind arith

@@ -1,3 +1,3 @@
 -- What the code keeps and gathers on its way: private clauses and proofs alone speak of it.
 pub mod Indexes
-pub mod Stays
+pub mod RowPass

@@ -1,7 +1,7 @@
 //! Visible messages that have no row yet.
 ghost use Rattle.std.specs.Prelude.{◌≡◌, [], ◌∷◌, ◌++◌, filter, IfOk, OnOk};
 ghost use Rattle.mail_maps.specs.Visible.{placed_in};
-ghost use Rattle.mail_rows.specs.reading.Stays as passes;
+ghost use Rattle.mail_rows.specs.reading.RowPass as passes;
 
 use mail_maps::visible::is_served;
 use std::alloc::{AllocError, Global};

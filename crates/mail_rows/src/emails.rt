@@ -12,12 +12,12 @@ ghost use Rattle.mail_rows.specs.Taking.{TakesMail};
 ghost use Rattle.mail_rows.specs.RowTouches.{email_touches};
 ghost use Rattle.mail_rows.specs.LookUps.{IsOfMark, NoneHasMark};
 ghost use Rattle.mail_rows.specs.reading.Indexes as indexes;
-ghost use Rattle.mail_rows.specs.reading.Stays as passes;
+ghost use Rattle.mail_rows.specs.reading.RowPass as passes;
 ghost use Rattle.mail_maps.specs.declared.row.EmailRow.{EmailRow};
 
 use crate::arrivals::{Arrival, arrivals_in};
 use crate::indexes::{forget_marks, forget_members};
-use crate::remaining::{Gone, Stays, stays_of};
+use crate::remaining::{RemainingRows, RemovedEmail, remaining_rows_of};
 use crate::touches::touches_of;
 use change_list::Entry;
 use mail_maps::keywords::keywords_of;
@@ -53,7 +53,7 @@ impl Model for Emails {
 #[derive(Drop)]
 struct Remaining {
     emails: Emails,
-    gone: Vec<Gone>,
+    gone: Vec<RemovedEmail>,
     changed: Vec<Entry>,
 }
 
@@ -166,11 +166,11 @@ impl Emails {
             mut book,
             next,
         } = self;
-        let Stays {
+        let RemainingRows {
             rows,
             gone,
             changed,
-        } = stays_of(alloc, mirror, rows)?;
+        } = remaining_rows_of(alloc, mirror, rows)?;
         forget_marks(&mut marks, gone.as_slice());
         forget_members(&mut book, gone.as_slice());
         let emails = Emails {

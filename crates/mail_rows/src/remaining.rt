@@ -3,14 +3,14 @@ ghost use Rattle.std.specs.Prelude.{◌≡◌, ℕ, ◌++◌, ◌==◌, ◌||◌
 ghost use Rattle.std.specs.BTreeMap.{get};
 ghost use Rattle.std.specs.Ordering.{nat_cmp};
 ghost use Rattle.mail_rows.specs.Remaining as remaining;
-ghost use Rattle.mail_rows.specs.reading.Stays as passes;
+ghost use Rattle.mail_rows.specs.reading.RowPass as passes;
 
 use crate::shown::shown;
 use change_list::{Entry, Kind};
-use gate_world::Names;
 use mail_maps::EmailRow;
 use mail_maps::keywords::keywords_of;
 use mail_maps::same_keywords::are_keywords_of;
+use octets::Names;
 use std::alloc::{AllocError, Global};
 use std::collections::BTreeMap;
 use told_folder::Message;
@@ -18,7 +18,7 @@ use told_mail::Mirror;
 
 /// An Email that goes.
 #[derive(Clone, Copy, Debug)]
-pub struct Gone {
+pub struct RemovedEmail {
     /// Its number.
     pub number: u64,
     /// The mark of its message.
@@ -42,7 +42,7 @@ pub struct Update {
 #[derive(Drop)]
 pub struct Found {
     /// The Emails that go.
-    pub gone: Vec<Gone>,
+    pub gone: Vec<RemovedEmail>,
     /// The touches of those that are changed.
     pub changed: Vec<Entry>,
     /// The updates of rows that aren't as their messages are.
@@ -51,11 +51,11 @@ pub struct Found {
 
 /// What becomes of the rows.
 #[derive(Drop)]
-pub struct Stays {
+pub struct RemainingRows {
     /// The rows that remain, as their messages are now.
     pub rows: BTreeMap<u64, EmailRow>,
     /// The Emails that go, by ascending number.
-    pub gone: Vec<Gone>,
+    pub gone: Vec<RemovedEmail>,
     /// The touches of those that are changed, by ascending number.
     pub changed: Vec<Entry>,
 }
@@ -145,7 +145,7 @@ fn note_row(
     match shown(mirror, row.mark) {
         Some((folder, message)) => note_shown(alloc, found, number, row, folder, message),
         None => {
-            found.gone.push(Gone {
+            found.gone.push(RemovedEmail {
                 number,
                 mark: row.mark,
             })?;
@@ -176,7 +176,7 @@ fn found_in(
 }
 
 /// Takes the rows of these out. It takes no memory.
-fn forget_rows(rows: &mut BTreeMap<u64, EmailRow>, gone: &[Gone])
+fn forget_rows(rows: &mut BTreeMap<u64, EmailRow>, gone: &[RemovedEmail])
     ensures { (q : ℕ) → get nat_cmp rows.new q ≡ passes.row_left gone.now q (get nat_cmp rows.old q) }
 {
     for email in gone {
@@ -212,11 +212,11 @@ fn update_rows(rows: &mut BTreeMap<u64, EmailRow>, updates: Vec<Update>)
 
 /// The rows whose marks are shown, as their messages are now. No header is read, and none copied: beside the pass it
 /// costs a look-up for each row that goes or changes.
-pub fn stays_of(
+pub fn remaining_rows_of(
     alloc: Global,
     mirror: &Mirror,
     mut rows: BTreeMap<u64, EmailRow>,
-) -> Result<Stays, AllocError>
+) -> Result<RemainingRows, AllocError>
     ensures rows { IfOk result (λ s. s.rows.entries ≡ remaining.remaining mirror.now.mail.folders rows.entries) }
     ensures gone { IfOk result (λ s. s.gone.items ≡ passes.gone_in mirror.now.mail.folders rows.entries) }
     ensures changed { IfOk result (λ s. s.changed.items ≡ passes.changes_in mirror.now.mail.folders rows.entries) }
@@ -230,7 +230,7 @@ pub fn stays_of(
     forget_rows(&mut rows, gone.as_slice());
     update_rows(&mut rows, updates);
     let _after = rows.len();
-    Ok(Stays {
+    Ok(RemainingRows {
         rows,
         gone,
         changed,

@@ -2,7 +2,7 @@
 ghost use Rattle.std.specs.Prelude.{◌≡◌};
 ghost use Rattle.std.specs.Option.{option_map};
 ghost use Rattle.mail_maps.specs.Visible as visible;
-ghost use Rattle.mail_rows.specs.reading.Stays as passes;
+ghost use Rattle.mail_rows.specs.reading.RowPass as passes;
 
 use mail_maps::visible::is_served;
 use told_folder::Message;

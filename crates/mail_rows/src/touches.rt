@@ -1,14 +1,14 @@
 //! The touches of a step, by what remains, what goes and what comes.
 ghost use Rattle.std.specs.Prelude.{◌≡◌, ◌≤◌, ◌-◌, ◌++◌, map, IfOk};
-ghost use Rattle.mail_rows.specs.reading.Stays as passes;
+ghost use Rattle.mail_rows.specs.reading.RowPass as passes;
 ghost use Rattle.mail_rows.specs.reading.Indexes.{numbers_from};
 
-use crate::remaining::Gone;
+use crate::remaining::RemovedEmail;
 use change_list::{Entry, Kind};
 use served_maps::steps::joined;
 use std::alloc::{AllocError, Global};
 
-fn removals(alloc: Global, gone: &[Gone]) -> Result<Vec<Entry>, AllocError>
+fn removals(alloc: Global, gone: &[RemovedEmail]) -> Result<Vec<Entry>, AllocError>
     ensures { IfOk result (λ v. v.items ≡ map passes.touch_of_removal gone.now) }
 {
     gone.iter()
@@ -38,7 +38,7 @@ fn additions(alloc: Global, first: u64, next: u64) -> Result<Vec<Entry>, AllocEr
 /// Removals, then changes, then the additions of these numbers.
 pub fn touches_of(
     alloc: Global,
-    gone: &[Gone],
+    gone: &[RemovedEmail],
     changed: &[Entry],
     first: u64,
     next: u64,

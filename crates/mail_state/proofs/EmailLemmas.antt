@@ -23,7 +23,7 @@ use Rattle.mail_rows.specs.NumberedRows.{NumberedRows}
 use Rattle.mail_rows.specs.Remaining.{updated, remaining}
 use Rattle.mail_rows.specs.Taking.{TakesMail, taken, left, arrivals, with_row, with_rows, new_row}
 use Rattle.mail_rows.specs.RowTouches.{email_touches}
-use Rattle.mail_rows.specs.reading.Stays.{touch_of_addition, touch_of_removal, gone_in, changes_in}
+use Rattle.mail_rows.specs.reading.RowPass.{touch_of_addition, touch_of_removal, gone_in, changes_in}
 use Rattle.mail_rows.proofs.RowLemmas.{Under, From, none_before, row_at-append, rows_sorted, all_in, sorted_last, under_more, under_from, found_under}
 use Rattle.mail_rows.proofs.PassLemmas.{sorted_remaining}
 use Rattle.mail_rows.proofs.IndexLemmas.{under_remaining}

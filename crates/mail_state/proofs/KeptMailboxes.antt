@@ -31,8 +31,8 @@ use Rattle.mail_rows.specs.NumberedRows.{NumberedRows}
 use Rattle.mail_rows.specs.Remaining.{updated, put_remaining, remaining}
 use Rattle.mail_rows.specs.Taking.{TakesMail, left, arrivals}
 use Rattle.mail_rows.specs.RowTouches.{email_touches}
-use Rattle.mail_rows.specs.reading.Stays.{gone_of, gone_in, is_hidden, is_moved, changes_in, changes_where, change_where, touch_of_change, touch_of_addition, touch_of_removal}
-use Rattle.mail_rows.specs.declared.remaining.Gone.{Gone}
+use Rattle.mail_rows.specs.reading.RowPass.{gone_of, gone_in, is_hidden, is_moved, changes_in, changes_where, change_where, touch_of_change, touch_of_addition, touch_of_removal}
+use Rattle.mail_rows.specs.declared.remaining.RemovedEmail.{RemovedEmail}
 use Rattle.mail_rows.proofs.Exact.{exact_mailbox}
 use Rattle.mail_rows.proofs.RowLemmas.{all_in}
 use Rattle.mail_rows.proofs.TakingLemmas.{added, rows_added, from_added}
@@ -205,7 +205,7 @@ no_parts : (a b : List Entry) → a ++ b ≡ [] → (a ≡ []) × (b ≡ [])
 no_parts [] b e = (refl, e)
 no_parts (x ∷ a) b e = absurd (let f : x ∷ (a ++ b) ≡ [] = e in cc)
 
-no_removals : (gone : List Gone) → map touch_of_removal gone ≡ [] → gone ≡ []
+no_removals : (gone : List RemovedEmail) → map touch_of_removal gone ≡ [] → gone ≡ []
 no_removals [] e = refl
 no_removals (g ∷ gone) e = absurd (let f : touch_of_removal g ∷ map touch_of_removal gone ≡ [] = e in cc)
 

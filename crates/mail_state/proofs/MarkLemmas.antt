@@ -51,7 +51,7 @@ use Rattle.mail_maps.specs.Visible.{Placed, is_served, is_visible_place, placed_
 use Rattle.mail_rows.specs.NumberedRows.{NumberedRows, has_row_mark, knows, MarksApart}
 use Rattle.mail_rows.specs.Remaining.{updated, put_remaining, remaining}
 use Rattle.mail_rows.specs.Taking.{TakesMail, is_newcomer, taken, left, arrivals, with_row, with_rows, new_row, AreEnvelopes}
-use Rattle.mail_rows.specs.reading.Stays.{if_served, served_if, served_at}
+use Rattle.mail_rows.specs.reading.RowPass.{if_served, served_if, served_at}
 use Rattle.mail_rows.proofs.VisibleLemmas.{IsSeen, AllSeen, all_seen, marked_at, shown_at}
 use Rattle.mail_state.specs.Sound.{IsRowOf}
 

@@ -26,8 +26,8 @@ use Rattle.mail_rows.specs.NumberedRows.{NumberedRows}
 use Rattle.mail_rows.specs.Remaining.{updated, put_remaining, remaining}
 use Rattle.mail_rows.specs.Taking.{TakesMail, left, arrivals}
 use Rattle.mail_rows.specs.RowTouches.{email_touches}
-use Rattle.mail_rows.specs.reading.Stays.{gone_of, gone_in, is_hidden, changes_in, touch_of_addition, touch_of_removal}
-use Rattle.mail_rows.specs.declared.remaining.Gone.{Gone}
+use Rattle.mail_rows.specs.reading.RowPass.{gone_of, gone_in, is_hidden, changes_in, touch_of_addition, touch_of_removal}
+use Rattle.mail_rows.specs.declared.remaining.RemovedEmail.{RemovedEmail}
 use Rattle.mail_rows.proofs.Exact.{exact_thread}
 use Rattle.mail_rows.proofs.RowLemmas.{AllIn, all_in}
 use Rattle.mail_rows.proofs.TakingLemmas.{added, rows_added, from_added}
@@ -91,7 +91,7 @@ removed_self n es m e = ap (λ (b : Bool). (b && true) || list_any (removes m) e
 all_removed : (hs : List Held) (f : ℕ → Bool) (rows : Rows) → ((n : ℕ) → list_any (removes n) (removed_in hs rows) ≡ true → f n ≡ true) → AllRemoved hs f rows
 all_removed hs f [] covers = tt
 all_removed hs f (e ∷ es) covers =
-    let rest : List Gone = map gone_of (filter (is_hidden hs) es) in (
+    let rest : List RemovedEmail = map gone_of (filter (is_hidden hs) es) in (
       (λ hidden. covers e.0 (ap (λ (b : Bool). list_any (removes e.0) (map touch_of_removal (map gone_of (cond b (e ∷ filter (is_hidden hs) es) (filter (is_hidden hs) es)))))
           hidden
           ∙ removed_self e.0 (map touch_of_removal rest) e.0 refl)),

@@ -1,7 +1,7 @@
 -- What exchanges leave of messages: each stays what it was, or has a new mark. Its place stays, too, as long as no MOVE is told.
 use Rattle.std.specs.Prelude.{◌≡◌, ◌⊎◌, ℕ, ◌≤◌, List, All, Some, fold}
-use Rattle.imap_syntax.specs.declared.command.Command.{Command}
-use Rattle.imap_syntax.specs.declared.command.Command.TheVariants as command
+use Rattle.imap_types.specs.declared.command.Command.{Command}
+use Rattle.imap_types.specs.declared.command.Command.TheVariants as command
 use Rattle.told_folder.specs.Folders.{uid_of, message_in}
 use Rattle.told_folder.specs.Keyed.{with_key}
 use Rattle.told_folder.specs.declared.exchange.Exchange.{Exchange}

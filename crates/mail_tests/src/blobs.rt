@@ -1,7 +1,7 @@
 // Blob ids, and the octets that they name.
 use crate::written::put_octets;
-use gate_world::Bytes;
 use message_blobs::{ReadBlob, Root, read_blob_id};
+use octets::Bytes;
 use std::alloc::{AllocError, Global};
 
 fn put_begun(out: &mut String, root: Root<'_>) -> Result<(), AllocError> {

@@ -1,8 +1,8 @@
 // How much a raw value is in each form.
-use gate_world::Names;
 use header_addresses::{as_addresses, as_groups};
 use header_dates::as_date;
 use mail_header::{as_message_ids, as_raw, as_text, as_urls};
+use octets::Names;
 use std::alloc::{AllocError, Global};
 
 /// How many addresses.

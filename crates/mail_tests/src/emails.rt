@@ -2,9 +2,9 @@
 use body_parts::Message;
 use email_objects::{email_object, email_value, parsed_value};
 use email_properties::{Defaults, EmailWanted, email_wanted};
-use gate_world::{Bytes, Names};
-use jmap_methods::MethodError;
+use jmap_arguments::MethodError;
 use mail_maps::{EmailRow, read_envelope};
+use octets::{Bytes, Names};
 use serde_json::Value;
 use std::alloc::{AllocError, Global};
 

@@ -1,6 +1,6 @@
 // Octets that are written down as text.
 use blob_store::blob_id::blob_id;
-use gate_world::Bytes;
+use octets::Bytes;
 use percent_encoding::{CONTROLS, percent_decode, percent_encode};
 use std::alloc::{AllocError, Global};
 

@@ -4,7 +4,7 @@ ghost use Rattle.text_words.specs.Sequence.{Sequence};
 ghost use Rattle.message_blobs.specs.reading.NumberReading.{is_no_mark, IsNumberBefore};
 
 use arrayvec::ArrayVec;
-use jmap_methods::read_id;
+use jmap_arguments::read_id;
 use std::str::from_utf8;
 use text_words::{Class, behind, cut};
 

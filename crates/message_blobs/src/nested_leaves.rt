@@ -3,7 +3,7 @@ ghost use Rattle.std.specs.Prelude.{List, ℕ, IfOk, MatchOption};
 ghost use Rattle.message_blobs.specs.NestedLeaves.{LeafSpells, NamesOctets};
 
 use crate::read_message::ReadMessage;
-use gate_world::Bytes;
+use octets::Bytes;
 use std::alloc::{AllocError, Global};
 
 /// The octets that the leaf of this number spells, where these are a message that has one.

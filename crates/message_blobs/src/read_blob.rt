@@ -4,7 +4,7 @@ ghost use Rattle.message_blobs.specs.NestedLeaves.{LeafSpells, NamesOctets};
 
 use crate::nested_leaves::leaf_octets;
 use crate::read_message::ReadMessage;
-use gate_world::Bytes;
+use octets::Bytes;
 use std::alloc::{AllocError, Global};
 use std::marker::Model;
 

@@ -2,8 +2,8 @@
 ghost use Rattle.std.specs.Prelude.{◌≡◌, ℕ, List, IfOk, MatchOption};
 ghost use Rattle.message_blobs.specs.NestedLeaves.{LeafSpells};
 
-use gate_world::Bytes;
 use mime_tree::{Part, parse, part_bytes};
+use octets::Bytes;
 use std::alloc::{AllocError, Global};
 use std::marker::Model;
 

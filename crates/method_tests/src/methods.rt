@@ -3,7 +3,7 @@ use crate::properties::put_wanted;
 use crate::texts::put_text;
 use email_properties::{Defaults, email_wanted};
 use gate_calls::{Method, method_named};
-use jmap_methods::{MethodError, Using, echo};
+use jmap_arguments::{MethodError, Using, echo};
 use mail_state::MailState;
 use query_changes::{email_query_changes, mailbox_query_changes};
 use query_core::{email_query, mailbox_query};

@@ -3,7 +3,7 @@ use email_properties::{
     BodyWanted, EmailWanted, HeaderForm, email_key, email_property_named, header_property_named,
     is_permitted, needs_body, part_key, part_property_named,
 };
-use jmap_methods::MethodError;
+use jmap_arguments::MethodError;
 use std::alloc::{AllocError, Global};
 use told_dialogues::put_octets;
 

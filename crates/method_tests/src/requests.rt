@@ -2,8 +2,8 @@
 use crate::methods::put_answer;
 use crate::texts::put_text;
 use jmap_core::{
-    CreatedIds, Request, RequestError, problem_status, problem_text, read_request, response_text,
-    response_value, session_object,
+    CreatedIds, Request, RequestError, problem_text, read_request, response_text, response_value,
+    session_object,
 };
 use result_references::{Call, resolve};
 use serde_json::Value;
@@ -34,9 +34,9 @@ fn put_request(out: &mut String, request: &Request) -> Result<(), AllocError> {
     }
 }
 
-/// Adds why a body is no request, and the status and the body of the answer.
+/// Adds why a body is no request, and the body of the answer.
 fn put_error(out: &mut String, error: RequestError) -> Result<(), AllocError> {
-    write!(out, "{error} {} ", problem_status(error))?;
+    write!(out, "{error} ")?;
     put_octets(out, problem_text(error))
 }
 

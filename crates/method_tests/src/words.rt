@@ -1,8 +1,8 @@
 // Words that leave nothing for later rows: names, states, ids and errors.
 use crate::properties::{put_email, put_forms, put_header, put_part};
 use gate_calls::{method_named, name_needs_mail};
+use jmap_arguments::{MethodError, Using, error_arguments, read_state, state_text};
 use jmap_core::CreatedIds;
-use jmap_methods::{MethodError, Using, error_arguments, read_state, state_text};
 use serde_json::Value;
 use std::alloc::{AllocError, Global};
 use told_dialogues::first_word;

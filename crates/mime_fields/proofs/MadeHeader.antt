@@ -10,7 +10,7 @@ use Rattle.mime_fields.specs.declared.content_type.ContentType.{ContentType}
 use Rattle.mime_fields.specs.declared.disposition.Disposition.{Disposition}
 use Rattle.mime_fields.specs.ContentTypes.{IsContentType}
 use Rattle.mime_fields.specs.Dispositions.{IsDisposition, IsFileName}
-use Rattle.mime_fields.specs.ExtendedValues.{extended_text}
+use Rattle.mime_fields.specs.ExtendedValues.{extended_name}
 use Rattle.mime_fields.specs.PartHeaders.{field_octets, IsTrimmedTextOf, IsIdOf, mechanism, IsPartHeader}
 use Rattle.mime_fields.specs.reading.MimeLexemes.{mime_lexemes}
 
@@ -38,7 +38,7 @@ made f ct cd content d written name cid language location encoding et ed c i w n
     let k = subst C et c in
     let j = subst D ed i in
     let E : Option (List ℕ) → Type 0 = λ x. IsFileName x written name in
-    let W : Option (List ℕ) → Type 0 = λ x. IsFileName (option_and_then extended_text j.extended_octets) x name in
+    let W : Option (List ℕ) → Type 0 = λ x. IsFileName (option_and_then extended_name j.extended_octets) x name in
     record {
       media = k.media;
       boundary = k.boundary;

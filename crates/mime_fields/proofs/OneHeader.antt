@@ -14,9 +14,9 @@ use Rattle.header_tokens.proofs.LeadingLemmas.{one_leading_lexemes}
 use Rattle.mime_fields.specs.declared.header.PartHeader.{PartHeader}
 use Rattle.mime_fields.proofs.IdLemmas.{one_kept}
 use Rattle.mime_fields.specs.ContentIds.{IsWithoutAngles, InAngles, Bare}
-use Rattle.mime_fields.proofs.ParameterLemmas.{one_has, one_media, one_kind}
+use Rattle.mime_fields.proofs.ParameterLemmas.{one_has, one_unfolded, one_media, one_kind}
 use Rattle.mime_fields.specs.Dispositions.{IsFileName}
-use Rattle.mime_fields.specs.ExtendedValues.{extended_text}
+use Rattle.mime_fields.specs.ExtendedValues.{extended_name}
 use Rattle.mime_fields.specs.Parameters.{trimmed}
 use Rattle.mime_fields.specs.PartHeaders.{field_octets, HasLexemes, IsTrimmedTextOf, IsIdOf, mechanism, IsPartHeader}
 
@@ -56,16 +56,16 @@ one_part_header f g h i j =
     let t = field_octets f (codes "content-type") in
     let d = field_octets f (codes "content-disposition") in
     let e = one_lexemes f (codes "content-transfer-encoding") i.transfer_encoding j.transfer_encoding i.has_transfer_encoding j.has_transfer_encoding in
-    let x = one_has (codes "filename*") d i.extended_octets j.extended_octets i.has_extended j.has_extended in
+    let x = one_unfolded (codes "filename*") d i.extended_octets j.extended_octets i.has_extended j.has_extended in
     let y = one_has (codes "filename") d i.file j.file i.has_file j.has_file in
     let z = one_has (codes "name") t i.type_name j.type_name i.has_type_name j.has_type_name in
-    let n = subst (λ (u : Option (List ℕ)). IsFileName (option_and_then extended_text u) (option_or i.file i.type_name) g.name) x i.name in
-    let m = subst (λ (u : Option (List ℕ)). IsFileName (option_and_then extended_text j.extended_octets) (option_or u i.type_name) g.name) y n in
-    let o = subst (λ (u : Option (List ℕ)). IsFileName (option_and_then extended_text j.extended_octets) (option_or j.file u) g.name) z m in
+    let n = subst (λ (u : Option (List ℕ)). IsFileName (option_and_then extended_name u) (option_or i.file i.type_name) g.name) x i.name in
+    let m = subst (λ (u : Option (List ℕ)). IsFileName (option_and_then extended_name j.extended_octets) (option_or u i.type_name) g.name) y n in
+    let o = subst (λ (u : Option (List ℕ)). IsFileName (option_and_then extended_name j.extended_octets) (option_or j.file u) g.name) z m in
     record_same _ _ _ _ _ _ _ _ _ _ _ _ _ _ _ _ _ _
     (one_media t g.media h.media i.media j.media)
-    (one_has (codes "boundary") t g.boundary h.boundary i.boundary j.boundary)
-    (i.charset ∙ ap (option_map raw_form) (one_has (codes "charset") t i.charset_octets j.charset_octets i.has_charset j.has_charset) ∙ sym j.charset)
+    (one_unfolded (codes "boundary") t g.boundary h.boundary i.boundary j.boundary)
+    (i.charset ∙ ap (option_map raw_form) (one_unfolded (codes "charset") t i.charset_octets j.charset_octets i.has_charset j.has_charset) ∙ sym j.charset)
     (one_kind d g.disposition h.disposition i.disposition j.disposition)
     (one_name _ _ g.name h.name o j.name)
     (one_id _ g.cid h.cid i.cid j.cid)

@@ -2,20 +2,22 @@
 use Rattle.std.proofs.Common.{◌≡◌, ◌≢◌, ℕ, ◌+◌, Bor, Bool, true, false, List, [], ◌∷◌, ◌++◌, length, refl, sym, ap, ◌∙◌, subst, Option, Some, None}
 use Rattle.std.specs.List.{filter}
 use Rattle.std.specs.Prelude.{MatchBool, MatchOption, IfOk, Result, Ok, Err}
+use Rattle.std.specs.Option.{option_map}
 use Rattle.text_words.specs.Octets.{is_same_text}
+use Rattle.mail_header.specs.Lines.{unfolded}
 use Rattle.header_tokens.specs.declared.token.Alphabet.TheVariants as alphabet
 use Rattle.header_tokens.specs.declared.token.Kind.{Kind}
 use Rattle.header_tokens.specs.declared.token.Kind.TheVariants as kind
 use Rattle.header_tokens.specs.Tokens.{Spelled, AreTokens}
 use Rattle.header_tokens.specs.Kinds.{has_mark, is_atom, is_atom_kind}
 use Rattle.header_tokens.specs.Lexemes.{is_lexeme, AreLexemes, AreLeadingLexemes, BeginsAfter, BeginsWithLexeme}
-use Rattle.header_tokens.specs.Words.{unquoted}
+use Rattle.header_tokens.specs.Words.{bracketed_text, unquoted}
 use Rattle.header_tokens.proofs.LeadingLemmas.{one_token, one_tokens, one_leading_lexemes}
 use Rattle.header_tokens.proofs.LexemeLemmas.{lexemes_are, row_lexemes, begins_reads, one_first}
 use Rattle.mime_fields.specs.Pieces.{BeginsWithPiece}
 use Rattle.mime_fields.specs.ContentTypes.{HasFrontLexemes, HasMedia, media_in}
 use Rattle.mime_fields.specs.Dispositions.{HasKind, leading_token}
-use Rattle.mime_fields.specs.Parameters.{is_quoted, is_quoted_kind, atom, quoted, octets_written, IsValue, QuotedValue, TokenValue, WrittenValue, IsParameter, IsOther, IsFirstNamed, NoPiece, Here, Later, HasParameter}
+use Rattle.mime_fields.specs.Parameters.{is_quoted, is_quoted_kind, atom, quoted, octets_written, HasUnfolded, IsValue, QuotedValue, TokenValue, WrittenValue, IsParameter, IsOther, IsFirstNamed, NoPiece, Here, Later, HasParameter}
 use Rattle.mime_fields.specs.reading.MimeLexemes.{mime_lexemes}
 use Rattle.mime_fields.specs.reading.ParameterSteps.{IsNeither, HasName, IsNamed}
 use Rattle.mime_fields.proofs.PieceLemmas.{one_piece}
@@ -156,7 +158,7 @@ neither_alone v rest raw b e n = record {
 
 -- where neither stands there and nothing is written, there is no value
 pub no_value : (raw : List ℕ) → IsNeither raw → octets_written raw ≡ [] → (x : List ℕ) → IsValue x raw → ⊥
-no_value raw n e _ (QuotedValue x rest _ b) = n.no_quoted x rest b
+no_value raw n e _ (QuotedValue x rest _ b m) = n.no_quoted x rest b
 no_value raw n e _ (TokenValue x _ r) = n.no_token x r
 no_value raw n e _ (WrittenValue _ f g h) = h e
 
@@ -169,25 +171,31 @@ written_value raw b n e h = let P : List ℕ → Type 0 = λ x. IsValue x raw in
 quoted_no_token : (x rest y raw : List ℕ) → BeginsWithLexeme alphabet.Mime (quoted x) rest raw → AreLexemes alphabet.Mime (atom y ∷ []) raw → ⊥
 quoted_no_token x rest y raw b r = let q = ap is_atom (not_alone (quoted x) (atom y) rest raw b r).0 in absurd cc
 
-from_quoted : (x rest raw y : List ℕ) → BeginsWithLexeme alphabet.Mime (quoted x) rest raw → IsValue y raw → unquoted x ≡ y
-from_quoted x rest raw _ b (QuotedValue y r _ c) = let q = (first_same (quoted x) (quoted y) rest r raw b c).0 in ap (λ (v : Spelled). unquoted v.text) q
+from_quoted : (x rest raw y : List ℕ) → BeginsWithLexeme alphabet.Mime (quoted x) rest raw → IsValue y raw → bracketed_text x ≡ y
+from_quoted x rest raw _ b (QuotedValue y r _ c n) = let q = (first_same (quoted x) (quoted y) rest r raw b c).0 in ap (λ (v : Spelled). bracketed_text v.text) q
 from_quoted x rest raw _ b (TokenValue y _ r) = absurd (quoted_no_token x rest y raw b r)
 from_quoted x rest raw _ b (WrittenValue _ f g h) = absurd (f x rest b)
 
 from_token : (x raw y : List ℕ) → AreLexemes alphabet.Mime (atom x ∷ []) raw → IsValue y raw → x ≡ y
-from_token x raw _ r (QuotedValue y rest _ c) = absurd (quoted_no_token y rest x raw c r)
+from_token x raw _ r (QuotedValue y rest _ c n) = absurd (quoted_no_token y rest x raw c r)
 from_token x raw _ r (TokenValue y _ q) = let e = sym (row_reads (atom x ∷ []) raw r) ∙ row_reads (atom y ∷ []) raw q in let f : atom x ≡ atom y = cc in ap (λ (v : Spelled). v.text) f
 from_token x raw _ r (WrittenValue _ f g h) = absurd (g x r)
 
 from_written : (raw y : List ℕ) → ((x rest : List ℕ) → BeginsWithLexeme alphabet.Mime (quoted x) rest raw → ⊥) → ((x : List ℕ) → AreLexemes alphabet.Mime (atom x ∷ []) raw → ⊥)
     → IsValue y raw → octets_written raw ≡ y
-from_written raw _ f g (QuotedValue y rest _ c) = absurd (f y rest c)
+from_written raw _ f g (QuotedValue y rest _ c n) = absurd (f y rest c)
 from_written raw _ f g (TokenValue y _ r) = absurd (g y r)
 from_written raw _ f g (WrittenValue _ k l h) = refl
 
+-- a quoted text without an octet beside line ends is no value
+pub no_quoted : (x raw : List ℕ) → (rest : List ℕ) × BeginsWithLexeme alphabet.Mime (quoted x) rest raw → unquoted x ≡ [] → (y : List ℕ) → IsValue y raw → ⊥
+no_quoted x raw h e _ (QuotedValue y r _ c n) = n (sym (ap (λ (v : Spelled). unquoted v.text) (first_same (quoted x) (quoted y) h.0 r raw h.1 c).0) ∙ e)
+no_quoted x raw h e _ (TokenValue y _ r) = quoted_no_token x h.0 y raw h.1 r
+no_quoted x raw h e _ (WrittenValue _ f g k) = f x h.0 h.1
+
 -- octets are one value at most
 pub one_value : (raw x y : List ℕ) → IsValue x raw → IsValue y raw → x ≡ y
-one_value raw _ y (QuotedValue x rest _ b) v = from_quoted x rest raw y b v
+one_value raw _ y (QuotedValue x rest _ b n) v = from_quoted x rest raw y b v
 one_value raw _ y (TokenValue x _ r) v = from_token x raw y r v
 one_value raw _ y (WrittenValue _ f g h) v = from_written raw y f g v
 
@@ -306,6 +314,10 @@ one_has name t x y g h =
     let P : Option (List ℕ) → Type 0 = λ u. IsFirstNamed name u y in
     one_named name g.rest x y g.is (subst P (sym (one_piece g.first h.first g.rest h.rest t g.begins h.begins).1) h.is)
 
+-- and one without line ends
+pub one_unfolded : (name t : List ℕ) (x y : Option (List ℕ)) → HasUnfolded name t x → HasUnfolded name t y → x ≡ y
+one_unfolded name t x y g h = g.value_is ∙ ap (option_map unfolded) (one_has name t g.octets h.octets g.has h.has) ∙ sym h.value_is
+
 one_front : (x y : List Spelled) (t : List ℕ) → HasFrontLexemes x t → HasFrontLexemes y t → x ≡ y
 one_front x y t g h =
     let e = (one_piece g.first h.first g.rest h.rest t g.begins h.begins).0 in
@@ -362,8 +374,8 @@ if_match (Ok (Some x)) f g h = g x h
 if_match (Err e) f g h = tt
 
 -- a quoted text spells its value
-pub quoted_value : (x b raw : List ℕ) → (rest : List ℕ) × BeginsWithLexeme alphabet.Mime (quoted x) rest raw → b ≡ unquoted x → IsValue b raw
-quoted_value x b raw h e = let P : List ℕ → Type 0 = λ u. IsValue u raw in subst P (sym e) (QuotedValue x h.0 raw h.1)
+pub quoted_value : (x b raw : List ℕ) → (rest : List ℕ) × BeginsWithLexeme alphabet.Mime (quoted x) rest raw → b ≡ bracketed_text x → unquoted x ≢ [] → IsValue b raw
+quoted_value x b raw h e n = let P : List ℕ → Type 0 = λ u. IsValue u raw in subst P (sym e) (QuotedValue x h.0 raw h.1 n)
 
 -- a token is it
 pub token_value : (x b raw : List ℕ) → AreLexemes alphabet.Mime (atom x ∷ []) raw → b ≡ x → IsValue b raw

@@ -8,7 +8,7 @@ use Rattle.header_tokens.specs.Tokens.{Spelled}
 use Rattle.header_tokens.specs.Lexemes.{AreLeadingLexemes}
 use Rattle.header_tokens.specs.Kinds.{has_mark}
 use Rattle.mime_fields.specs.Pieces.{BeginsWithPiece}
-use Rattle.mime_fields.specs.Parameters.{is_token, HasParameter}
+use Rattle.mime_fields.specs.Parameters.{is_token, HasParameter, HasUnfolded}
 use Rattle.mime_fields.specs.declared.content_type.ContentType.{ContentType}
 
 -- A to Z as a to z
@@ -37,11 +37,11 @@ pub record HasFrontLexemes (lexemes : List Spelled) (t : List ℕ) : Type 0 wher
 abbrev pub HasMedia : List ℕ → Option (List ℕ) → Type 0
 HasMedia t media = (lexemes : List Spelled) × HasFrontLexemes lexemes t × (media ≡ media_in lexemes)
 
--- The boundary is the octets that delimiter lines have, the charset a text.
+-- The boundary is the octets that delimiter lines have, the charset a text; the name has its line ends.
 pub record IsContentType (t : List ℕ) (content : ContentType) : Type 0 where
   pub media : HasMedia t content.media
-  pub boundary : HasParameter (codes "boundary") t content.boundary
+  pub boundary : HasUnfolded (codes "boundary") t content.boundary
   pub charset_octets : Option (List ℕ)
-  pub has_charset : HasParameter (codes "charset") t charset_octets
+  pub has_charset : HasUnfolded (codes "charset") t charset_octets
   pub charset : content.charset ≡ option_map raw_form charset_octets
   pub name : HasParameter (codes "name") t content.name

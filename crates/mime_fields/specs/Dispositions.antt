@@ -6,8 +6,8 @@ use Rattle.header_words.specs.OneLine.{one_line}
 use Rattle.mail_header.specs.RawForms.{raw_form}
 use Rattle.header_tokens.specs.Tokens.{Spelled}
 use Rattle.mime_fields.specs.ContentTypes.{lower, HasFrontLexemes}
-use Rattle.mime_fields.specs.ExtendedValues.{extended_text}
-use Rattle.mime_fields.specs.Parameters.{is_token, HasParameter}
+use Rattle.mime_fields.specs.ExtendedValues.{extended_name}
+use Rattle.mime_fields.specs.Parameters.{is_token, HasParameter, HasUnfolded}
 use Rattle.mime_fields.specs.declared.disposition.Disposition.{Disposition}
 
 -- the token at the front, in lower case
@@ -22,8 +22,8 @@ HasKind t kind = (lexemes : List Spelled) × HasFrontLexemes lexemes t × (kind 
 pub record IsDisposition (t : List ℕ) (d : Disposition) : Type 0 where
   pub kind : HasKind t d.kind
   pub extended_octets : Option (List ℕ)
-  pub has_extended : HasParameter (codes "filename*") t extended_octets
-  pub extended : d.extended ≡ option_and_then extended_text extended_octets
+  pub has_extended : HasUnfolded (codes "filename*") t extended_octets
+  pub extended : d.extended ≡ option_and_then extended_name extended_octets
   pub file : HasParameter (codes "filename") t d.file
 
 -- ---- names

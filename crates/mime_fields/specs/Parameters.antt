@@ -1,6 +1,7 @@
 -- Tokens and parameters of a field of MIME (RFC 2045 section 5.1). Each piece of the value but the first may be a parameter.
 use Rattle.std.specs.Prelude.{◌≡◌, ◌≢◌, ℕ, Bool, true, false, ◌&&◌, ◌==◌, if◌then◌else◌, List, [], ◌∷◌, Option, Some, None}
 use Rattle.std.specs.List.{list_all}
+use Rattle.std.specs.Option.{option_map}
 use Rattle.text_words.specs.Cuts.{back}
 use Rattle.text_words.specs.Octets.{is_same_text, is_white}
 use Rattle.header_words.specs.Charsets.{is_ascii}
@@ -12,7 +13,7 @@ use Rattle.header_tokens.specs.declared.token.Kind.TheVariants as kind
 use Rattle.header_tokens.specs.Tokens.{Spelled}
 use Rattle.header_tokens.specs.Lexemes.{AreLexemes, BeginsWithLexeme}
 use Rattle.header_tokens.specs.Kinds.{is_atom, has_mark}
-use Rattle.header_tokens.specs.Words.{unquoted}
+use Rattle.header_tokens.specs.Words.{bracketed_text, unquoted}
 use Rattle.mime_fields.specs.Pieces.{BeginsWithPiece}
 
 -- token: octets of US-ASCII that are no specials
@@ -41,15 +42,15 @@ abbrev pub without_quote : List ℕ → List ℕ
 without_quote [] = []
 without_quote (c ∷ t) = if c == 34 then t else c ∷ t
 
--- What a wrong sender wrote for a value: all octets but line ends, white space at the ends, and a quotation mark in front that
--- nothing closes.
+-- What a wrong sender wrote for a value: all octets but white space at the ends, and a quotation mark in front that nothing
+-- closes.
 abbrev pub octets_written : List ℕ → List ℕ
-octets_written t = trimmed (without_quote (trimmed (unfolded t)))
+octets_written t = trimmed (without_quote (trimmed t))
 
 -- The value that stands in these octets, to the end of the piece. The right sender's is a quoted text or a token, and
--- octets above 127 are taken in both. There is none where nothing is written.
+-- octets above 127 are taken in both. Line ends stay in it. There is none without an octet beside them.
 pub data IsValue : List ℕ → List ℕ → Type 0 where
-  QuotedValue : (x rest raw : List ℕ) → BeginsWithLexeme alphabet.Mime (quoted x) rest raw → IsValue (unquoted x) raw
+  QuotedValue : (x rest raw : List ℕ) → BeginsWithLexeme alphabet.Mime (quoted x) rest raw → unquoted x ≢ [] → IsValue (bracketed_text x) raw
   TokenValue : (x raw : List ℕ) → AreLexemes alphabet.Mime (atom x ∷ []) raw → IsValue x raw
   WrittenValue : (raw : List ℕ) → ((x rest : List ℕ) → BeginsWithLexeme alphabet.Mime (quoted x) rest raw → ⊥)
       → ((x : List ℕ) → AreLexemes alphabet.Mime (atom x ∷ []) raw → ⊥) → octets_written raw ≢ [] → IsValue (octets_written raw) raw
@@ -82,3 +83,9 @@ pub record HasParameter (name t : List ℕ) (value : Option (List ℕ)) : Type 0
   pub rest : Option (List ℕ)
   pub begins : BeginsWithPiece first rest t
   pub is : IsFirstNamed name rest value
+
+-- the same without line ends
+pub record HasUnfolded (name t : List ℕ) (value : Option (List ℕ)) : Type 0 where
+  pub octets : Option (List ℕ)
+  pub has : HasParameter name t octets
+  pub value_is : value ≡ option_map unfolded octets

@@ -9,8 +9,8 @@ use Rattle.header_tokens.specs.Tokens.{Spelled}
 use Rattle.mime_fields.specs.ContentIds.{IsContentId}
 use Rattle.mime_fields.specs.ContentTypes.{HasMedia}
 use Rattle.mime_fields.specs.Dispositions.{leading_token, HasKind, IsFileName}
-use Rattle.mime_fields.specs.ExtendedValues.{extended_text}
-use Rattle.mime_fields.specs.Parameters.{trimmed, HasParameter}
+use Rattle.mime_fields.specs.ExtendedValues.{extended_name}
+use Rattle.mime_fields.specs.Parameters.{trimmed, HasParameter, HasUnfolded}
 use Rattle.mime_fields.specs.declared.header.PartHeader.{PartHeader}
 
 -- the octets of the field of this name; a field that is missing has none
@@ -39,18 +39,18 @@ mechanism raw lexemes = option_map (λ (r : List ℕ). unwrap_or (leading_token 
 -- The name is `filename*` of Content-Disposition, else `filename`, else `name` of Content-Type.
 pub record IsPartHeader (fields : List NameAndRaw) (h : PartHeader) : Type 0 where
   pub media : HasMedia (field_octets fields (codes "content-type")) h.media
-  pub boundary : HasParameter (codes "boundary") (field_octets fields (codes "content-type")) h.boundary
+  pub boundary : HasUnfolded (codes "boundary") (field_octets fields (codes "content-type")) h.boundary
   pub charset_octets : Option (List ℕ)
-  pub has_charset : HasParameter (codes "charset") (field_octets fields (codes "content-type")) charset_octets
+  pub has_charset : HasUnfolded (codes "charset") (field_octets fields (codes "content-type")) charset_octets
   pub charset : h.charset ≡ option_map raw_form charset_octets
   pub disposition : HasKind (field_octets fields (codes "content-disposition")) h.disposition
   pub extended_octets : Option (List ℕ)
-  pub has_extended : HasParameter (codes "filename*") (field_octets fields (codes "content-disposition")) extended_octets
+  pub has_extended : HasUnfolded (codes "filename*") (field_octets fields (codes "content-disposition")) extended_octets
   pub file : Option (List ℕ)
   pub has_file : HasParameter (codes "filename") (field_octets fields (codes "content-disposition")) file
   pub type_name : Option (List ℕ)
   pub has_type_name : HasParameter (codes "name") (field_octets fields (codes "content-type")) type_name
-  pub name : IsFileName (option_and_then extended_text extended_octets) (option_or file type_name) h.name
+  pub name : IsFileName (option_and_then extended_name extended_octets) (option_or file type_name) h.name
   pub cid : IsIdOf (last_named (codes "content-id") fields) h.cid
   pub language : h.language ≡ option_map raw_form (last_named (codes "content-language") fields)
   pub location : IsTrimmedTextOf (last_named (codes "content-location") fields) h.location

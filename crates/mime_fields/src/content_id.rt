@@ -5,10 +5,10 @@ ghost use Rattle.mail_header.specs.WhiteEnd.{some_text};
 ghost use Rattle.mime_fields.specs.ContentIds as ids;
 ghost use Rattle.mime_fields.specs.reading.IdUnits as reading;
 
-use gate_world::Bytes;
 use header_tokens::tokens::{comment_at, quoted_at};
 use mail_header::as_raw;
 use mail_header::raw_forms::unfold;
+use octets::Bytes;
 use std::alloc::{AllocError, Global};
 use text_words::{behind, first, is_white};
 

@@ -6,12 +6,12 @@ ghost use Rattle.header_tokens.specs.TokenView.{token_view};
 ghost use Rattle.mime_fields.specs.ContentTypes as types;
 ghost use Rattle.mime_fields.specs.reading.MimeLexemes.{mime_lexemes};
 
-use crate::parameters::{is_token, mime_lexeme, parameter};
+use crate::parameters::{is_token, mime_lexeme, parameter, without_line_ends};
 use crate::pieces::next_piece;
-use gate_world::Bytes;
 use header_tokens::closings::closings;
 use header_tokens::{Token, has_mark};
 use mail_header::as_raw;
+use octets::Bytes;
 use std::alloc::{AllocError, Global};
 
 /// What Content-Type says.
@@ -20,7 +20,7 @@ pub(crate) struct ContentType {
     pub media: Option<Bytes>,
     pub boundary: Option<Bytes>,
     pub charset: Option<Bytes>,
-    /// The octets of the parameter `name`.
+    /// The octets of the parameter `name`, with their line ends.
     pub name: Option<Bytes>,
 }
 
@@ -91,11 +91,13 @@ pub(crate) fn read_type(alloc: Global, text: &[u8]) -> Result<ContentType, Alloc
 {
     let closed = closings(alloc, text)?;
     let (first, rest) = next_piece(text, closed.as_slice());
+    let boundary = parameter(alloc, b"boundary", rest, closed.as_slice())?;
     let charset = parameter(alloc, b"charset", rest, closed.as_slice())?;
+    let charset_line = without_line_ends(alloc, charset)?;
     Ok(ContentType {
         media: media_of(alloc, first)?,
-        boundary: parameter(alloc, b"boundary", rest, closed.as_slice())?,
-        charset: charset_text(alloc, charset)?,
+        boundary: without_line_ends(alloc, boundary)?,
+        charset: charset_text(alloc, charset_line)?,
         name: parameter(alloc, b"name", rest, closed.as_slice())?,
     })
 }

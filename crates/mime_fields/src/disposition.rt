@@ -5,15 +5,16 @@ ghost use Rattle.mime_fields.specs.Dispositions as dispositions;
 ghost use Rattle.mime_fields.specs.reading.MimeLexemes.{mime_lexemes};
 
 use crate::extended_value::extended;
-use crate::parameters::{is_token, mime_lexeme, parameter};
+use crate::parameters::{is_token, mime_lexeme, parameter, without_line_ends};
 use crate::pieces::next_piece;
-use gate_world::Bytes;
 use header_tokens::closings::closings;
 use header_words::{as_one_line, decode_words};
 use mail_header::as_raw;
+use octets::Bytes;
 use std::alloc::{AllocError, Global};
 
-/// What Content-Disposition says: its kind, the name in an extended value, and the octets of the name as it is written.
+/// What Content-Disposition says: its kind, the name in an extended value, and the octets of the name as it is written, with their
+/// line ends.
 #[derive(Drop)]
 pub(crate) struct Disposition {
     pub kind: Option<Bytes>,
@@ -50,9 +51,10 @@ pub(crate) fn read_disposition(alloc: Global, text: &[u8]) -> Result<Disposition
     let closed = closings(alloc, text)?;
     let (first, rest) = next_piece(text, closed.as_slice());
     let octets = parameter(alloc, b"filename*", rest, closed.as_slice())?;
+    let line = without_line_ends(alloc, octets)?;
     Ok(Disposition {
         kind: first_token(alloc, first)?,
-        extended: extended(alloc, octets)?,
+        extended: extended(alloc, line)?,
         file: parameter(alloc, b"filename", rest, closed.as_slice())?,
     })
 }

@@ -2,10 +2,11 @@
 ghost use Rattle.std.specs.Prelude.{◌≡◌, None, Some, IfOk, MatchOption};
 ghost use Rattle.std.specs.Option.{option_and_then};
 ghost use Rattle.percent_encoding.specs.Percent as percent;
+ghost use Rattle.mail_header.specs.WhiteEnd as ends;
 ghost use Rattle.mime_fields.specs.ExtendedValues as values;
 
-use gate_world::Bytes;
 use header_words::decode_charset;
+use octets::Bytes;
 use percent_encoding::percent_decode;
 use std::alloc::{AllocError, Global};
 use text_words::{Class, cut};
@@ -70,12 +71,33 @@ fn extended_text(alloc: Global, value: &[u8]) -> Result<Option<Bytes>, AllocErro
     Ok(Some(Bytes::from_vec(text)?))
 }
 
-/// The text of the extended value that a parameter has.
+/// The text, where it has an octet.
+fn some_text(text: Bytes) -> Option<Bytes>
+    ensures { result ≡ ends.some_text text }
+{
+    if text.as_slice().is_empty() {
+        None
+    } else {
+        Some(text)
+    }
+}
+
+/// The name that one extended value is.
+fn extended_name(alloc: Global, value: &[u8]) -> Result<Option<Bytes>, AllocError>
+    ensures { IfOk result (λ t. t ≡ values.extended_name value.now) }
+{
+    match extended_text(alloc, value)? {
+        None => Ok(None),
+        Some(text) => Ok(some_text(text)),
+    }
+}
+
+/// The name that the extended value of a parameter is.
 pub(crate) fn extended(alloc: Global, value: Option<Bytes>) -> Result<Option<Bytes>, AllocError>
-    ensures { IfOk result (λ t. t ≡ option_and_then values.extended_text value) }
+    ensures { IfOk result (λ t. t ≡ option_and_then values.extended_name value) }
 {
     match value {
         None => Ok(None),
-        Some(value) => extended_text(alloc, value.as_slice()),
+        Some(value) => extended_name(alloc, value.as_slice()),
     }
 }

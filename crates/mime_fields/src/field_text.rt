@@ -6,8 +6,8 @@ ghost use Rattle.mail_header.specs.RawForms.{raw_form};
 ghost use Rattle.mime_fields.specs.PartHeaders as headers;
 
 use crate::parameters::trimmed;
-use gate_world::Bytes;
 use mail_header::{Fields, as_raw, as_text};
+use octets::Bytes;
 use std::alloc::{AllocError, Global};
 
 /// The octets of the last field of this name, none where there is no such field.

@@ -9,8 +9,8 @@ use crate::content_id::content_id;
 use crate::content_type::read_type;
 use crate::disposition::{first_token, name_of, read_disposition};
 use crate::field_text::{octets_of, raw_of, trimmed_text_of};
-use gate_world::Bytes;
 use mail_header::Fields;
+use octets::Bytes;
 use std::alloc::{AllocError, Global};
 
 /// What the header of a body part says.

@@ -1,20 +1,25 @@
 // Tokens and parameters.
 ghost use Rattle.std.specs.Prelude.{◌≡◌, ◌<◌, [], ◌∷◌, ℕ, List, None, Some, length, IfOk, IfSome, MatchBool, MatchOption};
+ghost use Rattle.std.specs.Option.{option_map};
 ghost use Rattle.header_words.specs.Charsets.{is_ascii};
+ghost use Rattle.mail_header.specs.Lines.{unfolded};
 ghost use Rattle.header_tokens.specs.reading.ClosingCounts.{TellClosings};
 ghost use Rattle.header_tokens.specs.declared.token.Alphabet.TheVariants as alphabet;
 ghost use Rattle.header_tokens.specs.Tokens.{Spelled};
 ghost use Rattle.header_tokens.specs.Lexemes.{AreLexemes, BeginsWithLexeme};
 ghost use Rattle.header_tokens.specs.TokenView.{token_view};
+ghost use Rattle.header_tokens.specs.Words as words;
 ghost use Rattle.mime_fields.specs.Parameters as parameters;
 ghost use Rattle.mime_fields.specs.reading.MimeLexemes.{mime_lexemes};
 ghost use Rattle.mime_fields.specs.reading.ParameterSteps as reading;
 
 use crate::pieces::next_piece;
-use gate_world::Bytes;
-use header_tokens::{Alphabet, Kind, Token, has_mark, is_atom, is_row, next_lexeme, unquoted};
+use header_tokens::{
+    Alphabet, Kind, Token, bracketed_text, has_mark, is_atom, is_row, next_lexeme,
+};
 use mail_header::raw_forms::unfold;
 use mail_header::white_end::without_white_end;
+use octets::Bytes;
 use std::alloc::{AllocError, Global};
 use text_words::{Class, White, are_all, cut, same_text};
 
@@ -64,14 +69,13 @@ fn without_quote(text: &[u8]) -> &[u8]
     }
 }
 
-/// The octets that a wrong sender wrote for a value; there is none where these are none.
+/// What a wrong sender wrote for a value; there is none where no octet is left.
 fn written(alloc: Global, raw: &[u8]) -> Result<Option<Bytes>, AllocError>
     ensures { IfOk result (λ v. MatchOption v
         (parameters.octets_written raw.now ≡ [])
         (λ b. (b ≡ parameters.octets_written raw.now) × (0 < length (parameters.octets_written raw.now)))) }
 {
-    let line = unfold(alloc, raw)?;
-    let text = trimmed(without_quote(trimmed(line.as_slice())));
+    let text = trimmed(without_quote(trimmed(raw)));
     if text.is_empty() {
         return Ok(None);
     }
@@ -127,14 +131,28 @@ fn value_form(raw: &[u8]) -> ValueForm<'_>
     ValueForm::Written
 }
 
-/// The value that stands in these octets.
+/// What a quoted text spells, with its line ends; there is none where it has no octet beside them.
+fn quoted_text(alloc: Global, quoted: &[u8]) -> Result<Option<Bytes>, AllocError>
+    ensures { IfOk result (λ v. MatchOption v
+        (words.unquoted quoted.now ≡ [])
+        (λ b. (b ≡ words.bracketed_text quoted.now) × (0 < length (words.unquoted quoted.now)))) }
+{
+    let text = bracketed_text(alloc, quoted)?;
+    let line = unfold(alloc, text.as_slice())?;
+    if line.is_empty() {
+        return Ok(None);
+    }
+    Ok(Some(Bytes::from_vec(text)?))
+}
+
+/// The value that stands in these octets, with its line ends.
 fn value_in(alloc: Global, raw: &[u8]) -> Result<Option<Bytes>, AllocError>
     ensures { IfOk result (λ v. MatchOption v
         ((x : List ℕ) → parameters.IsValue x raw.now → ⊥)
         (λ b. parameters.IsValue b raw.now)) }
 {
     match value_form(raw) {
-        ValueForm::Quoted(text) => Ok(Some(Bytes::from_vec(unquoted(alloc, text)?)?)),
+        ValueForm::Quoted(text) => quoted_text(alloc, text),
         ValueForm::Token(text) => Ok(Some(Bytes::copy_of(alloc, text)?)),
         ValueForm::Written => written(alloc, raw),
     }
@@ -205,4 +223,17 @@ pub(crate) fn parameter(
         rest = more;
     }
     Ok(None)
+}
+
+/// The value of a parameter without line ends.
+pub(crate) fn without_line_ends(
+    alloc: Global,
+    value: Option<Bytes>,
+) -> Result<Option<Bytes>, AllocError>
+    ensures { IfOk result (λ v. v ≡ option_map unfolded value) }
+{
+    match value {
+        None => Ok(None),
+        Some(octets) => Ok(Some(Bytes::from_vec(unfold(alloc, octets.as_slice())?)?)),
+    }
 }

@@ -6,9 +6,9 @@ ghost use Rattle.mime_tree.specs.reading.Shared.{AreShared};
 
 use crate::shared::SharedTexts;
 use crate::split::Piece;
-use gate_world::Bytes;
 use mail_header::fields;
 use mime_fields::{PartHeader, part_header};
+use octets::Bytes;
 use std::alloc::{AllocError, Global};
 use text_words::{Class, cut, same_text};
 

@@ -6,7 +6,7 @@ ghost use Rattle.mime_tree.specs.reading.ListBuilding.{grown, no_parts};
 use crate::list_walk::{Growing, walk_parts};
 use crate::part::Part;
 use crate::roles::{Multipart, Walk};
-use gate_world::Listed;
+use octets::Listed;
 use std::alloc::{AllocError, Global};
 use std::slice;
 

@@ -2,7 +2,7 @@
 ghost use Rattle.std.specs.Prelude.{◌≡◌, ◌≢◌, ◌↔◌, IsTrue, MatchOption, Some};
 ghost use Rattle.mime_tree.specs.Parts.{IsUnder, part_number};
 
-use gate_world::Bytes;
+use octets::Bytes;
 
 /// A part of a message. Places are counted in octets from the front of the whole message. Only leaves have a number,
 /// from 1 on in the order of the octets. A multipart has none, and the parts in it are its children.

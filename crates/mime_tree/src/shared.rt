@@ -2,7 +2,7 @@
 ghost use Rattle.std.specs.Prelude.{IfOk};
 ghost use Rattle.mime_tree.specs.reading.Shared.{AreShared};
 
-use gate_world::Bytes;
+use octets::Bytes;
 use std::alloc::{AllocError, Global};
 
 /// Texts that many parts of a tree have. The parts share them, so that a part without a header takes no memory for

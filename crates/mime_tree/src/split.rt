@@ -5,9 +5,9 @@ ghost use Rattle.mime_tree.specs.Splits as splits;
 ghost use Rattle.mime_tree.specs.Splits.{ending};
 ghost use Rattle.mime_tree.specs.reading.Bounds.{IsSplitBody};
 
-use gate_world::Listed;
 use mail_header::lines::without_end;
 use memchr::memchr;
+use octets::Listed;
 use std::alloc::{AllocError, Global};
 use text_words::{White, are_all};
 

@@ -11,7 +11,7 @@ use crate::head::{Head, boundary_of, default_in, encoding_or, head_at, leaf_char
 use crate::part::Part;
 use crate::shared::{SharedTexts, shared_texts};
 use crate::split::{Piece, SplitBody, split};
-use gate_world::Bytes;
+use octets::Bytes;
 use std::alloc::{AllocError, Global};
 
 /// The depth at which each part is a leaf. The root is at depth 0.

@@ -15,7 +15,7 @@ use Rattle.pushdown.proofs.Lists.{cons_head, cons_tail, no_append}
 use Rattle.pushdown.proofs.Leading.{no_symbols, none_stays, run_append, alive}
 use Rattle.pushdown.proofs.Marks.{start_same}
 use Rattle.pushdown.proofs.Standing.{read_whole, outside_append}
-use Rattle.imap_syntax.specs.Texts.{plain_of, plain_octets, outside}
+use Rattle.imap_types.specs.Texts.{plain_of, plain_octets, outside}
 
 -- a text by how many octets its front has
 pub record Front (t b c : List ℕ) : Type 0 where

@@ -1,7 +1,7 @@
 -- Lists that are cut in two.
 use Rattle.std.proofs.Common.{◌≡◌, ℕ, Bool, true, false, List, [], ◌∷◌, ◌++◌, get_or, refl, sym, ap, ◌∙◌, append_assoc}
 use Rattle.std.proofs.lemmas.Bool.{both_ways}
-use Rattle.imap_syntax.specs.Texts.{Each, Then}
+use Rattle.imap_types.specs.Texts.{Each, Then}
 
 -- equal lists have the same first element
 pub cons_head : {A : Type 0} (c d : A) (x y : List A) → c ∷ x ≡ d ∷ y → c ≡ d

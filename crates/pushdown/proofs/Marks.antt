@@ -13,7 +13,7 @@ use Rattle.pushdown.specs.Lawful.{IsLawful}
 use Rattle.pushdown.proofs.Leading.{no_symbols, none_stays, alive}
 use Rattle.pushdown.proofs.Whole.{keeps, open_begins}
 use Rattle.pushdown.proofs.Lists.{cons_head, cons_tail}
-use Rattle.imap_syntax.specs.Texts.{plain_of, plain_octets}
+use Rattle.imap_types.specs.Texts.{plain_of, plain_octets}
 
 -- a number of 256 or more in a text stands for the octet 256 below it
 pub plain_large : (c : ℕ) → nat_lt c 256 ≡ false → plain_of c ≡ c - 256

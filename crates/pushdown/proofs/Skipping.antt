@@ -15,7 +15,7 @@ use Rattle.pushdown.specs.Flow.{room, first_begins, Ready, left_of}
 use Rattle.pushdown.specs.Lawful.{IsLawful}
 use Rattle.pushdown.specs.Fed.{LeavesSymbols, Fed, FedUpTo}
 use Rattle.pushdown.proofs.Standing.{stands_step}
-use Rattle.imap_syntax.specs.Texts.{Each}
+use Rattle.imap_types.specs.Texts.{Each}
 
 abbrev pub small : ℕ → Bool
 small c = nat_lt c 256

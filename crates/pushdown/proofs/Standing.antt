@@ -13,7 +13,7 @@ use Rattle.pushdown.proofs.Lists.{cons_head, cons_tail}
 use Rattle.pushdown.proofs.Leading.{no_symbols, Alive, run_append, alive}
 use Rattle.pushdown.proofs.Whole.{reads_back, reads_forth, reads_some}
 use Rattle.pushdown.proofs.Marks.{plain_large, plain_small, forced, start_good, good_of, start_same}
-use Rattle.imap_syntax.specs.Texts.{plain_of, plain_octets, outside}
+use Rattle.imap_types.specs.Texts.{plain_of, plain_octets, outside}
 
 -- the octets outside literals of two texts joined are those of the first and those of the second, counted together
 pub outside_append : (t u : List ℕ) → outside (t ++ u) ≡ outside t + outside u

@@ -16,7 +16,7 @@ use Rattle.pushdown.proofs.Whole.{ready_keeps}
 use Rattle.pushdown.proofs.Marks.{plain_small, forced, step_left, bound_keeps}
 use Rattle.pushdown.proofs.Standing.{stands_step}
 use Rattle.pushdown.proofs.Skipping.{small, small_front}
-use Rattle.imap_syntax.specs.Texts.{Each}
+use Rattle.imap_types.specs.Texts.{Each}
 
 -- what a stack and the counts keep
 pub record Led {S : Type 0} (machine : Automaton S) (ss : List S) (out taken : ℕ) (b : List ℕ) : Type 0 where

@@ -1,6 +1,6 @@
 -- Octets that are a text of a grammar, or begin one.
 use Rattle.std.specs.Prelude.{◌≡◌, ◌≢◌, ℕ, ◌+◌, ◌<◌, ◌≤◌, List, [], ◌++◌, length, take}
-use Rattle.imap_syntax.specs.Texts.{plain_octets, outside}
+use Rattle.imap_types.specs.Texts.{plain_octets, outside}
 use Rattle.pushdown.specs.declared.answer.Answer.{Answer}
 use Rattle.pushdown.specs.declared.answer.Answer.TheVariants.{Whole, NeedMore, Bad}
 use Rattle.pushdown.specs.Automaton.{Automaton}

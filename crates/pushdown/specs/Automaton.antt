@@ -1,6 +1,6 @@
 -- An automaton: what octets do to symbols, and the texts that each symbol reads.
 use Rattle.std.specs.Prelude.{◌≡◌, ℕ, Bool, List, [], ◌∷◌}
-use Rattle.imap_syntax.specs.Texts.{Then}
+use Rattle.imap_types.specs.Texts.{Then}
 use Rattle.pushdown.specs.declared.moves.Move.{Move}
 use Rattle.pushdown.specs.declared.moves.Move.TheVariants as move
 

@@ -6,7 +6,7 @@ use Rattle.std.specs.Str.Parse.{digits_value}
 use Rattle.std.proofs.lemmas.Bool.{and_parts, cond-true, lt-ltb, ltb-true}
 use Rattle.std.proofs.lemmas.Fmt.{decimal_is_IsNumeral}
 use Rattle.std.proofs.lemmas.Slice.Eq.{bytes_eq-Decides}
-use Rattle.jmap_methods.specs.Ids.{id_text}
+use Rattle.jmap_arguments.specs.Ids.{id_text}
 use Rattle.query_arguments.specs.Values.{number_written, number_of_id}
 
 -- a number is read back

@@ -3,13 +3,13 @@
 use Rattle.std.specs.Prelude.{ℕ, List, Bool, false, codes, Option, Some, None, Result, Ok, Err, ok_or}
 use Rattle.serde_json.specs.Data.{Data}
 use Rattle.serde_json.specs.Find.{get}
-use Rattle.jmap_methods.specs.Arguments.{text_at, most_at, account_check}
-use Rattle.jmap_methods.specs.Outcome.{refusal_of}
-use Rattle.jmap_methods.specs.declared.method_error.MethodError.{MethodError}
-use Rattle.jmap_methods.specs.declared.method_error.MethodError.TheVariants.{InvalidArguments, UnsupportedFilter, UnsupportedSort}
+use Rattle.jmap_arguments.specs.Arguments.{text_at, most_at, account_check}
+use Rattle.jmap_arguments.specs.Outcome.{refusal_of}
+use Rattle.jmap_arguments.specs.declared.method_error.MethodError.{MethodError}
+use Rattle.jmap_arguments.specs.declared.method_error.MethodError.TheVariants.{InvalidArguments, UnsupportedFilter, UnsupportedSort}
 use Rattle.email_properties.specs.Kinds.{flag_at}
 use Rattle.query_lists.specs.Filters.{FilterTree}
-use Rattle.mail_conditions.specs.declared.mailbox_condition.MailboxCondition.{MailboxCondition}
+use Rattle.query_conditions.specs.declared.mailbox_condition.MailboxCondition.{MailboxCondition}
 use Rattle.query_arguments.specs.EmailFilters.{email_condition_in}
 use Rattle.query_arguments.specs.Filters.{filter_or_all}
 use Rattle.query_arguments.specs.FilterTrees.{filter_tree}
@@ -20,8 +20,8 @@ use Rattle.query_arguments.specs.declared.asked.AskedList.{AskedList}
 use Rattle.query_arguments.specs.declared.asked.AskedPart.{AskedPart}
 use Rattle.query_arguments.specs.declared.asked.AskedQuery.{AskedQuery}
 use Rattle.query_arguments.specs.declared.asked.AskedQueryChanges.{AskedQueryChanges}
-use Rattle.mail_orders.specs.declared.comparators.EmailComparator.{EmailComparator}
-use Rattle.mail_orders.specs.declared.comparators.MailboxComparator.{MailboxComparator}
+use Rattle.query_orders.specs.declared.comparators.EmailComparator.{EmailComparator}
+use Rattle.query_orders.specs.declared.comparators.MailboxComparator.{MailboxComparator}
 use Rattle.query_arguments.specs.declared.email_condition.EmailCondition.{EmailCondition}
 use Rattle.query_arguments.specs.declared.reading.Reading.{Reading}
 use Rattle.query_arguments.specs.declared.reading.Reading.TheVariants.{Wrong, Unsupported, Means}

@@ -2,12 +2,12 @@
 use Rattle.std.specs.Prelude.{ℕ, List, [], ◌∷◌, bytes_eq, codes, if◌then◌else◌, Option, Some, None}
 use Rattle.serde_json.specs.Data.{Data}
 use Rattle.serde_json.specs.Find.{as_str}
-use Rattle.jmap_methods.specs.Ids.{mailbox_letter}
-use Rattle.mail_conditions.specs.declared.email_condition.Quantity.TheVariants as quantity
-use Rattle.mail_conditions.specs.declared.email_condition.RecordCondition.{RecordCondition}
-use Rattle.mail_conditions.specs.declared.email_condition.RecordCondition.TheVariants as condition
-use Rattle.mail_conditions.specs.declared.email_condition.TextField.{TextField}
-use Rattle.mail_conditions.specs.declared.email_condition.TextField.TheVariants as field
+use Rattle.jmap_arguments.specs.Ids.{mailbox_letter}
+use Rattle.query_conditions.specs.declared.email_condition.Quantity.TheVariants as quantity
+use Rattle.query_conditions.specs.declared.email_condition.RecordCondition.{RecordCondition}
+use Rattle.query_conditions.specs.declared.email_condition.RecordCondition.TheVariants as condition
+use Rattle.query_conditions.specs.declared.email_condition.TextField.{TextField}
+use Rattle.query_conditions.specs.declared.email_condition.TextField.TheVariants as field
 use Rattle.query_arguments.specs.declared.email_condition.EmailCondition.{EmailCondition}
 use Rattle.query_arguments.specs.declared.email_condition.EmailCondition.TheVariants.{Record, Header, Thread}
 use Rattle.query_arguments.specs.declared.reading.Reading.{Reading}

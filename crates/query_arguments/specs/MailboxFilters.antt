@@ -3,12 +3,12 @@ use Rattle.std.specs.Prelude.{ℕ, List, [], ◌∷◌, bytes_eq, codes, if◌th
 use Rattle.std.specs.List.{find}
 use Rattle.serde_json.specs.Data.{Data, null, boolean, number, string, array, object}
 use Rattle.serde_json.specs.Find.{as_bool, as_str}
-use Rattle.jmap_methods.specs.Ids.{mailbox_letter}
+use Rattle.jmap_arguments.specs.Ids.{mailbox_letter}
 use Rattle.mail_maps.specs.declared.row.Role.{Role}
 use Rattle.mail_maps.specs.declared.row.Role.TheVariants as role
-use Rattle.mail_conditions.specs.declared.mailbox_condition.MailboxCondition.{MailboxCondition}
-use Rattle.mail_conditions.specs.declared.mailbox_condition.MailboxCondition.TheVariants as condition
-use Rattle.read_methods.specs.Mailboxes.{role_name}
+use Rattle.query_conditions.specs.declared.mailbox_condition.MailboxCondition.{MailboxCondition}
+use Rattle.query_conditions.specs.declared.mailbox_condition.MailboxCondition.TheVariants as condition
+use Rattle.served_types.specs.Roles.{role_name}
 use Rattle.query_arguments.specs.Readings.{means}
 use Rattle.query_arguments.specs.Values.{number_of_id}
 use Rattle.query_arguments.specs.declared.reading.Reading.{Reading}

@@ -2,12 +2,12 @@
 use Rattle.std.specs.Prelude.{ℕ, List, [], ◌∷◌, Bool, true, bytes_eq, codes, if◌then◌else◌, Option, Some, None, option_and_then}
 use Rattle.serde_json.specs.Data.{Data, null, boolean, number, string, array, object, Items, no_items, item}
 use Rattle.serde_json.specs.Find.{get, as_bool, as_str}
-use Rattle.mail_orders.specs.declared.comparators.EmailComparator.{EmailComparator}
-use Rattle.mail_orders.specs.declared.comparators.EmailSort.{EmailSort}
-use Rattle.mail_orders.specs.declared.comparators.EmailSort.TheVariants as sort
-use Rattle.mail_orders.specs.declared.comparators.MailboxComparator.{MailboxComparator}
-use Rattle.mail_orders.specs.declared.comparators.MailboxSort.{MailboxSort}
-use Rattle.mail_orders.specs.declared.comparators.MailboxSort.TheVariants as mailbox
+use Rattle.query_orders.specs.declared.comparators.EmailComparator.{EmailComparator}
+use Rattle.query_orders.specs.declared.comparators.EmailSort.{EmailSort}
+use Rattle.query_orders.specs.declared.comparators.EmailSort.TheVariants as sort
+use Rattle.query_orders.specs.declared.comparators.MailboxComparator.{MailboxComparator}
+use Rattle.query_orders.specs.declared.comparators.MailboxSort.{MailboxSort}
+use Rattle.query_orders.specs.declared.comparators.MailboxSort.TheVariants as mailbox
 use Rattle.query_arguments.specs.Readings.{both_read, each_read, means}
 use Rattle.query_arguments.specs.Values.{keyword_given}
 use Rattle.query_arguments.specs.declared.reading.Reading.{Reading}

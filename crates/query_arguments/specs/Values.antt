@@ -10,8 +10,8 @@ use Rattle.text_words.specs.Octets.{is_between}
 use Rattle.serde_json.specs.Data.{Data}
 use Rattle.serde_json.specs.Find.{as_str, as_array, as_number}
 use Rattle.email_properties.specs.Kinds.{at_least_zero}
-use Rattle.jmap_methods.specs.Arguments.{texts_in, whole_in}
-use Rattle.jmap_methods.specs.Ids.{mailbox_letter}
+use Rattle.jmap_arguments.specs.Arguments.{texts_in, whole_in}
+use Rattle.jmap_arguments.specs.Ids.{mailbox_letter}
 
 -- ---- ids
 

@@ -1,7 +1,7 @@
 // What queries ask.
 
 use crate::filter::Filter;
-use gate_world::Text;
+use octets::Text;
 
 /// Which rows a query asks, and in which order (RFC 8620 section 5.5).
 #[derive(Drop)]

@@ -1,7 +1,7 @@
 // Conditions of Emails.
 
-use gate_world::{Bytes, Names};
-use mail_conditions::{Quantity, RecordCondition};
+use octets::{Bytes, Names};
+use query_conditions::{Quantity, RecordCondition};
 
 /// A condition of Emails (RFC 8621 section 4.4.1).
 #[derive(Debug, Drop)]

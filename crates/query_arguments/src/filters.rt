@@ -13,7 +13,7 @@ use crate::email_filters::email_condition;
 use crate::filter::Filter;
 use crate::mailbox_filters::mailbox_condition;
 use crate::reading::{Reading, both, each_read};
-use mail_conditions::MailboxCondition;
+use query_conditions::MailboxCondition;
 use query_lists::FilterOperator;
 use serde_json::{Map, Value};
 use std::alloc::{AllocError, Global};

@@ -7,8 +7,8 @@ ghost use Rattle.query_arguments.specs.Readings as readings;
 
 use crate::reading::Reading;
 use crate::values::{mailbox_number, word_of};
-use mail_conditions::MailboxCondition;
 use mail_maps::Role;
+use query_conditions::MailboxCondition;
 use serde_json::Value;
 use std::alloc::{AllocError, Global};
 

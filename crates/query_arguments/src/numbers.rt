@@ -1,15 +1,14 @@
 // The part of a list that is asked.
 ghost use Rattle.std.specs.Prelude.{◌≡◌};
 ghost use Rattle.serde_json.specs.View.{view};
-ghost use Rattle.email_properties.specs.Kinds.{flag_at as flag_asked};
-ghost use Rattle.jmap_methods.specs.Outcome.{Agrees};
-ghost use Rattle.jmap_methods.specs.declared.method_error.MethodError.TheVariants.{Memory};
+ghost use Rattle.jmap_arguments.specs.Outcome.{Agrees};
+ghost use Rattle.jmap_arguments.specs.declared.method_error.MethodError.TheVariants.{Memory};
 ghost use Rattle.query_arguments.specs.Parts as spec;
 
 use crate::asked::AskedPart;
 use crate::values::natural_of;
-use gate_world::Text;
-use jmap_methods::{MethodError, whole_in};
+use jmap_arguments::{MethodError, whole_in};
+use octets::Text;
 use serde_json::Value;
 use std::alloc::Global;
 
@@ -22,19 +21,6 @@ fn integer_at(arguments: &Value, key: &str) -> Result<i64, MethodError>
         Some(value) => match whole_in(value) {
             None => Err(MethodError::InvalidArguments),
             Some(number) => Ok(number),
-        },
-    }
-}
-
-/// The Boolean at the key, false where nothing is there.
-pub(crate) fn flag_at(arguments: &Value, key: &str) -> Result<bool, MethodError>
-    ensures { result ≡ flag_asked key.now (view arguments.now) }
-{
-    match arguments.get(key) {
-        None => Ok(false),
-        Some(value) => match value.as_bool() {
-            None => Err(MethodError::InvalidArguments),
-            Some(flag) => Ok(flag),
         },
     }
 }

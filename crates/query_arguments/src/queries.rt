@@ -1,9 +1,9 @@
 // What the arguments of queries ask.
 ghost use Rattle.std.specs.Prelude.{◌≡◌, codes, option_map};
 ghost use Rattle.serde_json.specs.View.{view};
-ghost use Rattle.jmap_methods.specs.Arguments.{text_at as text_asked};
-ghost use Rattle.jmap_methods.specs.Outcome.{Agrees, IsJust};
-ghost use Rattle.jmap_methods.specs.declared.method_error.MethodError.TheVariants.{Memory};
+ghost use Rattle.jmap_arguments.specs.Arguments.{text_at as text_asked};
+ghost use Rattle.jmap_arguments.specs.Outcome.{Agrees, IsJust};
+ghost use Rattle.jmap_arguments.specs.declared.method_error.MethodError.TheVariants.{Memory};
 ghost use Rattle.query_arguments.specs.Asked as spec;
 ghost use Rattle.query_arguments.specs.Asked.{list_seen, query_seen, changes_seen};
 ghost use Rattle.query_arguments.specs.FilterTrees.{filter_tree};
@@ -12,13 +12,14 @@ use crate::asked::{AskedList, AskedQuery, AskedQueryChanges};
 use crate::email_condition::EmailCondition;
 use crate::filter::Filter;
 use crate::filters::{Condition, filter_or_all};
-use crate::numbers::{flag_at, part_asked};
+use crate::numbers::part_asked;
 use crate::reading::Reading;
 use crate::sorts::{Comparator, sort_or_none};
-use gate_world::Text;
-use jmap_methods::{MethodError, check_account, most_or_null, text_at};
-use mail_conditions::MailboxCondition;
-use mail_orders::{EmailComparator, MailboxComparator};
+use email_properties::flag_at;
+use jmap_arguments::{MethodError, check_account, most_or_null, text_at};
+use octets::Text;
+use query_conditions::MailboxCondition;
+use query_orders::{EmailComparator, MailboxComparator};
 use serde_json::Value;
 use std::alloc::Global;
 

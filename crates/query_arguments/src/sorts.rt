@@ -9,8 +9,8 @@ ghost use Rattle.query_arguments.specs.declared.reading.Reading as declared;
 
 use crate::reading::{Reading, both, each_read};
 use crate::values::keyword_given;
-use gate_world::Bytes;
-use mail_orders::{EmailComparator, EmailSort, MailboxComparator, MailboxSort};
+use octets::Bytes;
+use query_orders::{EmailComparator, EmailSort, MailboxComparator, MailboxSort};
 use serde_json::Value;
 use std::alloc::{AllocError, Global};
 

@@ -6,11 +6,11 @@ ghost use Rattle.std.specs.Ordering.{nat_cmp};
 ghost use Rattle.mail_maps.specs.Keywords.{sorted_into};
 ghost use Rattle.serde_json.specs.Find.{as_str};
 ghost use Rattle.serde_json.specs.View.{view};
-ghost use Rattle.jmap_methods.specs.Ids.{mailbox_letter};
+ghost use Rattle.jmap_arguments.specs.Ids.{mailbox_letter};
 ghost use Rattle.query_arguments.specs.Values as values;
 
-use gate_world::Bytes;
-use jmap_methods::{MAILBOX_LETTER, read_id, texts_in, whole_in};
+use jmap_arguments::{MAILBOX_LETTER, read_id, texts_in, whole_in};
+use octets::Bytes;
 use serde_json::Value;
 use std::alloc::{AllocError, Global};
 use std::collections::BTreeSet;

@@ -8,14 +8,14 @@ use Rattle.change_list.specs.History.{IsHistory, entries_of}
 use Rattle.change_list.specs.Kept.{Kept, IsOf}
 use Rattle.change_list.specs.declared.entries.Entry.{Entry}
 use Rattle.change_list.proofs.HistoryLaws.{history_fits}
-use Rattle.jmap_methods.specs.Outcome.{Agrees, Meets}
-use Rattle.jmap_methods.specs.State.{state_text}
-use Rattle.jmap_methods.specs.declared.method_error.MethodError.{MethodError}
-use Rattle.jmap_methods.specs.declared.method_error.MethodError.TheVariants.{Memory, TooManyChanges}
-use Rattle.jmap_methods.specs.declared.state.State.{State}
+use Rattle.jmap_arguments.specs.Outcome.{Agrees, Meets}
+use Rattle.jmap_arguments.specs.State.{state_text}
+use Rattle.jmap_arguments.specs.declared.method_error.MethodError.{MethodError}
+use Rattle.jmap_arguments.specs.declared.method_error.MethodError.TheVariants.{Memory, TooManyChanges}
+use Rattle.jmap_arguments.specs.declared.state.State.{State}
 use Rattle.served_maps.specs.Past.{Past}
 use Rattle.query_arguments.specs.Asked.{QueryChangesMeant}
-use Rattle.read_methods.specs.Changes.{IsPlaceOf, NamesNone}
+use Rattle.served_types.specs.States.{IsPlaceOf, NamesNone}
 use Rattle.query_changes.specs.Changes.{count_told, is_no_more_than, found_data, FoundChanges, AnswersQueryChanges, NamesNoState, TooMany, Answered, RefusedOr}
 use Rattle.query_changes.specs.reading.Found.{FindsNone, TouchedSince, told_or_refused}
 

@@ -6,8 +6,8 @@ use Rattle.change_list.specs.TouchedIds.{AreTouched}
 use Rattle.change_list.specs.Touches.{between, there_at, touches}
 use Rattle.change_list.specs.declared.entries.Entry.{Entry}
 use Rattle.change_list.proofs.Ascending.{same_listed}
-use Rattle.jmap_methods.specs.declared.method_error.MethodError.{MethodError}
-use Rattle.jmap_methods.proofs.StateParts.{one_place}
+use Rattle.jmap_arguments.specs.declared.method_error.MethodError.{MethodError}
+use Rattle.jmap_arguments.proofs.StateParts.{one_place}
 use Rattle.query_arguments.specs.Asked.{QueryChangesMeant}
 use Rattle.query_changes.specs.Changes.{ids_of, count_told, is_no_more_than, found_data, FoundChanges, RefusedOr}
 use Rattle.query_changes.specs.Changes.{AnswersQueryChanges, ReadsMore, NamesNoState, TooMany, Answered}

@@ -3,9 +3,9 @@ use Rattle.std.proofs.Common.{◌≡◌, ℕ, ◌+◌, List, [], ◌∷◌, leng
 use Rattle.serde_json.specs.Data.{Data, Members, no_members, number, unsigned, object, put}
 use Rattle.serde_json.specs.View.{items_of}
 use Rattle.serde_json.specs.Written.{has_float, items_have_float, members_have_float}
-use Rattle.jmap_methods.specs.Ids.{id_data}
-use Rattle.jmap_methods.specs.declared.method_error.MethodError.{MethodError}
-use Rattle.jmap_methods.specs.declared.method_error.MethodError.TheVariants.{TooManyChanges}
+use Rattle.jmap_arguments.specs.Ids.{id_data}
+use Rattle.jmap_arguments.specs.declared.method_error.MethodError.{MethodError}
+use Rattle.jmap_arguments.specs.declared.method_error.MethodError.TheVariants.{TooManyChanges}
 use Rattle.query_core.specs.Answers.{total_if}
 use Rattle.query_changes.specs.Changes.{were_there, now_in, count_told, is_no_more_than, added_item, told_members, query_changes_data}
 use Rattle.query_changes.specs.reading.Found.{told_or_refused}

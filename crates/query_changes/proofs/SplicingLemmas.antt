@@ -9,16 +9,16 @@ use Rattle.change_list.specs.Advance.{row_at}
 use Rattle.change_list.specs.History.{entries_of}
 use Rattle.change_list.specs.TouchedIds.{AreTouched}
 use Rattle.change_list.proofs.HistoryLaws.{length-entries_from}
-use Rattle.jmap_methods.specs.Ids.{email_letter, mailbox_letter}
-use Rattle.jmap_methods.specs.Outcome.{Meets}
-use Rattle.jmap_methods.specs.declared.method_error.MethodError.{MethodError}
-use Rattle.jmap_methods.specs.declared.method_error.MethodError.TheVariants.{Memory}
-use Rattle.mail_conditions.specs.Mailboxes.{MailboxMatches}
+use Rattle.jmap_arguments.specs.Ids.{email_letter, mailbox_letter}
+use Rattle.jmap_arguments.specs.Outcome.{Meets}
+use Rattle.jmap_arguments.specs.declared.method_error.MethodError.{MethodError}
+use Rattle.jmap_arguments.specs.declared.method_error.MethodError.TheVariants.{Memory}
+use Rattle.query_conditions.specs.Mailboxes.{MailboxMatches}
 use Rattle.mail_maps.specs.Serve.{Email, ServedMailbox}
-use Rattle.mail_orders.specs.Emails.{email_cmp, sort_reads_thread}
-use Rattle.mail_orders.specs.Mailboxes.{mailbox_cmp}
-use Rattle.mail_orders.specs.declared.comparators.EmailComparator.{EmailComparator}
-use Rattle.mail_orders.proofs.OrderLaws.{email_total, mailbox_total}
+use Rattle.query_orders.specs.Emails.{email_cmp, sort_reads_thread}
+use Rattle.query_orders.specs.Mailboxes.{mailbox_cmp}
+use Rattle.query_orders.specs.declared.comparators.EmailComparator.{EmailComparator}
+use Rattle.query_orders.proofs.OrderLaws.{email_total, mailbox_total}
 use Rattle.mail_state.specs.History.{MailHistory}
 use Rattle.served_maps.specs.Past.{Past, IsPast, had_at, place_now}
 use Rattle.query_arguments.specs.Asked.{ListMeant, QueryChangesMeant, email_query_changes_asked, mailbox_query_changes_asked}

@@ -5,9 +5,9 @@ use Rattle.change_list.specs.TouchedIds.{AreTouched}
 use Rattle.change_list.specs.Touches.{AreTouches}
 use Rattle.change_list.specs.declared.entries.Entry.{Entry}
 use Rattle.change_list.specs.declared.list.TheConstants.{MAX_PLACE}
-use Rattle.jmap_methods.specs.State.{state_text}
-use Rattle.jmap_methods.specs.declared.method_error.MethodError.TheVariants.{CannotCalculateChanges}
-use Rattle.jmap_methods.specs.declared.state.State.{State}
+use Rattle.jmap_arguments.specs.State.{state_text}
+use Rattle.jmap_arguments.specs.declared.method_error.MethodError.TheVariants.{CannotCalculateChanges}
+use Rattle.jmap_arguments.specs.declared.state.State.{State}
 use Rattle.query_changes.specs.reading.Found.{FindsNone, TouchedSince}
 
 abbrev text_of : ℕ → ℕ → List ℕ

@@ -4,15 +4,15 @@ use Rattle.serde_json.specs.Data.{unsigned, Data, array, number, string, object,
 use Rattle.serde_json.specs.View.{items_of}
 use Rattle.change_list.specs.TouchedIds.{AreTouched}
 use Rattle.change_list.specs.declared.entries.Entry.{Entry}
-use Rattle.jmap_methods.specs.Arguments.{account_id}
-use Rattle.jmap_methods.specs.Ids.{id_data, id_list}
-use Rattle.jmap_methods.specs.State.{state_text}
-use Rattle.jmap_methods.specs.declared.method_error.MethodError.{MethodError}
-use Rattle.jmap_methods.specs.declared.method_error.MethodError.TheVariants.{CannotCalculateChanges, TooManyChanges}
+use Rattle.jmap_arguments.specs.Arguments.{account_id}
+use Rattle.jmap_arguments.specs.Ids.{id_data, id_list}
+use Rattle.jmap_arguments.specs.State.{state_text}
+use Rattle.jmap_arguments.specs.declared.method_error.MethodError.{MethodError}
+use Rattle.jmap_arguments.specs.declared.method_error.MethodError.TheVariants.{CannotCalculateChanges, TooManyChanges}
 use Rattle.query_arguments.specs.Asked.{QueryChangesMeant}
 use Rattle.query_core.specs.Answers.{total_if}
 use Rattle.query_lists.specs.Splices.{added_in}
-use Rattle.read_methods.specs.Changes.{IsPlaceOf, NamesNone, newest_place}
+use Rattle.served_types.specs.States.{IsPlaceOf, NamesNone, newest_place}
 
 -- ---- which ids are told, of those that were touched, each with whether it was there
 

@@ -2,11 +2,11 @@
 use Rattle.std.specs.Prelude.{Bool, true, Result}
 use Rattle.serde_json.specs.Data.{Data}
 use Rattle.change_list.specs.History.{entries_of}
-use Rattle.jmap_methods.specs.Ids.{email_letter, mailbox_letter}
-use Rattle.jmap_methods.specs.declared.method_error.MethodError.{MethodError}
-use Rattle.mail_conditions.specs.declared.mailbox_condition.MailboxCondition.{MailboxCondition}
-use Rattle.mail_orders.specs.declared.comparators.EmailComparator.{EmailComparator}
-use Rattle.mail_orders.specs.declared.comparators.MailboxComparator.{MailboxComparator}
+use Rattle.jmap_arguments.specs.Ids.{email_letter, mailbox_letter}
+use Rattle.jmap_arguments.specs.declared.method_error.MethodError.{MethodError}
+use Rattle.query_conditions.specs.declared.mailbox_condition.MailboxCondition.{MailboxCondition}
+use Rattle.query_orders.specs.declared.comparators.EmailComparator.{EmailComparator}
+use Rattle.query_orders.specs.declared.comparators.MailboxComparator.{MailboxComparator}
 use Rattle.mail_state.specs.History.{MailHistory}
 use Rattle.query_arguments.specs.Asked.{QueryChangesMeant, email_query_changes_asked, mailbox_query_changes_asked}
 use Rattle.query_arguments.specs.declared.email_condition.EmailCondition.{EmailCondition}

@@ -3,8 +3,8 @@ use Rattle.std.specs.Prelude.{◌≡◌, ℕ, List, Result, Ok}
 use Rattle.serde_json.specs.Data.{Data}
 use Rattle.change_list.specs.Advance.{row_at}
 use Rattle.change_list.specs.History.{entries_of}
-use Rattle.jmap_methods.specs.Ids.{email_letter, mailbox_letter}
-use Rattle.jmap_methods.specs.declared.method_error.MethodError.{MethodError}
+use Rattle.jmap_arguments.specs.Ids.{email_letter, mailbox_letter}
+use Rattle.jmap_arguments.specs.declared.method_error.MethodError.{MethodError}
 use Rattle.mail_state.specs.History.{MailHistory}
 use Rattle.served_maps.specs.Past.{Past, had_at}
 use Rattle.query_arguments.specs.Asked.{ListMeant, QueryChangesMeant, email_query_changes_asked, mailbox_query_changes_asked}

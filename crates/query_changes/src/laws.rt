@@ -2,7 +2,7 @@
 ghost use Rattle.std.specs.Prelude.{◌≡◌, ◌<◌, ◌^◌, Ok, Result, length};
 ghost use Rattle.serde_json.specs.Data.{Data};
 ghost use Rattle.change_list.specs.History.{entries_of};
-ghost use Rattle.jmap_methods.specs.declared.method_error.MethodError.{MethodError};
+ghost use Rattle.jmap_arguments.specs.declared.method_error.MethodError.{MethodError};
 ghost use Rattle.mail_state.specs.History.{MailHistory};
 ghost use Rattle.served_maps.specs.Past.{IsPast};
 ghost use Rattle.query_changes.specs.Replies.{RepliesEmailQueryChanges, RepliesMailboxQueryChanges};

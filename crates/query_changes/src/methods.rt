@@ -2,8 +2,8 @@
 ghost use Rattle.std.specs.Prelude.{◌≡◌, false, IfOk};
 ghost use Rattle.serde_json.specs.View.{view};
 ghost use Rattle.serde_json.specs.Written.{has_float};
-ghost use Rattle.jmap_methods.specs.Outcome.{Agrees, Meets};
-ghost use Rattle.jmap_methods.specs.declared.method_error.MethodError.TheVariants.{Memory};
+ghost use Rattle.jmap_arguments.specs.Outcome.{Agrees, Meets};
+ghost use Rattle.jmap_arguments.specs.declared.method_error.MethodError.TheVariants.{Memory};
 ghost use Rattle.mail_state.specs.History.{MailHistory};
 ghost use Rattle.mail_state.specs.State.{IsStateOf};
 ghost use Rattle.query_arguments.specs.Asked.{changes_seen, email_query_changes_refused, mailbox_query_changes_refused};
@@ -12,14 +12,14 @@ ghost use Rattle.query_changes.specs.Splicing.{SplicesEmails, SplicesMailboxes};
 
 use crate::reply::reply;
 use crate::touched::touched_since;
-use jmap_methods::{EMAIL_LETTER, MAILBOX_LETTER, MethodError};
-use mail_conditions::MailboxCondition;
-use mail_orders::{EmailComparator, MailboxComparator};
+use jmap_arguments::{EMAIL_LETTER, MAILBOX_LETTER, MethodError};
 use mail_state::{MailState, MailType};
 use query_arguments::{
     AskedQueryChanges, EmailCondition, email_query_changes_asked, mailbox_query_changes_asked,
 };
+use query_conditions::MailboxCondition;
 use query_core::{email_numbers, mailbox_numbers, reads_record_alone};
+use query_orders::{EmailComparator, MailboxComparator};
 use serde_json::Value;
 use std::alloc::Global;
 

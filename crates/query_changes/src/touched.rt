@@ -1,11 +1,11 @@
 // What was touched since the state that is named.
 ghost use Rattle.std.specs.Prelude.{◌≡◌, ◌⊎◌, IfErr, IfOk};
-ghost use Rattle.jmap_methods.specs.declared.method_error.MethodError.TheVariants.{Memory};
+ghost use Rattle.jmap_arguments.specs.declared.method_error.MethodError.TheVariants.{Memory};
 ghost use Rattle.query_changes.specs.reading.Found.{FindsNone, TouchedSince};
 
 use change_list::{ChangeList, SinceError};
-use gate_world::Listed;
-use jmap_methods::{MethodError, State, read_place};
+use jmap_arguments::{MethodError, State, read_place};
+use octets::Listed;
 
 /// What was touched since a state of a type.
 #[derive(Drop)]

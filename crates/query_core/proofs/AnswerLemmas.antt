@@ -5,15 +5,15 @@ use Rattle.serde_json.specs.Data.{Data, Members, no_members, member}
 use Rattle.serde_json.specs.View.{items_of, view}
 use Rattle.serde_json.specs.Written.{has_float, items_have_float, members_have_float}
 use Rattle.serde_json.specs.declared.value.Value.{Value}
-use Rattle.jmap_methods.specs.Ids.{id_data, id_list}
-use Rattle.jmap_methods.specs.Outcome.{Agrees, Meets}
-use Rattle.jmap_methods.specs.declared.method_error.MethodError.{MethodError}
-use Rattle.jmap_methods.specs.declared.method_error.MethodError.TheVariants.{AnchorNotFound, Memory}
+use Rattle.jmap_arguments.specs.Ids.{id_data, id_list}
+use Rattle.jmap_arguments.specs.Outcome.{Agrees, Meets}
+use Rattle.jmap_arguments.specs.declared.method_error.MethodError.{MethodError}
+use Rattle.jmap_arguments.specs.declared.method_error.MethodError.TheVariants.{AnchorNotFound, Memory}
 use Rattle.change_list.specs.Kept.{Kept}
-use Rattle.jmap_methods.specs.State.{state_text}
+use Rattle.jmap_arguments.specs.State.{state_text}
 use Rattle.served_maps.specs.Past.{Past, StandsFor}
 use Rattle.mail_state.specs.History.{MailHistory}
-use Rattle.read_methods.specs.Replies.{type_state}
+use Rattle.served_types.specs.States.{type_state}
 use Rattle.change_list.proofs.HistoryLaws.{length-entries_from}
 use Rattle.query_lists.specs.Windows.{WindowPart}
 use Rattle.query_arguments.specs.Asked.{QueryMeant}

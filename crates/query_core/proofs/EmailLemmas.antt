@@ -4,11 +4,11 @@ use Rattle.std.specs.List.{AllByRecursion, list_any}
 use Rattle.std.specs.Ordering.{ordering_then}
 use Rattle.std.specs.declared.cmp.Ordering.{Ordering}
 use Rattle.mail_maps.specs.Serve.{Email}
-use Rattle.mail_orders.specs.Directions.{directed}
-use Rattle.mail_orders.specs.Emails.{cmp_by_property, email_cmp, sort_reads_thread}
-use Rattle.mail_orders.specs.declared.comparators.EmailComparator.{EmailComparator}
-use Rattle.mail_orders.specs.declared.comparators.EmailSort.{EmailSort}
-use Rattle.mail_orders.specs.declared.comparators.EmailSort.TheVariants as sort
+use Rattle.query_orders.specs.Directions.{directed}
+use Rattle.query_orders.specs.Emails.{cmp_by_property, email_cmp, sort_reads_thread}
+use Rattle.query_orders.specs.declared.comparators.EmailComparator.{EmailComparator}
+use Rattle.query_orders.specs.declared.comparators.EmailSort.{EmailSort}
+use Rattle.query_orders.specs.declared.comparators.EmailSort.TheVariants as sort
 use Rattle.query_arguments.specs.declared.email_condition.EmailCondition.{EmailCondition}
 use Rattle.query_arguments.specs.declared.email_condition.EmailCondition.TheVariants.{Record, Header, Thread}
 use Rattle.query_core.specs.Lists.{EmailMatches, has_condition, have_condition, reads_thread}

@@ -3,7 +3,7 @@ use Rattle.std.proofs.Common.{◌≡◌, ◌↔◌, inl, inr, ⊎_elim, ℕ, ◌
 use Rattle.std.proofs.Common.{get_or, drop, map, Bool, true, false, IsTrue, not, Option, None, Some, IfSome, refl, sym, ap, subst, ◌∙◌, drop_of_length-le}
 use Rattle.std.proofs.lemmas.List.{drop_more}
 use Rattle.std.specs.List.{AllByRecursion}
-use Rattle.mail_conditions.specs.declared.email_condition.RecordCondition.TheVariants.{InMailbox}
+use Rattle.query_conditions.specs.declared.email_condition.RecordCondition.TheVariants.{InMailbox}
 use Rattle.query_arguments.specs.FilterTrees.{filter_tree, trees_of}
 use Rattle.query_arguments.specs.declared.email_condition.EmailCondition.{EmailCondition}
 use Rattle.query_arguments.specs.declared.email_condition.EmailCondition.TheVariants.{Record}

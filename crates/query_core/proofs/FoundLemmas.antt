@@ -13,8 +13,8 @@ use Rattle.std.proofs.lemmas.Cmp.{nat_list_cmp_total, tied_itself}
 use Rattle.std.proofs.lemmas.Map.Text.{is_eq-slice_cmp}
 use Rattle.std.proofs.lemmas.Slice.Eq.{bytes_eq-Decides}
 use Rattle.mail_maps.specs.Serve.{Email}
-use Rattle.mail_conditions.specs.ThreadKeywords.{AreThreadsOf}
-use Rattle.mail_conditions.specs.declared.threads.KeywordThreads.{KeywordThreads}
+use Rattle.query_conditions.specs.ThreadKeywords.{AreThreadsOf}
+use Rattle.query_conditions.specs.declared.threads.KeywordThreads.{KeywordThreads}
 use Rattle.query_arguments.specs.declared.email_condition.EmailCondition.{EmailCondition}
 use Rattle.query_arguments.specs.declared.email_condition.EmailCondition.TheVariants.{Record, Header, Thread}
 use Rattle.query_lists.specs.Filters.{FilterTree, conditions, joined_by, FilterTrees, no_filters, filters}

@@ -8,7 +8,7 @@ use Rattle.mail_header.specs.Fields.{NameAndRaw, IsHeader, IsLastField, last_nam
 use Rattle.mail_header.specs.Lines.{unfolded}
 use Rattle.mail_header.specs.RawForms.{IsTextForm, raw_form}
 use Rattle.mail_header.proofs.FieldLemmas.{one_header}
-use Rattle.mail_conditions.specs.Words.{HasWords}
+use Rattle.query_conditions.specs.Words.{HasWords}
 use Rattle.query_lists.proofs.MemberLemmas.{IsMember, has_from}
 use Rattle.query_core.specs.Headers.{FieldHasWords, FieldsHaveWords, FieldsMatch, HeaderMatches, InField, NoField}
 

@@ -5,9 +5,9 @@ use Rattle.std.specs.List.Sorted.{IsStrictlySortedBy}
 use Rattle.change_list.specs.Advance.{row_at}
 use Rattle.served_maps.proofs.AmongLemmas.{AllIn, all_in, found_is}
 use Rattle.mail_maps.specs.Serve.{Email, ServedMailbox}
-use Rattle.mail_conditions.specs.Mailboxes.{MailboxMatches}
-use Rattle.mail_orders.specs.Emails.{email_cmp}
-use Rattle.mail_orders.specs.Mailboxes.{mailbox_cmp}
+use Rattle.query_conditions.specs.Mailboxes.{MailboxMatches}
+use Rattle.query_orders.specs.Emails.{email_cmp}
+use Rattle.query_orders.specs.Mailboxes.{mailbox_cmp}
 use Rattle.query_lists.specs.Filters.{PassesFilter}
 use Rattle.query_lists.specs.Ordered.{AscendByNumber, IsQueryList, numbers_of, row_cmp}
 use Rattle.query_lists.proofs.MemberLemmas.{IsMember, has_from, contains_from}

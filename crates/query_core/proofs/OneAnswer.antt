@@ -2,11 +2,11 @@
 use Rattle.std.proofs.Common.{◌≡◌, ◌↔◌, ℕ, List, Bool, Option, Some, None, Result, Ok, Err, Contains, refl, sym, ap, subst, ◌∙◌, Ordering}
 use Rattle.std.specs.Cmp.{IsTotalOrder}
 use Rattle.serde_json.specs.Data.{Data}
-use Rattle.jmap_methods.specs.declared.method_error.MethodError.{MethodError}
+use Rattle.jmap_arguments.specs.declared.method_error.MethodError.{MethodError}
 use Rattle.mail_maps.specs.Serve.{Email, ServedMailbox}
-use Rattle.mail_orders.specs.Emails.{email_cmp}
-use Rattle.mail_orders.specs.Mailboxes.{mailbox_cmp}
-use Rattle.mail_orders.proofs.OrderLaws.{email_total, mailbox_total}
+use Rattle.query_orders.specs.Emails.{email_cmp}
+use Rattle.query_orders.specs.Mailboxes.{mailbox_cmp}
+use Rattle.query_orders.proofs.OrderLaws.{email_total, mailbox_total}
 use Rattle.query_arguments.specs.Asked.{QueryMeant}
 use Rattle.query_lists.specs.Ordered.{IsQueryList, numbers_of}
 use Rattle.query_lists.specs.Windows.{WindowPart}

@@ -2,13 +2,13 @@
 use Rattle.std.specs.Prelude.{◌≡◌, ℕ, List, Bool, true, length, codes, if◌then◌else◌, Option, Some, None, option_map, Result, Ok, Err}
 use Rattle.std.specs.Option.{option_and_then}
 use Rattle.serde_json.specs.Data.{unsigned, Data, boolean, number, string, object, Members, no_members, member}
-use Rattle.jmap_methods.specs.Arguments.{account_id}
-use Rattle.jmap_methods.specs.Ids.{email_letter, mailbox_letter, id_list}
-use Rattle.jmap_methods.specs.declared.method_error.MethodError.{MethodError}
-use Rattle.jmap_methods.specs.declared.method_error.MethodError.TheVariants.{AnchorNotFound}
+use Rattle.jmap_arguments.specs.Arguments.{account_id}
+use Rattle.jmap_arguments.specs.Ids.{email_letter, mailbox_letter, id_list}
+use Rattle.jmap_arguments.specs.declared.method_error.MethodError.{MethodError}
+use Rattle.jmap_arguments.specs.declared.method_error.MethodError.TheVariants.{AnchorNotFound}
 use Rattle.mail_maps.specs.Serve.{Email, ServedMailbox}
 use Rattle.mail_state.specs.History.{MailHistory}
-use Rattle.read_methods.specs.Replies.{type_state}
+use Rattle.served_types.specs.States.{type_state}
 use Rattle.query_arguments.specs.Asked.{QueryMeant, email_query_asked, mailbox_query_asked}
 use Rattle.query_arguments.specs.Values.{number_of_id}
 use Rattle.query_arguments.specs.declared.asked.AskedPart.{AskedPart}

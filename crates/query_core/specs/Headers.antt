@@ -3,7 +3,7 @@ use Rattle.std.specs.Prelude.{◌≡◌, ◌≢◌, ℕ, List, [], true, Contain
 use Rattle.text_words.specs.Octets.{is_same_text}
 use Rattle.mail_header.specs.Fields.{NameAndRaw, IsHeader, last_named}
 use Rattle.mail_header.specs.RawForms.{IsTextForm}
-use Rattle.mail_conditions.specs.Words.{HasWords}
+use Rattle.query_conditions.specs.Words.{HasWords}
 
 -- the field is of the name, and each of the words stands in its text
 pub record FieldHasWords (name : List ℕ) (words : List (List ℕ)) (f : NameAndRaw) : Type 0 where

@@ -2,15 +2,15 @@
 use Rattle.std.specs.Prelude.{◌≡◌, ℕ, List, Bool, true, false, not, ◌&&◌, ◌||◌, map, if◌then◌else◌}
 use Rattle.std.specs.List.{list_any}
 use Rattle.mail_maps.specs.Serve.{Email, ServedMailbox}
-use Rattle.mail_conditions.specs.Mailboxes.{MailboxMatches}
-use Rattle.mail_conditions.specs.Records.{RecordMatches}
-use Rattle.mail_conditions.specs.ThreadKeywords.{ThreadMatches}
-use Rattle.mail_conditions.specs.declared.mailbox_condition.MailboxCondition.{MailboxCondition}
-use Rattle.mail_orders.specs.Emails.{email_cmp, sort_reads_thread}
-use Rattle.mail_orders.specs.Entries.{in_its_thread}
-use Rattle.mail_orders.specs.Mailboxes.{mailbox_cmp}
-use Rattle.mail_orders.specs.declared.comparators.EmailComparator.{EmailComparator}
-use Rattle.mail_orders.specs.declared.comparators.MailboxComparator.{MailboxComparator}
+use Rattle.query_conditions.specs.Mailboxes.{MailboxMatches}
+use Rattle.query_conditions.specs.Records.{RecordMatches}
+use Rattle.query_conditions.specs.ThreadKeywords.{ThreadMatches}
+use Rattle.query_conditions.specs.declared.mailbox_condition.MailboxCondition.{MailboxCondition}
+use Rattle.query_orders.specs.Emails.{email_cmp, sort_reads_thread}
+use Rattle.query_orders.specs.Entries.{in_its_thread}
+use Rattle.query_orders.specs.Mailboxes.{mailbox_cmp}
+use Rattle.query_orders.specs.declared.comparators.EmailComparator.{EmailComparator}
+use Rattle.query_orders.specs.declared.comparators.MailboxComparator.{MailboxComparator}
 use Rattle.query_core.specs.Headers.{HeaderMatches}
 use Rattle.query_arguments.specs.declared.email_condition.EmailCondition.{EmailCondition}
 use Rattle.query_arguments.specs.declared.email_condition.EmailCondition.TheVariants.{Record, Header, Thread}

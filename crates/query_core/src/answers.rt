@@ -2,13 +2,13 @@
 ghost use Rattle.std.specs.Prelude.{◌≡◌, ◌<◌, IfOk, OnOk, codes, length, if◌then◌else◌};
 ghost use Rattle.serde_json.specs.Data.{number, put as put_data, unsigned};
 ghost use Rattle.serde_json.specs.View.{view, members_view};
-ghost use Rattle.jmap_methods.specs.Outcome.{Agrees};
-ghost use Rattle.jmap_methods.specs.declared.method_error.MethodError.TheVariants.{Memory};
+ghost use Rattle.jmap_arguments.specs.Outcome.{Agrees};
+ghost use Rattle.jmap_arguments.specs.declared.method_error.MethodError.TheVariants.{Memory};
 ghost use Rattle.query_core.specs.Answers.{query_data};
 ghost use Rattle.query_core.specs.reading.ListAnswers.{list_answer};
 
 use crate::parts::part_of;
-use jmap_methods::{ACCOUNT_ID, MethodError, id_list, put_text};
+use jmap_arguments::{ACCOUNT_ID, MethodError, id_list, put_text};
 use query_arguments::AskedPart;
 use query_lists::Window;
 use serde_json::{Map, Value, put};

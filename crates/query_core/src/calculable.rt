@@ -1,14 +1,14 @@
 // Whether a query reads each record alone.
 ghost use Rattle.std.specs.Prelude.{◌≡◌, map};
 ghost use Rattle.std.specs.List.{list_any};
-ghost use Rattle.mail_orders.specs.Emails.{sort_reads_thread};
+ghost use Rattle.query_orders.specs.Emails.{sort_reads_thread};
 ghost use Rattle.query_arguments.specs.Asked.{list_seen};
 ghost use Rattle.query_arguments.specs.FilterTrees.{filter_tree, trees_of};
 ghost use Rattle.query_core.specs.Lists as lists;
 ghost use Rattle.query_core.specs.Lists.{has_condition, have_condition, reads_thread};
 
-use mail_orders::{EmailComparator, EmailSort};
 use query_arguments::{AskedList, EmailCondition, Filter};
+use query_orders::{EmailComparator, EmailSort};
 
 fn condition_reads_thread(condition: &EmailCondition) -> bool
     ensures { result ≡ reads_thread condition.now }

@@ -1,8 +1,8 @@
 // Emails that a filter takes.
 ghost use Rattle.std.specs.Prelude.{◌≡◌, IfOk, map};
 ghost use Rattle.std.specs.List.{AllByRecursion};
-ghost use Rattle.mail_conditions.specs.Entries.{emails_at};
-ghost use Rattle.mail_conditions.specs.Records.{RecordMatches};
+ghost use Rattle.query_conditions.specs.Entries.{emails_at};
+ghost use Rattle.query_conditions.specs.Records.{RecordMatches};
 ghost use Rattle.query_arguments.specs.FilterTrees.{filter_tree, trees_of};
 ghost use Rattle.query_lists.specs.Filters.{PassesEach, PassesFilter};
 ghost use Rattle.query_core.specs.Lists.{EmailMatches};
@@ -16,8 +16,8 @@ use crate::kept::keep_if;
 use crate::keyword_threads::{FoundThreads, threads_for};
 use crate::searched_fields::searches_again;
 use crate::text_search::having_words;
-use mail_conditions::{EmailEntry, RecordCondition, record_matches};
 use query_arguments::{EmailCondition, Filter};
+use query_conditions::{EmailEntry, RecordCondition, record_matches};
 use query_lists::FilterOperator;
 use std::alloc::{AllocError, Global};
 

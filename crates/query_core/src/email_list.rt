@@ -2,11 +2,11 @@
 ghost use Rattle.std.specs.Prelude.{◌≡◌, ◌∷◌, [], IfOk, IfSome, Some, map};
 ghost use Rattle.served_maps.specs.Past.{served};
 ghost use Rattle.mail_maps.specs.Serve.{Email, email_of};
-ghost use Rattle.mail_conditions.specs.Entries.{emails_at};
-ghost use Rattle.mail_conditions.specs.declared.email_condition.RecordCondition.TheVariants.{InMailbox};
+ghost use Rattle.query_conditions.specs.Entries.{emails_at};
+ghost use Rattle.query_conditions.specs.declared.email_condition.RecordCondition.TheVariants.{InMailbox};
 ghost use Rattle.mail_state.specs.History.{MailHistory};
 ghost use Rattle.mail_state.specs.State.{IsStateOf};
-ghost use Rattle.mail_orders.specs.Emails.{email_cmp};
+ghost use Rattle.query_orders.specs.Emails.{email_cmp};
 ghost use Rattle.query_arguments.specs.Asked.{list_seen};
 ghost use Rattle.query_arguments.specs.FilterTrees.{filter_tree};
 ghost use Rattle.query_arguments.specs.declared.email_condition.EmailCondition.TheVariants.{Record};
@@ -19,11 +19,11 @@ ghost use Rattle.query_core.specs.reading.Ordered.{AreNumbersAsked};
 
 use crate::calculable::sort_reads_threads;
 use crate::email_filter::taken;
-use mail_conditions::{EmailEntry, RecordCondition};
-use mail_orders::{EmailComparator, numbers_in_order, threads_in_order};
 use mail_state::{MailState, MailType};
 use query_arguments::{AskedList, EmailCondition, Filter};
+use query_conditions::{EmailEntry, RecordCondition};
 use query_lists::{GroupedRow, first_of_each};
+use query_orders::{EmailComparator, numbers_in_order, threads_in_order};
 use std::alloc::{AllocError, Global};
 
 /// All Emails, by number.

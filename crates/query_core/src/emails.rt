@@ -1,14 +1,14 @@
 // Emails as conditions test them.
 ghost use Rattle.std.specs.Prelude.{◌↔◌, IsTrue};
-ghost use Rattle.mail_conditions.specs.Entries.{email_at, emails_at};
-ghost use Rattle.mail_conditions.specs.ThreadKeywords.{ThreadMatches};
+ghost use Rattle.query_conditions.specs.Entries.{email_at, emails_at};
+ghost use Rattle.query_conditions.specs.ThreadKeywords.{ThreadMatches};
 ghost use Rattle.query_core.specs.reading.Found.{HasThreads};
 
 use crate::filter_walk::Tested;
 use crate::header_condition::header_matches;
 use crate::keyword_threads::{FoundThreads, threads_found};
-use mail_conditions::{EmailEntry, Quantity, record_matches, thread_matches};
 use query_arguments::EmailCondition;
+use query_conditions::{EmailEntry, Quantity, record_matches, thread_matches};
 use std::alloc::{AllocError, Global};
 
 /// An Email, all Emails, of which its Thread's are some, and what was found of their Threads.
@@ -32,7 +32,7 @@ fn thread_holds(tested: &TestedEmail<'_>, quantity: Quantity, keyword: &[u8]) ->
 }
 
 impl<'a> Tested<EmailCondition> for TestedEmail<'a> {
-    ghost use Rattle.mail_conditions.specs.Entries.{email_at, emails_at};
+    ghost use Rattle.query_conditions.specs.Entries.{email_at, emails_at};
     ghost use Rattle.query_core.specs.Lists.{EmailMatches};
     ghost use Rattle.query_core.specs.reading.Found.{KnowsThreads};
 

@@ -3,9 +3,9 @@ ghost use Rattle.std.specs.Prelude.{◌↔◌, ◌≡◌, IfOk, IsTrue, Some, sl
 ghost use Rattle.mail_header.specs.Fields.{NameAndRaw, names_and_raws};
 ghost use Rattle.query_core.specs.Headers.{FieldHasWords, HeaderMatches};
 
-use gate_world::Names;
-use mail_conditions::has_words;
 use mail_header::{Fields, as_text, fields, last_field};
+use octets::Names;
+use query_conditions::has_words;
 use std::alloc::{AllocError, Global};
 use text_words::same_text;
 

@@ -2,13 +2,13 @@
 ghost use Rattle.std.specs.Prelude.{◌≡◌, ◌++◌, IfOk, OnOk, map};
 ghost use Rattle.std.specs.List.{AllByRecursion};
 ghost use Rattle.std.specs.Option.{option_copied};
-ghost use Rattle.mail_conditions.specs.Entries.{emails_at};
+ghost use Rattle.query_conditions.specs.Entries.{emails_at};
 ghost use Rattle.query_arguments.specs.FilterTrees.{filter_tree, trees_of};
 ghost use Rattle.query_core.specs.reading.Found as reading;
 ghost use Rattle.query_core.specs.reading.Found.{EachCondition, HasThreads, KnowsThreads, keyword_asked, keywords_asked, keywords_of_all, keywords_of_each};
 
-use mail_conditions::{EmailEntry, KeywordThreads, keyword_threads};
 use query_arguments::{EmailCondition, Filter};
+use query_conditions::{EmailEntry, KeywordThreads, keyword_threads};
 use std::alloc::{AllocError, Global};
 use std::collections::BTreeMap;
 

@@ -1,7 +1,7 @@
 //! The laws of queries, as clauses of functions that do nothing.
 ghost use Rattle.std.specs.Prelude.{◌≡◌, ℕ, List, Result};
 ghost use Rattle.serde_json.specs.Data.{Data};
-ghost use Rattle.jmap_methods.specs.declared.method_error.MethodError.{MethodError};
+ghost use Rattle.jmap_arguments.specs.declared.method_error.MethodError.{MethodError};
 ghost use Rattle.mail_maps.specs.Serve.{Email, ServedMailbox};
 ghost use Rattle.mail_state.specs.History.{MailHistory};
 ghost use Rattle.query_core.specs.Answers.{RepliesEmailQuery, RepliesMailboxQuery};

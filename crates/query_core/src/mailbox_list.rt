@@ -2,8 +2,8 @@
 ghost use Rattle.std.specs.Prelude.{◌≡◌, IfOk};
 ghost use Rattle.served_maps.specs.Past.{served};
 ghost use Rattle.mail_maps.specs.Serve.{mailbox_of};
-ghost use Rattle.mail_conditions.specs.Mailboxes.{MailboxMatches};
-ghost use Rattle.mail_orders.specs.Entries.{mailboxes_at};
+ghost use Rattle.query_conditions.specs.Mailboxes.{MailboxMatches};
+ghost use Rattle.query_orders.specs.Entries.{mailboxes_at};
 ghost use Rattle.mail_state.specs.History.{MailHistory};
 ghost use Rattle.mail_state.specs.State.{IsStateOf};
 ghost use Rattle.query_arguments.specs.Asked.{list_seen};
@@ -16,14 +16,14 @@ ghost use Rattle.query_core.specs.reading.Kept.{Keeps};
 
 use crate::filter_walk::{Tested, takes};
 use crate::kept::keep_if;
-use mail_conditions::{MailboxCondition, mailbox_matches};
-use mail_orders::{MailboxComparator, MailboxEntry, sort_mailboxes};
 use mail_state::{MailState, MailType};
 use query_arguments::{AskedList, Filter};
+use query_conditions::{MailboxCondition, mailbox_matches};
+use query_orders::{MailboxComparator, MailboxEntry, sort_mailboxes};
 use std::alloc::{AllocError, Global};
 
 impl<'a> Tested<MailboxCondition> for MailboxEntry<'a> {
-    ghost use Rattle.mail_conditions.specs.Mailboxes.{MailboxMatches};
+    ghost use Rattle.query_conditions.specs.Mailboxes.{MailboxMatches};
     ghost use Rattle.mail_maps.specs.Serve.{mailbox_of};
 
     ghost Knows = { λ b c. Unit {0} };

@@ -3,7 +3,7 @@ ghost use Rattle.std.specs.Prelude.{◌≡◌, ◌<◌, option_map};
 ghost use Rattle.query_arguments.specs.Values as values;
 ghost use Rattle.query_core.specs.Answers as spec;
 
-use jmap_methods::read_id;
+use jmap_arguments::read_id;
 use query_arguments::AskedPart;
 use query_lists::{Window, WindowAsked, WindowStart, window_of};
 

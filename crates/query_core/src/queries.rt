@@ -2,8 +2,8 @@
 ghost use Rattle.std.specs.Prelude.{◌≡◌, false, IfOk};
 ghost use Rattle.serde_json.specs.View.{view};
 ghost use Rattle.serde_json.specs.Written.{has_float};
-ghost use Rattle.jmap_methods.specs.Outcome.{Agrees, Meets};
-ghost use Rattle.jmap_methods.specs.declared.method_error.MethodError.TheVariants.{Memory};
+ghost use Rattle.jmap_arguments.specs.Outcome.{Agrees, Meets};
+ghost use Rattle.jmap_arguments.specs.declared.method_error.MethodError.TheVariants.{Memory};
 ghost use Rattle.mail_state.specs.History.{MailHistory};
 ghost use Rattle.mail_state.specs.State.{IsStateOf};
 ghost use Rattle.query_arguments.specs.Asked.{email_query_refused, mailbox_query_refused};
@@ -13,11 +13,11 @@ use crate::answers::answer;
 use crate::calculable::reads_record_alone;
 use crate::email_list::email_numbers;
 use crate::mailbox_list::mailbox_numbers;
-use jmap_methods::{EMAIL_LETTER, MAILBOX_LETTER, MethodError};
+use jmap_arguments::{EMAIL_LETTER, MAILBOX_LETTER, MethodError};
 use mail_state::{MailState, MailType};
 use query_arguments::{AskedQuery, email_query_asked, mailbox_query_asked};
-use read_methods::type_text;
 use serde_json::Value;
+use served_types::type_text;
 use std::alloc::Global;
 
 /// The refusal of an Email/query by its arguments alone, which stands whatever mail there is.

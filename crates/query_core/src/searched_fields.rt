@@ -1,7 +1,7 @@
 // Which fields a filter searches.
 
-use mail_conditions::{RecordCondition, TextField};
 use query_arguments::{EmailCondition, Filter};
+use query_conditions::{RecordCondition, TextField};
 
 /// The fields of whose texts conditions speak.
 const FIELDS: [TextField; 5] = [

@@ -1,15 +1,15 @@
 // Emails whose texts have words.
 ghost use Rattle.std.specs.Prelude.{◌≡◌, List, ℕ, IfOk, length, map};
 ghost use Rattle.mail_maps.specs.Serve.{Email};
-ghost use Rattle.mail_conditions.specs.Entries.{email_at, emails_at};
-ghost use Rattle.mail_conditions.specs.Records as records;
-ghost use Rattle.mail_conditions.specs.Words.{HasWords};
+ghost use Rattle.query_conditions.specs.Entries.{email_at, emails_at};
+ghost use Rattle.query_conditions.specs.Records as records;
+ghost use Rattle.query_conditions.specs.Words.{HasWords};
 ghost use Rattle.query_core.specs.reading.Joined.{joined};
 ghost use Rattle.query_core.specs.reading.Kept.{Keeps};
 
 use crate::kept::keep_if;
-use gate_world::Names;
-use mail_conditions::{EmailEntry, TextField, field_text, has_words};
+use octets::Names;
+use query_conditions::{EmailEntry, TextField, field_text, has_words};
 use std::alloc::{AllocError, Global};
 
 /// The texts of a field, where they lie. The loop does nothing else, so that the processor reads several rows at a time.

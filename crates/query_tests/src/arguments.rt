@@ -1,15 +1,15 @@
 // What the arguments of queries ask.
 
-use gate_world::{Bytes, Names};
-use jmap_methods::MethodError;
-use mail_conditions::{MailboxCondition, Quantity, RecordCondition, TextField};
+use jmap_arguments::MethodError;
 use mail_maps::Role;
-use mail_orders::{EmailComparator, EmailSort, MailboxComparator, MailboxSort};
+use octets::{Bytes, Names};
 use query_arguments::{
     AskedList, AskedPart, AskedQuery, AskedQueryChanges, EmailCondition, Filter, email_query_asked,
     email_query_changes_asked, mailbox_query_asked, mailbox_query_changes_asked,
 };
+use query_conditions::{MailboxCondition, Quantity, RecordCondition, TextField};
 use query_lists::FilterOperator;
+use query_orders::{EmailComparator, EmailSort, MailboxComparator, MailboxSort};
 use serde_json::Value;
 use std::alloc::{AllocError, Global};
 

@@ -1,11 +1,11 @@
 // Which Emails a condition takes.
 use crate::mail::number;
-use gate_world::Bytes;
-use mail_conditions::{
+use mail_maps::EmailRow;
+use octets::Bytes;
+use query_conditions::{
     EmailEntry, Quantity, RecordCondition, TextField, keyword_threads, record_matches,
     thread_matches,
 };
-use mail_maps::EmailRow;
 use search_words::search_words;
 use std::alloc::{AllocError, Global};
 use std::collections::BTreeSet;

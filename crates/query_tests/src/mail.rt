@@ -1,6 +1,6 @@
 // Emails and Mailboxes that are written down as lines.
-use gate_world::{Bytes, Names, Text};
 use mail_maps::{EmailRow, MailboxRow, Rights, Role, read_envelope};
+use octets::{Bytes, Names, Text};
 use std::alloc::{AllocError, Global};
 use told_dialogues::first_word;
 

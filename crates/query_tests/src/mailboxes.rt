@@ -1,8 +1,8 @@
 // Which Mailboxes a condition takes.
 use crate::mail::role_of;
-use gate_world::Bytes;
-use mail_conditions::{MailboxCondition, mailbox_matches};
 use mail_maps::MailboxRow;
+use octets::Bytes;
+use query_conditions::{MailboxCondition, mailbox_matches};
 use std::alloc::{AllocError, Global};
 use told_dialogues::first_word;
 

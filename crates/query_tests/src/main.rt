@@ -13,8 +13,8 @@ mod mailboxes;
 mod orders;
 mod windows;
 
-use mail_conditions::has_word;
 use mail_maps::{EmailRow, MailboxRow};
+use query_conditions::has_word;
 use std::alloc::{AllocError, Global};
 use std::io;
 use told_dialogues::first_word;

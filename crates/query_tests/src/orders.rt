@@ -1,8 +1,8 @@
 // Emails and Mailboxes in order.
-use gate_world::Bytes;
-use mail_conditions::EmailEntry;
 use mail_maps::{EmailRow, MailboxRow};
-use mail_orders::{
+use octets::Bytes;
+use query_conditions::EmailEntry;
+use query_orders::{
     EmailComparator, EmailSort, MailboxComparator, MailboxEntry, MailboxSort, numbers_in_order,
     sort_mailboxes,
 };

@@ -1,5 +1,5 @@
 // Kinds of queries.
-use jmap_methods::MethodError;
+use jmap_arguments::MethodError;
 use mail_state::MailState;
 use query_changes::{email_query_changes, mailbox_query_changes};
 use query_core::{email_query, mailbox_query};

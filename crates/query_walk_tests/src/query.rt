@@ -2,7 +2,7 @@
 use crate::counts::Counts;
 use crate::kind::Kind;
 use crate::lists::{AnsweredList, changes_of, is_between, is_too_old, list_of, spliced};
-use jmap_methods::MethodError;
+use jmap_arguments::MethodError;
 use mail_state::MailState;
 use serde_json::{Value, put};
 use std::alloc::{AllocError, Global};

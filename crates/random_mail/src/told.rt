@@ -1,5 +1,5 @@
 // Mail that a store tells.
-use gate_world::{Bytes, Names};
+use octets::{Bytes, Names};
 use std::alloc::{AllocError, Global};
 use std::mem;
 use told_dialogues::{exchange_of, first_number, first_uid, first_word, octets_of};

@@ -14,11 +14,12 @@ use Rattle.change_list.specs.Kept.{Kept, IsOf}
 use Rattle.change_list.specs.declared.answer.Changes.{Changes}
 use Rattle.change_list.proofs.CopyLaws.{copies_follow, last_copy_is_map}
 use Rattle.change_list.proofs.HistoryLaws.{history_fits, length-entries_from}
-use Rattle.jmap_methods.specs.Outcome.{Meets}
-use Rattle.jmap_methods.specs.declared.method_error.MethodError.{MethodError}
-use Rattle.jmap_methods.specs.declared.method_error.MethodError.TheVariants.{Memory}
+use Rattle.jmap_arguments.specs.Outcome.{Meets}
+use Rattle.jmap_arguments.specs.declared.method_error.MethodError.{MethodError}
+use Rattle.jmap_arguments.specs.declared.method_error.MethodError.TheVariants.{Memory}
 use Rattle.served_maps.specs.Past.{Past, StandsFor, has_now, place_now}
-use Rattle.read_methods.specs.Changes.{ChangesAsked, IsPlaceOf, NamesNone, AnsweredChanges, changes_asked, changes_data, Further, AnswersChanges, Refused, NoSuchState, Answered}
+use Rattle.read_methods.specs.Changes.{ChangesAsked, AnsweredChanges, changes_asked, changes_data, Further, AnswersChanges, Refused, NoSuchState, Answered}
+use Rattle.served_types.specs.States.{IsPlaceOf, NamesNone}
 use Rattle.read_methods.specs.Copies.{BringsUpToDate}
 use Rattle.read_methods.specs.reading.Found.{FindsChanges, FoundSince, Finds, AnswersFound, reply_of}
 use Rattle.read_methods.specs.reading.Found as reading

@@ -7,10 +7,10 @@ use Rattle.change_list.specs.Touches.{AreTouches}
 use Rattle.change_list.specs.declared.answer.Changes.{Changes}
 use Rattle.change_list.specs.declared.entries.Entry.{Entry}
 use Rattle.change_list.specs.declared.list.TheConstants.{MAX_PLACE}
-use Rattle.jmap_methods.specs.State.{state_text}
-use Rattle.jmap_methods.specs.declared.method_error.MethodError.{MethodError}
-use Rattle.jmap_methods.specs.declared.method_error.MethodError.TheVariants.{Memory, CannotCalculateChanges}
-use Rattle.jmap_methods.specs.declared.state.State.{State}
+use Rattle.jmap_arguments.specs.State.{state_text}
+use Rattle.jmap_arguments.specs.declared.method_error.MethodError.{MethodError}
+use Rattle.jmap_arguments.specs.declared.method_error.MethodError.TheVariants.{Memory, CannotCalculateChanges}
+use Rattle.jmap_arguments.specs.declared.state.State.{State}
 use Rattle.read_methods.specs.Changes.{ChangesAsked, changes_asked, changes_members, Further}
 use Rattle.read_methods.specs.reading.Found.{Finds, Refuses, NamesNothing, InKept, AnswersFound}
 

@@ -4,14 +4,12 @@ use Rattle.std.proofs.Common.{subst}
 use Rattle.std.specs.BTreeMap.{is_at}
 use Rattle.std.specs.List.Sorted.{IsStrictlySortedBy}
 use Rattle.std.specs.Map.{lookup, keys_of}
-use Rattle.std.specs.Result.{IfOk}
 use Rattle.serde_json.specs.Data.{Data, string}
-use Rattle.jmap_methods.specs.Gets.{GetAsked, NumbersAsked, FoundObjects, shown_as, numbers_asked, found_in, get_data, get_answer, get_answered}
-use Rattle.jmap_methods.specs.State.{state_text}
-use Rattle.jmap_methods.specs.declared.method_error.MethodError.{MethodError}
-use Rattle.jmap_methods.specs.declared.method_error.MethodError.TheVariants.{Memory}
-use Rattle.jmap_methods.proofs.GetLemmas.{at_numbers, found_by_numbers, refused_by_numbers}
-use Rattle.jmap_methods.proofs.IdLemmas.{found_is}
+use Rattle.jmap_arguments.specs.Gets.{GetAsked, NumbersAsked, FoundObjects, shown_as, numbers_asked, found_in, get_data, get_answer, get_answered}
+use Rattle.jmap_arguments.specs.declared.method_error.MethodError.{MethodError}
+use Rattle.jmap_arguments.specs.declared.method_error.MethodError.TheVariants.{Memory}
+use Rattle.jmap_arguments.proofs.GetLemmas.{at_numbers, found_by_numbers, refused_by_numbers}
+use Rattle.jmap_arguments.proofs.IdLemmas.{found_is}
 use Rattle.served_maps.specs.Past.{served}
 
 module _ {R V : Type 0} (serve : R → V) (show : ℕ × V → Data) where
@@ -44,14 +42,6 @@ module _ {R V : Type 0} (serve : R → V) (show : ℕ × V → Data) where
   keys_of_objects (e ∷ es) = ap (λ (ks : List ℕ). e.0 ∷ ks) (keys_of_objects es)
 
 -- ---- answers
-
--- the text of a state, from its parts
-pub state_named : {T E : Type 0} (see : T → List ℕ) (r : Result T E) (e p epoch place : ℕ) → e ≡ epoch → p ≡ place
-    → IfOk r (λ text. see text ≡ state_text (record { epoch = e; place = p })) → IfOk r (λ text. see text ≡ state_text (record { epoch = epoch; place = place }))
-state_named see r e p epoch place epoch_is place_is is =
-    let P : ℕ → Type 0 = λ n. IfOk r (λ text. see text ≡ state_text (record { epoch = n; place = place })) in
-    let Q : ℕ → Type 0 = λ n. IfOk r (λ text. see text ≡ state_text (record { epoch = e; place = n })) in
-    subst P epoch_is (subst Q place_is is)
 
 module _ {W : Type 0} (letter : ℕ) (state : List ℕ) (objects : W → List (ℕ × Data)) (asked : Result (GetAsked W) MethodError) where
   -- what is asked of the objects is answered

@@ -6,9 +6,10 @@ use Rattle.change_list.specs.Changes.{IsChanges}
 use Rattle.change_list.specs.declared.answer.Changes.{Changes}
 use Rattle.change_list.specs.declared.entries.Entry.{Entry}
 use Rattle.change_list.proofs.AnswerLaws.{one_answer}
-use Rattle.jmap_methods.specs.declared.method_error.MethodError.{MethodError}
-use Rattle.jmap_methods.proofs.StateParts.{one_place}
-use Rattle.read_methods.specs.Changes.{ChangesAsked, IsPlaceOf, NamesNone, AnsweredChanges, changes_data, Further, AnswersChanges, Refused, NoSuchState, Answered}
+use Rattle.jmap_arguments.specs.declared.method_error.MethodError.{MethodError}
+use Rattle.jmap_arguments.proofs.StateParts.{one_place}
+use Rattle.read_methods.specs.Changes.{ChangesAsked, AnsweredChanges, changes_data, Further, AnswersChanges, Refused, NoSuchState, Answered}
+use Rattle.served_types.specs.States.{IsPlaceOf, NamesNone}
 
 abbrev Asking : Type 0
 Asking = Result ChangesAsked MethodError

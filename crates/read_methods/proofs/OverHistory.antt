@@ -6,13 +6,13 @@ use Rattle.serde_json.specs.declared.value.Value.{Value}
 use Rattle.change_list.specs.Kept.{Kept, IsOf}
 use Rattle.change_list.specs.History.{entries_of}
 use Rattle.change_list.proofs.HistoryLaws.{length-entries_from}
-use Rattle.jmap_methods.specs.Outcome.{Agrees}
-use Rattle.jmap_methods.specs.State.{state_text}
-use Rattle.jmap_methods.specs.declared.method_error.MethodError.{MethodError}
-use Rattle.jmap_methods.specs.declared.method_error.MethodError.TheVariants.{Memory}
+use Rattle.jmap_arguments.specs.Outcome.{Agrees}
+use Rattle.jmap_arguments.specs.State.{state_text}
+use Rattle.jmap_arguments.specs.declared.method_error.MethodError.{MethodError}
+use Rattle.jmap_arguments.specs.declared.method_error.MethodError.TheVariants.{Memory}
 use Rattle.served_maps.specs.Past.{Past, StandsFor, served, place_now}
 use Rattle.mail_state.specs.History.{MailHistory}
-use Rattle.read_methods.specs.Replies.{type_state}
+use Rattle.served_types.specs.States.{type_state}
 
 module _ {R V : Type 0} (serve : R → V) (rows : List (ℕ × R)) (list : Kept) where
   -- a list has the place of what it stands for

@@ -6,8 +6,8 @@ use Rattle.serde_json.specs.Data.{Data, Members, no_members, member, put}
 use Rattle.serde_json.specs.View.{items_of}
 use Rattle.serde_json.specs.Written.{has_float, items_have_float, members_have_float}
 use Rattle.change_list.specs.declared.answer.Changes.{Changes}
-use Rattle.jmap_methods.specs.Ids.{id_data, id_list}
-use Rattle.jmap_methods.proofs.GetLemmas.{AreWhole}
+use Rattle.jmap_arguments.specs.Ids.{id_data, id_list}
+use Rattle.jmap_arguments.proofs.GetLemmas.{AreWhole}
 use Rattle.mail_maps.specs.Serve.{ServedMailbox}
 use Rattle.mail_maps.specs.declared.row.Role.{Role}
 use Rattle.read_methods.specs.Changes.{changes_data, Further, no_further, names_if, updated_properties}

@@ -1,17 +1,17 @@
 -- What a /changes asks and answers (RFC 8620 section 5.2, RFC 8621 sections 2.2, 3.2 and 4.3).
-use Rattle.std.specs.Prelude.{◌≡◌, ℕ, ◌≤◌, nat_lt, Bool, List, [], ◌∷◌, map, length, if◌then◌else◌, codes, Option, Result, Ok, Err}
+use Rattle.std.specs.Prelude.{◌≡◌, ℕ, nat_lt, Bool, List, [], ◌∷◌, map, if◌then◌else◌, codes, Option, Result, Ok, Err}
 use Rattle.serde_json.specs.Data.{Data, null, boolean, string, array, object, Members, no_members, member}
 use Rattle.serde_json.specs.View.{items_of}
 use Rattle.change_list.specs.Changes.{IsChanges}
-use Rattle.change_list.specs.Kept.{front_of}
 use Rattle.change_list.specs.declared.answer.Changes.{Changes}
 use Rattle.change_list.specs.declared.entries.Entry.{Entry}
-use Rattle.jmap_methods.specs.Arguments.{text_at, most_at, account_id, account_check}
-use Rattle.jmap_methods.specs.Ids.{id_list}
-use Rattle.jmap_methods.specs.State.{state_text}
-use Rattle.jmap_methods.specs.Outcome.{refusal_of}
-use Rattle.jmap_methods.specs.declared.method_error.MethodError.{MethodError}
-use Rattle.jmap_methods.specs.declared.method_error.MethodError.TheVariants.{CannotCalculateChanges}
+use Rattle.jmap_arguments.specs.Arguments.{text_at, most_at, account_id, account_check}
+use Rattle.jmap_arguments.specs.Ids.{id_list}
+use Rattle.jmap_arguments.specs.State.{state_text}
+use Rattle.jmap_arguments.specs.Outcome.{refusal_of}
+use Rattle.jmap_arguments.specs.declared.method_error.MethodError.{MethodError}
+use Rattle.jmap_arguments.specs.declared.method_error.MethodError.TheVariants.{CannotCalculateChanges}
+use Rattle.served_types.specs.States.{IsPlaceOf, NamesNone, newest_place}
 
 -- ---- what is asked, or the first refusal: the arguments' kinds, the account
 
@@ -36,22 +36,7 @@ changes_asked d = changes_from (text_at (codes "accountId") d) (text_at (codes "
 abbrev pub changes_refused : Data → Result (Unit {0}) MethodError
 changes_refused d = refusal_of (changes_asked d)
 
--- ---- the state that is named
-
--- the text is that of a place whose later changes are all kept
-pub record IsPlaceOf (epoch last : ℕ) (text : List ℕ) (place : ℕ) : Type 0 where
-  pub text_is : text ≡ state_text (record { epoch = epoch; place = place })
-  pub from_front : front_of last ≤ place
-  pub to_last : place ≤ last
-
-abbrev pub NamesNone : ℕ → ℕ → List ℕ → Type 0
-NamesNone epoch last text = (place : ℕ) → IsPlaceOf epoch last text place → ⊥
-
 -- ---- the answer, over the touches of a type
-
--- the place to which the touches lead
-abbrev pub newest_place : List Entry → ℕ
-newest_place h = length h
 
 -- the place that is named, and what changed after it
 pub record AnsweredChanges (epoch : ℕ) (h : List Entry) (asked : ChangesAsked) : Type 0 where

@@ -2,20 +2,20 @@
 use Rattle.std.specs.Prelude.{ℕ, List, [], ◌∷◌, Bool, if◌then◌else◌, bytes_eq, codes, Option, Some, None, Result, Ok, Err}
 use Rattle.std.specs.List.{filter, list_all, list_any}
 use Rattle.serde_json.specs.Data.{unsigned, Data, null, boolean, number, string, object, Members, no_members, member, put}
-use Rattle.jmap_methods.specs.Arguments.{texts_at, is_among}
-use Rattle.jmap_methods.specs.Gets.{GetAsked, get_asked, shown_as, get_answered}
-use Rattle.jmap_methods.specs.Ids.{mailbox_letter, id_data}
-use Rattle.jmap_methods.specs.Outcome.{refusal_of}
-use Rattle.jmap_methods.specs.declared.method_error.MethodError.{MethodError}
-use Rattle.jmap_methods.specs.declared.method_error.MethodError.TheVariants.{InvalidArguments}
+use Rattle.jmap_arguments.specs.Arguments.{texts_at, is_among}
+use Rattle.jmap_arguments.specs.Gets.{GetAsked, get_asked, shown_as, get_answered}
+use Rattle.jmap_arguments.specs.Ids.{mailbox_letter, id_data}
+use Rattle.jmap_arguments.specs.Outcome.{refusal_of}
+use Rattle.jmap_arguments.specs.declared.method_error.MethodError.{MethodError}
+use Rattle.jmap_arguments.specs.declared.method_error.MethodError.TheVariants.{InvalidArguments}
 use Rattle.mail_maps.specs.Serve.{ServedMailbox}
 use Rattle.mail_maps.specs.declared.row.Role.{Role}
-use Rattle.mail_maps.specs.declared.row.Role.TheVariants as role
 use Rattle.mail_maps.specs.declared.row.Rights.{Rights}
 use Rattle.read_methods.specs.declared.mailbox_property.MailboxProperty.{MailboxProperty}
 use Rattle.read_methods.specs.declared.mailbox_property.MailboxProperty.TheVariants.{Id, Name, ParentId, SortOrder, TotalEmails}
 use Rattle.read_methods.specs.declared.mailbox_property.MailboxProperty.TheVariants.{UnreadEmails, TotalThreads, UnreadThreads, MyRights, IsSubscribed}
 use Rattle.read_methods.specs.declared.mailbox_property.MailboxProperty.TheVariants as property
+use Rattle.served_types.specs.Roles.{role_name}
 
 -- ---- properties
 
@@ -48,16 +48,6 @@ those_named properties names = filter (λ p. is_among (property_name p) names) p
 abbrev pub parent_data : Option ℕ → Data
 parent_data None = null
 parent_data (Some parent) = id_data mailbox_letter parent
-
-abbrev pub role_name : Role → List ℕ
-role_name role.Inbox = codes "inbox"
-role_name role.All = codes "all"
-role_name role.Archive = codes "archive"
-role_name role.Drafts = codes "drafts"
-role_name role.Flagged = codes "flagged"
-role_name role.Junk = codes "junk"
-role_name role.Sent = codes "sent"
-role_name role.Trash = codes "trash"
 
 abbrev pub role_data : Option Role → Data
 role_data None = null

@@ -1,20 +1,15 @@
 -- What the methods answer over what has become of the mail (RFC 8621 sections 2.1, 2.2, 3.1, 3.2 and 4.3).
-use Rattle.std.specs.Prelude.{ℕ, List, Result}
+use Rattle.std.specs.Prelude.{Result}
 use Rattle.serde_json.specs.Data.{Data}
 use Rattle.change_list.specs.History.{entries_of}
-use Rattle.jmap_methods.specs.Ids.{mailbox_letter, thread_letter, email_letter}
-use Rattle.jmap_methods.specs.State.{state_text}
-use Rattle.jmap_methods.specs.declared.method_error.MethodError.{MethodError}
+use Rattle.jmap_arguments.specs.Ids.{mailbox_letter, thread_letter, email_letter}
+use Rattle.jmap_arguments.specs.declared.method_error.MethodError.{MethodError}
 use Rattle.mail_state.specs.History.{MailHistory}
-use Rattle.served_maps.specs.Past.{Past, place_now}
 use Rattle.read_methods.specs.Changes.{AnswersChanges, no_further, updated_properties}
 use Rattle.read_methods.specs.Copies.{BringsUpToDate}
 use Rattle.read_methods.specs.Mailboxes.{mailboxes_answer}
 use Rattle.read_methods.specs.Threads.{threads_answer}
-
--- the state of a type: the epoch, and how often the type changed in it
-abbrev pub type_state : {V : Type 0} → MailHistory → Past V → List ℕ
-type_state h p = state_text (record { epoch = h.epoch; place = place_now p })
+use Rattle.served_types.specs.States.{type_state}
 
 abbrev pub mailbox_get_reply : MailHistory → Data → Result Data MethodError
 mailbox_get_reply h d = mailboxes_answer (type_state h h.mailboxes) h.mailboxes.now d

@@ -2,12 +2,12 @@
 use Rattle.std.specs.Prelude.{ℕ, List, Bool, true, ◌||◌, if◌then◌else◌, bytes_eq, codes, Option, Some, None, Result, Ok, Err}
 use Rattle.std.specs.List.{list_all}
 use Rattle.serde_json.specs.Data.{Data, object, Members, no_members, put}
-use Rattle.jmap_methods.specs.Arguments.{texts_at, is_among}
-use Rattle.jmap_methods.specs.Gets.{GetAsked, get_asked, shown_as, get_answered}
-use Rattle.jmap_methods.specs.Ids.{thread_letter, email_letter, id_data, id_list}
-use Rattle.jmap_methods.specs.Outcome.{refusal_of}
-use Rattle.jmap_methods.specs.declared.method_error.MethodError.{MethodError}
-use Rattle.jmap_methods.specs.declared.method_error.MethodError.TheVariants.{InvalidArguments}
+use Rattle.jmap_arguments.specs.Arguments.{texts_at, is_among}
+use Rattle.jmap_arguments.specs.Gets.{GetAsked, get_asked, shown_as, get_answered}
+use Rattle.jmap_arguments.specs.Ids.{thread_letter, email_letter, id_data, id_list}
+use Rattle.jmap_arguments.specs.Outcome.{refusal_of}
+use Rattle.jmap_arguments.specs.declared.method_error.MethodError.{MethodError}
+use Rattle.jmap_arguments.specs.declared.method_error.MethodError.TheVariants.{InvalidArguments}
 
 abbrev pub is_thread_property : List ℕ → Bool
 is_thread_property name = bytes_eq name (codes "id") || bytes_eq name (codes "emailIds")

@@ -3,10 +3,10 @@ ghost use Rattle.std.specs.Prelude.{◌≡◌, ◌<◌, false, IfOk, OnOk};
 ghost use Rattle.serde_json.specs.Data.{put as put_data, string, no_members};
 ghost use Rattle.serde_json.specs.View.{view, members_view};
 ghost use Rattle.serde_json.specs.Written.{has_float};
-ghost use Rattle.jmap_methods.specs.Ids.{mailbox_letter, id_list as ids_data};
-ghost use Rattle.jmap_methods.specs.Outcome.{IsJust, Meets};
-ghost use Rattle.jmap_methods.specs.State.{state_text as text_of_state};
-ghost use Rattle.jmap_methods.specs.declared.method_error.MethodError.TheVariants.{Memory};
+ghost use Rattle.jmap_arguments.specs.Ids.{mailbox_letter, id_list as ids_data};
+ghost use Rattle.jmap_arguments.specs.Outcome.{IsJust, Meets};
+ghost use Rattle.jmap_arguments.specs.State.{state_text as text_of_state};
+ghost use Rattle.jmap_arguments.specs.declared.method_error.MethodError.TheVariants.{Memory};
 ghost use Rattle.mail_state.specs.History.{MailHistory};
 ghost use Rattle.mail_state.specs.LookUps.{touches_kept};
 ghost use Rattle.mail_state.specs.State.{IsStateOf};
@@ -16,7 +16,7 @@ ghost use Rattle.read_methods.specs.Replies.{RepliesMailboxChanges, RepliesThrea
 ghost use Rattle.read_methods.specs.reading.Found.{Finds, AnswersFound};
 
 use change_list::{ChangeList, Changes, SinceError};
-use jmap_methods::{
+use jmap_arguments::{
     ACCOUNT_ID, EMAIL_LETTER, MAILBOX_LETTER, MethodError, State, THREAD_LETTER, check_account,
     id_list, most_or_null, put_text, read_place, state_text, text_at,
 };

@@ -2,7 +2,7 @@
 ghost use Rattle.std.specs.Prelude.{◌≡◌, ◌<◌, ◌^◌, ℕ, List, Result, Ok, length};
 ghost use Rattle.serde_json.specs.Data.{Data};
 ghost use Rattle.change_list.specs.declared.entries.Entry.{Entry};
-ghost use Rattle.jmap_methods.specs.declared.method_error.MethodError.{MethodError};
+ghost use Rattle.jmap_arguments.specs.declared.method_error.MethodError.{MethodError};
 ghost use Rattle.mail_state.specs.History.{MailHistory};
 ghost use Rattle.read_methods.specs.Changes.{Further, AnswersChanges};
 ghost use Rattle.read_methods.specs.Replies.{RepliesMailboxChanges, RepliesThreadChanges, RepliesEmailChanges, UpdatesMailboxes, UpdatesThreads, UpdatesEmails};

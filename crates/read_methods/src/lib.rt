@@ -10,7 +10,6 @@ mod mailbox_values;
 mod changes;
 mod mailboxes;
 mod threads;
-mod types;
 
 // Laws.
 pub mod laws;
@@ -19,4 +18,3 @@ pub use changes::{check_changes, email_changes, mailbox_changes, thread_changes}
 pub use mailbox_property::MailboxProperty;
 pub use mailboxes::{check_mailbox_get, mailbox_get};
 pub use threads::{check_thread_get, thread_get};
-pub use types::{TypeNumbers, type_text};

@@ -4,7 +4,7 @@ ghost use Rattle.std.specs.List.{list_all};
 ghost use Rattle.read_methods.specs.Mailboxes as spec;
 ghost use Rattle.read_methods.specs.Mailboxes.{mailbox_properties, property_name};
 
-use jmap_methods::is_among;
+use jmap_arguments::is_among;
 use std::alloc::{AllocError, Global};
 
 /// A property of a Mailbox (RFC 8621 section 2).

@@ -3,12 +3,13 @@ ghost use Rattle.std.specs.Prelude.{◌≡◌, ◌∷◌, [], IfOk, OnOk};
 ghost use Rattle.serde_json.specs.View.{view, members_view};
 ghost use Rattle.mail_maps.specs.Serve.{mailbox_of};
 ghost use Rattle.read_methods.specs.Mailboxes as spec;
-ghost use Rattle.read_methods.specs.Mailboxes.{parent_data, role_data, role_name, rights_data};
+ghost use Rattle.read_methods.specs.Mailboxes.{parent_data, role_data, rights_data};
 
 use crate::mailbox_property::{MailboxProperty, name_of};
-use jmap_methods::{MAILBOX_LETTER, id_value};
+use jmap_arguments::{MAILBOX_LETTER, id_value};
 use mail_maps::{MailboxRow, Rights, Role};
 use serde_json::{Map, Value, json, put};
+use served_types::role_text;
 use std::alloc::{AllocError, Global};
 
 fn parent_value(alloc: Global, parent: Option<u64>) -> Result<Value, AllocError>
@@ -17,21 +18,6 @@ fn parent_value(alloc: Global, parent: Option<u64>) -> Result<Value, AllocError>
     match parent {
         None => Ok(Value::Null),
         Some(number) => id_value(alloc, MAILBOX_LETTER, number),
-    }
-}
-
-fn role_text(role: Role) -> &'static str
-    ensures { result.now ≡ role_name role }
-{
-    match role {
-        Role::Inbox => "inbox",
-        Role::All => "all",
-        Role::Archive => "archive",
-        Role::Drafts => "drafts",
-        Role::Flagged => "flagged",
-        Role::Junk => "junk",
-        Role::Sent => "sent",
-        Role::Trash => "trash",
     }
 }
 

@@ -6,10 +6,10 @@ ghost use Rattle.std.specs.Map.{lookup};
 ghost use Rattle.std.specs.Ordering.{nat_cmp};
 ghost use Rattle.serde_json.specs.View.{view};
 ghost use Rattle.serde_json.specs.Written.{has_float};
-ghost use Rattle.jmap_methods.specs.Arguments.{texts_at};
-ghost use Rattle.jmap_methods.specs.Outcome.{Agrees};
-ghost use Rattle.jmap_methods.specs.State.{state_text as text_of_state};
-ghost use Rattle.jmap_methods.specs.declared.method_error.MethodError.TheVariants.{Memory};
+ghost use Rattle.jmap_arguments.specs.Arguments.{texts_at};
+ghost use Rattle.jmap_arguments.specs.Outcome.{Agrees};
+ghost use Rattle.jmap_arguments.specs.State.{state_text as text_of_state};
+ghost use Rattle.jmap_arguments.specs.declared.method_error.MethodError.TheVariants.{Memory};
 ghost use Rattle.served_maps.specs.Past.{served};
 ghost use Rattle.mail_maps.specs.Serve.{mailbox_of};
 ghost use Rattle.mail_state.specs.History.{MailHistory};
@@ -20,13 +20,13 @@ ghost use Rattle.read_methods.specs.Replies.{mailbox_get_reply};
 
 use crate::mailbox_property::{MailboxProperty, all_properties, are_names_in, those_named};
 use crate::mailbox_values::mailbox_value;
-use crate::types::{TypeNumbers, type_text};
-use jmap_methods::{
+use jmap_arguments::{
     AskedNumbers, MAILBOX_LETTER, MethodError, asked_numbers, check_account, check_count,
     count_of_ids, get_value, text_at, texts_or_null,
 };
 use mail_state::{MailState, MailType};
 use serde_json::Value;
+use served_types::{TypeNumbers, type_text};
 use std::alloc::{AllocError, Global};
 
 /// What a call asks.

@@ -6,10 +6,10 @@ ghost use Rattle.std.specs.Map.{lookup};
 ghost use Rattle.std.specs.Ordering.{nat_cmp};
 ghost use Rattle.serde_json.specs.View.{view};
 ghost use Rattle.serde_json.specs.Written.{has_float};
-ghost use Rattle.jmap_methods.specs.Arguments.{texts_at};
-ghost use Rattle.jmap_methods.specs.Outcome.{Agrees};
-ghost use Rattle.jmap_methods.specs.State.{state_text as text_of_state};
-ghost use Rattle.jmap_methods.specs.declared.method_error.MethodError.TheVariants.{Memory};
+ghost use Rattle.jmap_arguments.specs.Arguments.{texts_at};
+ghost use Rattle.jmap_arguments.specs.Outcome.{Agrees};
+ghost use Rattle.jmap_arguments.specs.State.{state_text as text_of_state};
+ghost use Rattle.jmap_arguments.specs.declared.method_error.MethodError.TheVariants.{Memory};
 ghost use Rattle.served_maps.specs.Past.{served};
 ghost use Rattle.mail_maps.specs.Serve.{thread_of};
 ghost use Rattle.mail_state.specs.History.{MailHistory};
@@ -18,13 +18,13 @@ ghost use Rattle.read_methods.specs.Replies.{thread_get_reply};
 ghost use Rattle.read_methods.specs.Threads as spec;
 ghost use Rattle.read_methods.specs.Threads.{is_thread_property, thread_objects, threads_answer};
 
-use crate::types::{TypeNumbers, type_text};
-use jmap_methods::{
+use jmap_arguments::{
     AskedNumbers, EMAIL_LETTER, MethodError, THREAD_LETTER, asked_numbers, check_account,
     check_count, count_of_ids, get_value, id_list, id_value, is_among, text_at, texts_or_null,
 };
 use mail_state::{MailState, MailType};
 use serde_json::{Map, Value, put};
+use served_types::{TypeNumbers, type_text};
 use std::alloc::{AllocError, Global};
 
 /// What a call asks.

@@ -15,12 +15,12 @@ use Rattle.serde_json.specs.Find.{get_member}
 use Rattle.serde_json.specs.View.{members_view}
 use Rattle.serde_json.specs.Written.{compact_text}
 use Rattle.serde_json.proofs.Views.{Entry, get_member-put_other}
-use Rattle.jmap_methods.specs.declared.method_error.MethodError.TheVariants.{InvalidResultReference, RequestTooLarge}
+use Rattle.jmap_arguments.specs.declared.method_error.MethodError.TheVariants.{InvalidResultReference, RequestTooLarge}
 use Rattle.result_references.specs.Call.{CallData}
 use Rattle.result_references.specs.References.{Source, referring, is_proper, are_proper, reference_in, resolved_member, resolved_to, source_of, value_at}
 use Rattle.result_references.specs.References.{has_reference, walked, octets_of, resolved_object, within_limit, resolved_if_within}
 use Rattle.result_references.specs.reading.Counting.{Counts, member_octets, stands_for, all_stand, source_octets, octets_for, resolved_octets}
-use Rattle.result_references.specs.declared.octets.TheConstants.{MAX_RESOLVED_OCTETS}
+use Rattle.result_references.specs.declared.counted_octets.TheConstants.{MAX_RESOLVED_OCTETS}
 use Rattle.result_references.proofs.TextLengths.{octets-at, object_octets}
 
 -- ---- whether all can be resolved

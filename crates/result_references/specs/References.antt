@@ -7,9 +7,9 @@ use Rattle.serde_json.specs.Data.{Data, null, boolean, number, string, array, ob
 use Rattle.serde_json.specs.Find.{get, pointer, as_str, as_array, as_object}
 use Rattle.serde_json.specs.Written.{compact_text}
 use Rattle.result_references.specs.Call.{CallData}
-use Rattle.jmap_methods.specs.declared.method_error.MethodError.{MethodError}
-use Rattle.jmap_methods.specs.declared.method_error.MethodError.TheVariants.{InvalidArguments, InvalidResultReference, RequestTooLarge}
-use Rattle.result_references.specs.declared.octets.TheConstants.{MAX_RESOLVED_OCTETS}
+use Rattle.jmap_arguments.specs.declared.method_error.MethodError.{MethodError}
+use Rattle.jmap_arguments.specs.declared.method_error.MethodError.TheVariants.{InvalidArguments, InvalidResultReference, RequestTooLarge}
+use Rattle.result_references.specs.declared.counted_octets.TheConstants.{MAX_RESOLVED_OCTETS}
 
 -- ---- paths
 

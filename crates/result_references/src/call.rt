@@ -1,5 +1,5 @@
 // A method call, and the response to one.
-use gate_world::Text;
+use octets::Text;
 use serde_json::Value;
 
 /// A method call (RFC 8620 section 3.2): the method's name, its arguments and the id of the call. The response to one

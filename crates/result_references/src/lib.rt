@@ -9,11 +9,11 @@ mod pointer;
 mod walks;
 
 // References, and the limit of what they come to.
+mod counted_octets;
 mod limit;
-mod octets;
 mod references;
 mod sources;
 
 pub use call::Call;
-pub use octets::MAX_RESOLVED_OCTETS;
+pub use counted_octets::MAX_RESOLVED_OCTETS;
 pub use references::resolve;

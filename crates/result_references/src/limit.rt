@@ -11,13 +11,13 @@ ghost use Rattle.result_references.specs.References.{are_proper, resolved_if_wit
 ghost use Rattle.result_references.specs.References as spec;
 ghost use Rattle.result_references.specs.reading.Counting.{Counts, Passes};
 ghost use Rattle.result_references.specs.reading.Counting as counting;
-ghost use Rattle.result_references.specs.declared.octets.TheConstants.{MAX_RESOLVED_OCTETS};
+ghost use Rattle.result_references.specs.declared.counted_octets.TheConstants.{MAX_RESOLVED_OCTETS};
 
 use crate::call::Call;
-use crate::octets::{in_brackets, name_octets, value_octets};
+use crate::counted_octets::{in_brackets, name_octets, value_octets};
 use crate::sources::{referring, source_of};
 use crate::walks::{octets_at, stands_at, walked_at};
-use jmap_methods::MethodError;
+use jmap_arguments::MethodError;
 use serde_json::{Map, Value};
 use std::alloc::{AllocError, Global};
 

@@ -2,17 +2,17 @@
 ghost use Rattle.std.specs.Prelude.{◌≡◌, IfOk, map, option_map};
 ghost use Rattle.serde_json.specs.Data.{no_members};
 ghost use Rattle.serde_json.specs.View.{view, members_view};
-ghost use Rattle.jmap_methods.specs.Outcome.{Agrees};
+ghost use Rattle.jmap_arguments.specs.Outcome.{Agrees};
 ghost use Rattle.result_references.specs.Call.{call_data};
 ghost use Rattle.result_references.specs.References.{referring, resolved_arguments};
 ghost use Rattle.result_references.specs.References as spec;
-ghost use Rattle.jmap_methods.specs.declared.method_error.MethodError.TheVariants.{Memory};
+ghost use Rattle.jmap_arguments.specs.declared.method_error.MethodError.TheVariants.{Memory};
 
 use crate::call::Call;
 use crate::limit::check_limit;
 use crate::pointer::copy_at;
 use crate::sources::{reference_in, referring, source_of};
-use jmap_methods::MethodError;
+use jmap_arguments::MethodError;
 use serde_json::{Map, Value, put};
 use std::alloc::{AllocError, Global};
 

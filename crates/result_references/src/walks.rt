@@ -6,9 +6,9 @@ ghost use Rattle.result_references.specs.References as spec;
 ghost use Rattle.result_references.specs.reading.Counting.{Counts};
 ghost use Rattle.result_references.specs.reading.Counting as counting;
 ghost use Rattle.result_references.specs.reading.Reaching.{IsPointer, segments_in};
-ghost use Rattle.result_references.specs.declared.octets.TheConstants.{MAX_RESOLVED_OCTETS};
+ghost use Rattle.result_references.specs.declared.counted_octets.TheConstants.{MAX_RESOLVED_OCTETS};
 
-use crate::octets::{in_brackets, items_octets, more, value_octets};
+use crate::counted_octets::{in_brackets, items_octets, more, value_octets};
 use crate::path::{Reached, follow};
 use serde_json::Value;
 use std::alloc::{AllocError, Global};

@@ -7,9 +7,10 @@ mod made;
 mod store_octets;
 
 use gate_host::{Host, HostWorld, StandardFront};
-use gate_world::{Bytes, Link, Secrets, Text, Unread};
+use gate_world::{Link, Secrets, Unread};
 use imap_client::Client;
 use made::MadeLink;
+use octets::{Bytes, Text};
 use process_watch::Watch;
 use std::alloc::{AllocError, Global};
 use std::env;

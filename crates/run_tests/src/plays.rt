@@ -1,10 +1,11 @@
 // What is done over a world, and how that ends.
 use gate_machine::{Machine, begin};
 use gate_serving::{Door, Gate};
-use gate_world::{Text, Watcher};
+use gate_world::Watcher;
 use gateway::{Place, run};
 use imap_client::Client;
 use mail_state::MailType;
+use octets::Text;
 use scripted_world::ScriptWorld;
 use std::alloc::{AllocError, Global};
 use told_dialogues::{first_number, first_word, octets_of};

@@ -4,8 +4,8 @@
 #![tactic(auto)]
 
 ghost use Rattle.std.specs.Prelude.{◌≤◌, ◌<◌, length, take, IfSome};
-ghost use Rattle.imap_syntax.specs.Spells.{IsSpelling};
-ghost use Rattle.imap_syntax.specs.declared.response.Response.{Response};
+ghost use Rattle.imap_types.specs.Spells.{IsSpelling};
+ghost use Rattle.imap_types.specs.declared.response.Response.{Response};
 
 use imap_grammar::{Scan, Scanner, decode};
 use memchr::memchr;

@@ -5,7 +5,7 @@ ghost use Rattle.gate_world.specs.Pieces.{Gives, octets_of, without};
 ghost use Rattle.scripted_world.specs.Script.{accepted, counted, dialed, drawn, ended, is_next_to_fail, next_word, read_on, received_on, unplayed, with_client};
 
 use crate::{Fail, Script};
-use gate_world::Bytes;
+use octets::Bytes;
 use std::alloc::AllocError;
 use std::marker::Model;
 

@@ -8,7 +8,8 @@ ghost use Rattle.gate_world.specs.Tape.{AddsOne};
 
 use crate::Script;
 use crate::left::Left;
-use gate_world::{Bytes, Event, Tape};
+use gate_world::{Event, Tape};
+use octets::Bytes;
 use std::alloc::Global;
 
 /// What is left of a script, and what was told of it.

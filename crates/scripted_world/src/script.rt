@@ -2,7 +2,7 @@
 ghost use Rattle.std.specs.Prelude.{◌≡◌, ◌++◌, [], ◌∷◌, IfOk, false};
 ghost use Rattle.scripted_world.specs.Script.{plain};
 
-use gate_world::{Bytes, Listed};
+use octets::{Bytes, Listed};
 use std::alloc::{AllocError, Global};
 
 /// A call to the outside that fails. Calls that can fail are numbered from 1.

@@ -9,7 +9,8 @@ ghost use Rattle.gate_world.specs.Tape.{AddsOne};
 
 use crate::Script;
 use crate::playback::Playback;
-use gate_world::{Bytes, Chance, Console, Event, Failed, Front, Link, Secrets, Taped, World};
+use gate_world::{Chance, Console, Event, Failed, Front, Link, Secrets, Taped, World};
+use octets::Bytes;
 use std::alloc::{AllocError, Global};
 use std::marker::Model;
 

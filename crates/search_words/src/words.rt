@@ -8,7 +8,7 @@ ghost use Rattle.search_words.specs.reading.OpenMarks.{AreOpen};
 ghost use Rattle.search_words.specs.reading.Parts as parts;
 
 use crate::phrases::{is_mark, phrase_at};
-use gate_world::{Bytes, Names};
+use octets::{Bytes, Names};
 use std::alloc::{AllocError, Global};
 use text_words::{Class, cut, first, is_white};
 

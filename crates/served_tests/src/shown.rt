@@ -1,8 +1,8 @@
 // Rows that are served, and what changed in them, as text.
 use change_list::{ChangeList, Changes};
-use gate_world::Bytes;
 use mail_maps::{EmailRow, Envelope, MailboxRow};
 use mail_state::{MailState, MailType};
+use octets::Bytes;
 use std::alloc::AllocError;
 use thread_rule::next_id;
 use told_dialogues::put_octets;

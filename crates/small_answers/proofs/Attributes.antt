@@ -2,9 +2,9 @@
 use Rattle.std.proofs.Common.{◌≡◌, ℕ, Bool, true, false, not, ◌||◌, List, [], ◌∷◌, ◌++◌, map, filter, refl, sym, subst, bytes_eq, codes}
 use Rattle.std.specs.List.{AllByRecursion, list_any}
 use Rattle.std.proofs.lemmas.Bool.{or_parts, or_from}
-use Rattle.imap_syntax.specs.Items.{kept}
-use Rattle.imap_syntax.specs.Octets.{lower}
-use Rattle.imap_syntax.proofs.KeptLemmas.{kept_again}
+use Rattle.imap_types.specs.Items.{kept}
+use Rattle.imap_types.specs.Octets.{lower}
+use Rattle.imap_types.proofs.KeptLemmas.{kept_again}
 use Rattle.honest_store.specs.Attributes.{is_unselectable, subscribed}
 use Rattle.honest_store.specs.MessageCommands.{flags_after}
 use Rattle.small_answers.proofs.Elements.{each_both}

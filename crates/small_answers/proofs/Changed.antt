@@ -3,8 +3,8 @@ use Rattle.std.proofs.Common.{◌≡◌, ℕ, ◌+◌, ◌-◌, ◌^◌, ◌<◌
 use Rattle.std.proofs.Common.{subst, arith, eq-eqb, leb-false, nat_le, ◌==◌, if◌then◌else◌}
 use Rattle.std.proofs.lemmas.Bool.{false_from_ne_true, or_parts}
 use Rattle.std.proofs.lemmas.List.Elements.{recursion_from_All}
-use Rattle.imap_syntax.specs.Folders.{folder_name}
-use Rattle.imap_syntax.specs.Items.{kept}
+use Rattle.imap_types.specs.Folders.{folder_name}
+use Rattle.imap_types.specs.Items.{kept}
 use Rattle.honest_store.specs.StoreMail.{StoreMessage, StoreFolder, NameUse, StoreMail, folder_called, folder_numbered, message_numbered}
 use Rattle.honest_store.specs.WellFormed.{nearest_date, use_of, IsStoreMessage, IsStoreFolder}
 use Rattle.honest_store.specs.MessageChanges.{with_store_folder, IsAbove, folder_with, folder_without, folder_flagged, AddsMessage, EndsMessage, FlagsMessage}

@@ -3,11 +3,11 @@ use Rattle.std.proofs.Common.{◌≡◌, ◌≢◌, ◌⊎◌, inl, inr, ℕ, �
 use Rattle.std.proofs.lemmas.Bool.{cases_lt}
 use Rattle.std.proofs.lemmas.List.Elements.{All-append, All-cons, All-contains, All-from_recursion, All-nil, All-weaker, Contains-append_left, Contains-push}
 use Rattle.std.proofs.lemmas.List.Quantifiers.{all_pairs_push}
-use Rattle.imap_syntax.specs.declared.code.Code.TheVariants as code
-use Rattle.imap_syntax.specs.declared.command.Command.TheVariants as command
-use Rattle.imap_syntax.specs.Folders.{folder_name}
-use Rattle.imap_syntax.specs.Octets.{is_text}
-use Rattle.imap_syntax.specs.Texts.{Each}
+use Rattle.imap_types.specs.declared.code.Code.TheVariants as code
+use Rattle.imap_types.specs.declared.command.Command.TheVariants as command
+use Rattle.imap_types.specs.Folders.{folder_name}
+use Rattle.imap_types.specs.Octets.{is_text}
+use Rattle.imap_types.specs.Texts.{Each}
 use Rattle.honest_store.specs.StoreMail.{StoreFolder, NameUse, UnselectableName, StoreMail, folder_called}
 use Rattle.honest_store.specs.WellFormed.{IsStoreFolder, IsStoreMessage, IsExpungedUid, IsUnselectableName, IsStoreMail, IsToldName, use_of}
 use Rattle.honest_store.specs.Sessions.{StoreSession}

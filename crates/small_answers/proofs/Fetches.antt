@@ -4,8 +4,8 @@ use Rattle.std.proofs.Common.{nat_le, ◌==◌, le-leb, eq-eqb, if◌then◌else
 use Rattle.std.specs.List.{AllByRecursion}
 use Rattle.std.proofs.lemmas.Bool.{and_from, false≢true}
 use Rattle.std.proofs.lemmas.List.Elements.{All-from_recursion, recursion_from_All}
-use Rattle.imap_syntax.specs.declared.response.Response.{Response}
-use Rattle.imap_syntax.specs.declared.response.FetchItems.{FetchItems}
+use Rattle.imap_types.specs.declared.response.Response.{Response}
+use Rattle.imap_types.specs.declared.response.FetchItems.{FetchItems}
 use Rattle.honest_store.specs.StoreMail.{StoreMessage, message_numbered}
 use Rattle.honest_store.specs.WellFormed.{AscendByUid}
 use Rattle.honest_store.specs.Responses.{IsFetchOf, TellsFlags}

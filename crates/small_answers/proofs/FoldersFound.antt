@@ -4,7 +4,7 @@ use Rattle.std.specs.List.{AllByRecursion}
 use Rattle.std.proofs.lemmas.Bool.{false_from_ne_true}
 use Rattle.std.proofs.lemmas.List.Elements.{recursion_from_All}
 use Rattle.std.proofs.lemmas.Slice.Eq.{bytes_eq-Decides}
-use Rattle.imap_syntax.specs.Folders.{folder_name}
+use Rattle.imap_types.specs.Folders.{folder_name}
 use Rattle.honest_store.specs.StoreMail.{StoreFolder, StoreMail, folder_called, folder_numbered}
 use Rattle.honest_store.specs.WellFormed.{IsStoreMail}
 use Rattle.small_answers.proofs.Searches.{each_finds_itself, found_is, found_passes}

@@ -4,7 +4,7 @@ use Rattle.std.proofs.Common.{ap, subst, arith, ne_eqb, All, ◌==◌, if◌then
 use Rattle.std.specs.List.{AllByRecursion}
 use Rattle.std.proofs.lemmas.List.Elements.{All-append, All-filter, All-from_recursion, All-nil, All-cons, All-weaker, recursion_from_All}
 use Rattle.std.proofs.lemmas.Option.{none-some}
-use Rattle.imap_syntax.specs.Items.{kept}
+use Rattle.imap_types.specs.Items.{kept}
 use Rattle.honest_store.specs.StoreMail.{StoreMessage, ExpungedUid, StoreFolder, message_numbered}
 use Rattle.honest_store.specs.WellFormed.{AscendByUid, IsUpTo, IsModseq, nearest_date, IsStoreMessage, IsExpungedUid, IsStoreFolder, IsToldName}
 use Rattle.honest_store.specs.MessageChanges.{folder_with, folder_without, folder_flagged, flagged_messages, with_flags_at}

@@ -7,9 +7,9 @@ use Rattle.std.specs.Cmp.Lexicographic.{slice_cmp}
 use Rattle.std.specs.List.{AllByRecursion}
 use Rattle.std.specs.Ordering.{match_ordering, ordering_reverse}
 use Rattle.std.specs.declared.cmp.Ordering.TheVariants.{Less, Equal, Greater}
-use Rattle.imap_syntax.specs.Items.{add_name, kept_from, kept}
-use Rattle.imap_syntax.specs.Octets.{lower}
-use Rattle.imap_syntax.proofs.KeptLemmas.{IsUnder, AreSorted, sorted_insert}
+use Rattle.imap_types.specs.Items.{add_name, kept_from, kept}
+use Rattle.imap_types.specs.Octets.{lower}
+use Rattle.imap_types.proofs.KeptLemmas.{IsUnder, AreSorted, sorted_insert}
 
 -- ---- what is so of each
 

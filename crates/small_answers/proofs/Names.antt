@@ -5,9 +5,9 @@ use Rattle.std.specs.List.{AllByRecursion}
 use Rattle.std.proofs.lemmas.Bool.{false≢true}
 use Rattle.std.proofs.lemmas.List.Elements.{All-contains, recursion_from_All}
 use Rattle.std.proofs.lemmas.Slice.Eq.{bytes_eq-Decides}
-use Rattle.imap_syntax.specs.Folders.{folder_name}
-use Rattle.imap_syntax.specs.Octets.{is_text, lower}
-use Rattle.imap_syntax.specs.Texts.{Each}
+use Rattle.imap_types.specs.Folders.{folder_name}
+use Rattle.imap_types.specs.Octets.{is_text, lower}
+use Rattle.imap_types.specs.Texts.{Each}
 use Rattle.honest_store.specs.StoreMail.{StoreFolder, NameUse, StoreMail, folder_called}
 use Rattle.honest_store.specs.WellFormed.{AgreeOnFolder, IsToldName, use_of}
 use Rattle.small_answers.specs.SmallMail.{IsSmallMail}

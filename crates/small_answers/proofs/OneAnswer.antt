@@ -1,6 +1,6 @@
 -- The small store answers in one way.
 use Rattle.std.proofs.Common.{◌≡◌, refl}
-use Rattle.imap_syntax.specs.declared.command.Command.{Command}
+use Rattle.imap_types.specs.declared.command.Command.{Command}
 use Rattle.honest_store.specs.Sessions.{StoreAnswer, StoreSession}
 use Rattle.small_answers.specs.Answers.{AnswersCommand, Refused, Accepted}
 

@@ -1,8 +1,8 @@
 -- Each NO of the small store is honest.
 use Rattle.std.proofs.Common.{◌≡◌, Option, Some, None, ℕ, ◌<◌, [], refl, arith}
-use Rattle.imap_syntax.specs.declared.code.Code.TheVariants as code
-use Rattle.imap_syntax.specs.declared.command.Command.{Command}
-use Rattle.imap_syntax.specs.declared.command.Command.TheVariants as command
+use Rattle.imap_types.specs.declared.code.Code.TheVariants as code
+use Rattle.imap_types.specs.declared.command.Command.{Command}
+use Rattle.imap_types.specs.declared.command.Command.TheVariants as command
 use Rattle.honest_store.specs.WellFormed.{IsStoreMail}
 use Rattle.honest_store.specs.Others.{NoStep}
 use Rattle.honest_store.specs.StoreMail.{StoreMail}

@@ -5,10 +5,10 @@ use Rattle.std.specs.List.{AllByRecursion}
 use Rattle.std.proofs.lemmas.Bool.{false_from_ne_true}
 use Rattle.std.proofs.lemmas.Option.{none-some, same_Some}
 use Rattle.std.proofs.lemmas.Slice.Eq.{bytes_eq-Decides}
-use Rattle.imap_syntax.specs.Folders.{folder_name}
-use Rattle.imap_syntax.specs.Octets.{is_text, lower}
-use Rattle.imap_syntax.specs.Texts.{Each}
-use Rattle.imap_syntax.proofs.EachLemmas.{each_append, each_parts}
+use Rattle.imap_types.specs.Folders.{folder_name}
+use Rattle.imap_types.specs.Octets.{is_text, lower}
+use Rattle.imap_types.specs.Texts.{Each}
+use Rattle.imap_types.proofs.EachLemmas.{each_append, each_parts}
 use Rattle.honest_store.specs.StoreMail.{StoreFolder, folder_called}
 use Rattle.honest_store.specs.WellFormed.{IsToldName}
 use Rattle.honest_store.specs.FolderChanges.{child_part, from_delimiter, name_after_rename, renamed_child, text_after}

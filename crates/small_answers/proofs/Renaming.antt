@@ -5,11 +5,11 @@ use Rattle.std.specs.List.{AllByRecursion, flat_map}
 use Rattle.std.proofs.lemmas.List.Elements.{All-append, All-contains, All-contains_itself, All-from_recursion, All-nil, Contains-append_left, Contains-append_right}
 use Rattle.std.proofs.lemmas.List.Elements.{recursion_from_All}
 use Rattle.std.proofs.lemmas.Slice.Eq.{bytes_eq-Decides}
-use Rattle.imap_syntax.specs.declared.code.Code.TheVariants as code
-use Rattle.imap_syntax.specs.declared.command.Command.TheVariants as command
-use Rattle.imap_syntax.specs.Folders.{folder_name}
-use Rattle.imap_syntax.specs.Octets.{is_text}
-use Rattle.imap_syntax.specs.Texts.{Each}
+use Rattle.imap_types.specs.declared.code.Code.TheVariants as code
+use Rattle.imap_types.specs.declared.command.Command.TheVariants as command
+use Rattle.imap_types.specs.Folders.{folder_name}
+use Rattle.imap_types.specs.Octets.{is_text}
+use Rattle.imap_types.specs.Texts.{Each}
 use Rattle.honest_store.specs.StoreMail.{StoreFolder, NameUse, UnselectableName, StoreMail, folder_called}
 use Rattle.honest_store.specs.WellFormed.{IsStoreFolder, IsToldName, IsUnselectableName, IsStoreMail, use_of}
 use Rattle.honest_store.specs.FolderChanges.{IsNameThere, name_after_rename, new_use, renamed_folder, renamed_folders}

@@ -1,6 +1,6 @@
 -- Replies that are honest and leave the small store's mail, in the folder that is selected.
 use Rattle.std.proofs.Common.{◌≡◌, ℕ, [], Option, Some, None, refl, ap, ◌∙◌}
-use Rattle.imap_syntax.specs.declared.command.Command.{Command}
+use Rattle.imap_types.specs.declared.command.Command.{Command}
 use Rattle.honest_store.specs.StoreMail.{StoreMessage, StoreFolder, StoreMail, folder_numbered, message_numbered}
 use Rattle.honest_store.specs.Others.{NoStep}
 use Rattle.honest_store.specs.TrueResponses.{messages_of_folder}

@@ -3,12 +3,12 @@ use Rattle.std.proofs.Common.{inl, ◌≡◌, ◌≢◌, ℕ, zero, suc, ◌<◌
 use Rattle.std.proofs.Common.{arith, nat_lt, ◌==◌, IfSome, All, Any, eq-eqb, lt-ltb, if◌then◌else◌}
 use Rattle.std.specs.List.{AllByRecursion}
 use Rattle.std.proofs.lemmas.List.Elements.{All-from_recursion, All-nil, recursion_from_All}
-use Rattle.imap_syntax.specs.declared.code.Code.TheVariants as code
-use Rattle.imap_syntax.specs.declared.command.Command.TheVariants as command
-use Rattle.imap_syntax.specs.declared.response.Response.{Response}
-use Rattle.imap_syntax.specs.declared.response.Response.TheVariants as response
-use Rattle.imap_syntax.specs.declared.uid_set.UidRange.{UidRange}
-use Rattle.imap_syntax.specs.UidSets.{InRange, Holds}
+use Rattle.imap_types.specs.declared.code.Code.TheVariants as code
+use Rattle.imap_types.specs.declared.command.Command.TheVariants as command
+use Rattle.imap_types.specs.declared.response.Response.{Response}
+use Rattle.imap_types.specs.declared.response.Response.TheVariants as response
+use Rattle.imap_types.specs.declared.uid_set.UidRange.{UidRange}
+use Rattle.imap_types.specs.UidSets.{InRange, Holds}
 use Rattle.honest_store.specs.StoreMail.{ExpungedUid, StoreFolder, StoreMessage, folder_called, folder_numbered, message_numbered}
 use Rattle.honest_store.specs.WellFormed.{IsExpungedUid, IsStoreFolder, IsStoreMail}
 use Rattle.honest_store.specs.Others.{NoStep}

@@ -1,8 +1,8 @@
 -- Answers to STORE are honest, and leave the small store's mail.
 use Rattle.std.proofs.Common.{inl, inr, ◌≡◌, ℕ, Bool, true, false, not, List, [], Option, Some, None, refl, sym, ap, ◌∙◌, subst, eq-eqb, ◌==◌, Any, if◌then◌else◌}
 use Rattle.std.specs.List.{AllByRecursion}
-use Rattle.imap_syntax.specs.declared.code.Code.TheVariants as code
-use Rattle.imap_syntax.specs.declared.command.Command.TheVariants as command
+use Rattle.imap_types.specs.declared.code.Code.TheVariants as code
+use Rattle.imap_types.specs.declared.command.Command.TheVariants as command
 use Rattle.honest_store.specs.StoreMail.{StoreMessage, StoreFolder, StoreMail, folder_numbered, message_numbered}
 use Rattle.honest_store.specs.MessageChanges.{folder_flagged, flagged_messages, with_flags_at}
 use Rattle.honest_store.specs.Responses.{IsFetchOf}

@@ -1,9 +1,9 @@
 -- Answers to SUBSCRIBE and UNSUBSCRIBE are honest, and leave the small store's mail.
 use Rattle.std.proofs.Common.{◌≡◌, ℕ, Bool, true, false, List, [], bytes_eq, refl, sym, append-nil, if◌then◌else◌}
 use Rattle.std.proofs.lemmas.List.Elements.{recursion_from_All}
-use Rattle.imap_syntax.specs.declared.code.Code.TheVariants as code
-use Rattle.imap_syntax.specs.declared.command.Command.TheVariants as command
-use Rattle.imap_syntax.specs.Folders.{folder_name}
+use Rattle.imap_types.specs.declared.code.Code.TheVariants as code
+use Rattle.imap_types.specs.declared.command.Command.TheVariants as command
+use Rattle.imap_types.specs.Folders.{folder_name}
 use Rattle.honest_store.specs.StoreMail.{StoreFolder, StoreMail}
 use Rattle.honest_store.specs.WellFormed.{IsStoreFolder, use_of}
 use Rattle.honest_store.specs.Attributes.{subscribed}

@@ -1,9 +1,9 @@
 -- What the small store answers is what an honest store may answer, and its mail stays the small store's.
 use Rattle.std.proofs.Common.{◌≡◌, ℕ, Bool, true, ◌==◌, List, Option, Some, None, All}
 use Rattle.std.proofs.lemmas.List.Elements.{All-weaker}
-use Rattle.imap_syntax.specs.declared.command.Command.{Command}
-use Rattle.imap_syntax.specs.declared.command.Command.TheVariants as command
-use Rattle.imap_syntax.specs.declared.response.Response.{Response}
+use Rattle.imap_types.specs.declared.command.Command.{Command}
+use Rattle.imap_types.specs.declared.command.Command.TheVariants as command
+use Rattle.imap_types.specs.declared.response.Response.{Response}
 use Rattle.honest_store.specs.StoreMail.{StoreMessage, StoreFolder, folder_called}
 use Rattle.honest_store.specs.Others.{NoStep}
 use Rattle.honest_store.specs.Sessions.{StoreSession, StoreAnswer}

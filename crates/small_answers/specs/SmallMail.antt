@@ -1,9 +1,9 @@
 -- What holds of the small store at every moment, and what a command must have to leave it so.
 use Rattle.std.specs.Prelude.{◌≡◌, ◌^◌, ◌<◌, true, [], length, All, Some}
-use Rattle.imap_syntax.specs.declared.command.Command.{Command}
-use Rattle.imap_syntax.specs.declared.command.Command.TheVariants as command
-use Rattle.imap_syntax.specs.Octets.{is_text}
-use Rattle.imap_syntax.specs.Texts.{Each}
+use Rattle.imap_types.specs.declared.command.Command.{Command}
+use Rattle.imap_types.specs.declared.command.Command.TheVariants as command
+use Rattle.imap_types.specs.Octets.{is_text}
+use Rattle.imap_types.specs.Texts.{Each}
 use Rattle.honest_store.specs.StoreMail.{StoreFolder, StoreMail}
 use Rattle.honest_store.specs.WellFormed.{IsStoreMail}
 use Rattle.honest_store.specs.Others.{OthersStep}

@@ -1,13 +1,13 @@
 -- The responses by which the small store tells its mail (RFC 9051 section 7, RFC 7162 section 3.2).
 use Rattle.std.specs.Prelude.{ℕ, ◌+◌, ◌==◌, nat_lt, nat_le, ◌&&◌, ◌||◌, Bool, true, List, [], ◌∷◌, ◌++◌, Option, Some, None, filter, map, fold, min, max}
 use Rattle.std.specs.Prelude.{take, count_by, length, codes, if◌then◌else◌}
-use Rattle.imap_syntax.specs.declared.code.Code.{Code}
-use Rattle.imap_syntax.specs.declared.code.Code.TheVariants as code
-use Rattle.imap_syntax.specs.declared.response.Response.{Response}
-use Rattle.imap_syntax.specs.declared.response.Response.TheVariants as response
-use Rattle.imap_syntax.specs.declared.response.Status.TheVariants as status
-use Rattle.imap_syntax.specs.declared.uid_set.UidSet.{UidSet}
-use Rattle.imap_syntax.specs.Items.{kept, no_items, body_limit}
+use Rattle.imap_types.specs.declared.code.Code.{Code}
+use Rattle.imap_types.specs.declared.code.Code.TheVariants as code
+use Rattle.imap_types.specs.declared.response.Response.{Response}
+use Rattle.imap_types.specs.declared.response.Response.TheVariants as response
+use Rattle.imap_types.specs.declared.response.Status.TheVariants as status
+use Rattle.imap_types.specs.declared.uid_set.UidSet.{UidSet}
+use Rattle.imap_types.specs.Items.{kept, no_items, body_limit}
 use Rattle.honest_store.specs.StoreMail.{StoreMessage, StoreFolder}
 use Rattle.honest_store.specs.Headers.{header_told}
 

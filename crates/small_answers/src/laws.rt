@@ -1,6 +1,6 @@
 //! What the definition of the small store's answers promises, as clauses of functions that do nothing.
 ghost use Rattle.std.specs.Prelude.{◌≡◌, ℕ, ◌^◌, ◌<◌, ℤ, true, List, length};
-ghost use Rattle.imap_syntax.specs.declared.command.Command.{Command};
+ghost use Rattle.imap_types.specs.declared.command.Command.{Command};
 ghost use Rattle.honest_store.specs.StoreMail.{StoreMail};
 ghost use Rattle.honest_store.specs.WellFormed.{nearest_date};
 ghost use Rattle.honest_store.specs.Others.{NoStep};

@@ -2,8 +2,8 @@
 use Rattle.std.proofs.Common.{◌≡◌, ℕ, ◌+◌, ◌<◌, Bool, true, false, cond, List, [], ◌∷◌, ◌++◌, filter, length, drop, get_or, refl, sym, ap, ◌∙◌}
 use Rattle.std.specs.Prelude.{◌||◌}
 use Rattle.std.proofs.lemmas.List.{append_assoc, at_drop_more}
-use Rattle.imap_syntax.specs.Items.{add_name, kept_from}
-use Rattle.imap_syntax.specs.Octets.{lower}
+use Rattle.imap_types.specs.Items.{add_name, kept_from}
+use Rattle.imap_types.specs.Octets.{lower}
 use Rattle.std.specs.Prelude.{map}
 
 -- names are added one after another

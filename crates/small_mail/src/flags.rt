@@ -1,14 +1,14 @@
 // Flags in kept form: lower case, sorted by octets, each once, without `\recent` (RFC 9051 section 2.3.2).
 ghost use Rattle.std.specs.Prelude.{◌≡◌, ◌++◌, ℕ, List, [], ◌∷◌, map, bytes_eq, codes, filter, min, not, IfOk, OnOk};
 ghost use Rattle.std.specs.List.{list_any};
-ghost use Rattle.imap_syntax.specs.Octets as classes;
-ghost use Rattle.imap_syntax.specs.Items as items;
+ghost use Rattle.imap_types.specs.Octets as classes;
+ghost use Rattle.imap_types.specs.Items as items;
 ghost use Rattle.honest_store.specs.Attributes as attributes;
 ghost use Rattle.honest_store.specs.MessageCommands as commands;
 ghost use Rattle.small_answers.specs.Limits as limits;
 
-use gate_world::{Bytes, Names};
 use imap_values::lower;
+use octets::{Bytes, Names};
 use std::alloc::{AllocError, Global};
 use std::collections::BTreeSet;
 

@@ -8,7 +8,7 @@ ghost use Rattle.small_answers.specs.Limits as limits;
 ghost use Rattle.small_mail.specs.Places.{IsMessageAt};
 
 use crate::message::{StoredMessage, StoredUid};
-use gate_world::{Bytes, Names};
+use octets::{Bytes, Names};
 use std::alloc::{AllocError, Global};
 use std::marker::Model;
 

@@ -1,6 +1,6 @@
 // The header of a message (RFC 9051 section 6.4.5.1).
 ghost use Rattle.std.specs.Prelude.{◌≡◌, ◌≤◌, length, take};
-ghost use Rattle.imap_syntax.specs.Items.{body_limit};
+ghost use Rattle.imap_types.specs.Items.{body_limit};
 ghost use Rattle.honest_store.specs.Headers as headers;
 
 use text_words::line_end_len;

@@ -1,6 +1,6 @@
 // Folders of the mail: by name, by number, those that come and go, and their messages.
 ghost use Rattle.std.specs.Prelude.{◌≡◌, ◌<◌, ◌≤◌, ◌+◌, ◌^◌, MatchOption, None, Some, OnErr, OnOk, IfOk, false, length, ◌==◌, if◌then◌else◌};
-ghost use Rattle.imap_syntax.specs.Folders.{folder_name};
+ghost use Rattle.imap_types.specs.Folders.{folder_name};
 ghost use Rattle.honest_store.specs.StoreMail.{folder_called, folder_numbered, IsFolder, IsFolderNamed, StoreFolder, StoreMessage};
 ghost use Rattle.honest_store.specs.WellFormed.{IsStoreMail};
 ghost use Rattle.small_answers.specs.Changes as changes;
@@ -13,7 +13,7 @@ use crate::message::StoredMessage;
 use crate::names::told_name;
 use crate::renames::{new_names, set_names};
 use crate::uses::StoredUse;
-use gate_world::{Bytes, Names};
+use octets::{Bytes, Names};
 use std::alloc::{AllocError, Global};
 use std::marker::Model;
 

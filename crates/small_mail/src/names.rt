@@ -1,6 +1,6 @@
 // Names of folders (RFC 9051 section 5.1).
 ghost use Rattle.std.specs.Prelude.{◌≡◌, ◌++◌, IfOk, MatchOption, None, Some};
-ghost use Rattle.imap_syntax.specs.Folders.{folder_name};
+ghost use Rattle.imap_types.specs.Folders.{folder_name};
 ghost use Rattle.honest_store.specs.FolderChanges as folders;
 ghost use Rattle.small_answers.specs.Changes.{hierarchy_delimiter};
 

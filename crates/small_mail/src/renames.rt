@@ -7,7 +7,7 @@ ghost use Rattle.honest_store.specs.FolderChanges.{name_after_rename, new_use};
 use crate::folder::StoredFolder;
 use crate::names::{child_name, child_part};
 use crate::uses::StoredUse;
-use gate_world::Bytes;
+use octets::Bytes;
 use std::alloc::{AllocError, Global};
 use std::collections::VecDeque;
 

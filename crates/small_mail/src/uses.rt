@@ -1,7 +1,7 @@
 // Names that folders have or had (RFC 9051 section 2.3.1.1).
 ghost use Rattle.std.specs.Prelude.{◌≡◌};
 
-use gate_world::Bytes;
+use octets::Bytes;
 use std::marker::Model;
 
 /// A name that a folder has or had, and its UIDVALIDITY.

@@ -3,18 +3,18 @@ use Rattle.std.proofs.Common.{◌≡◌, inl, not, ap, ◌∙◌, ℕ, ◌<◌, 
 use Rattle.std.proofs.Common.{filter, map, codes, refl, sym, subst, arith, All, if◌then◌else◌}
 use Rattle.std.specs.List.{AllByRecursion}
 use Rattle.std.proofs.lemmas.List.Elements.{All-from_recursion, recursion_from_All}
-use Rattle.imap_syntax.specs.declared.code.Code.TheVariants as code
-use Rattle.imap_syntax.specs.declared.command.Command.{Command}
-use Rattle.imap_syntax.specs.declared.command.Command.TheVariants as command
-use Rattle.imap_syntax.specs.declared.response.Response.{Response}
-use Rattle.imap_syntax.specs.declared.response.Response.TheVariants as response
-use Rattle.imap_syntax.specs.declared.response.Status.TheVariants as status
+use Rattle.imap_types.specs.declared.code.Code.TheVariants as code
+use Rattle.imap_types.specs.declared.command.Command.{Command}
+use Rattle.imap_types.specs.declared.command.Command.TheVariants as command
+use Rattle.imap_types.specs.declared.response.Response.{Response}
+use Rattle.imap_types.specs.declared.response.Response.TheVariants as response
+use Rattle.imap_types.specs.declared.response.Status.TheVariants as status
 use Rattle.honest_store.specs.StoreMail.{StoreMessage, StoreFolder, StoreMail, folder_called, folder_numbered, message_numbered}
 use Rattle.honest_store.specs.WellFormed.{IsExpungedUid, IsStoreFolder}
 use Rattle.honest_store.specs.MessageChanges.{folder_flagged, folder_without}
 use Rattle.honest_store.specs.Sessions.{StoreSession, StoreAnswer}
 use Rattle.honest_store.specs.MessageCommands.{flags_after, is_deleted, sent_message}
-use Rattle.imap_syntax.specs.Items.{AllNames}
+use Rattle.imap_types.specs.Items.{AllNames}
 use Rattle.small_answers.specs.Changes.{mail_flagged, mail_without, next_modseq, selected_folder}
 use Rattle.small_answers.specs.Limits.{is_last_change, text_limit, total_length}
 use Rattle.store_responses.specs.Sendable.{IsNonZeroNumber, IsSendable, IsSendableTag}

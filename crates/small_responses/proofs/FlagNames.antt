@@ -1,9 +1,9 @@
 -- Flags and attributes that are names stay so in kept form.
 use Rattle.std.proofs.Common.{◌≡◌, inl, inr, ℕ, Bool, true, false, not, List, [], ◌∷◌, ◌++◌, length, map, bytes_eq, codes, refl, ap, arith}
 use Rattle.std.specs.List.{AllByRecursion, list_any}
-use Rattle.imap_syntax.specs.Items.{AllNames, IsAtom, IsName, kept}
-use Rattle.imap_syntax.specs.Octets.{is_atom, lower}
-use Rattle.imap_syntax.specs.Texts.{Each}
+use Rattle.imap_types.specs.Items.{AllNames, IsAtom, IsName, kept}
+use Rattle.imap_types.specs.Octets.{is_atom, lower}
+use Rattle.imap_types.specs.Texts.{Each}
 use Rattle.honest_store.specs.MessageCommands.{flags_after}
 use Rattle.small_answers.proofs.Elements.{each_append}
 use Rattle.small_answers.proofs.KeptNames.{each_filtered, each_kept_from}

@@ -2,13 +2,13 @@
 use Rattle.std.proofs.Common.{◌≡◌, inl, inr, ℕ, ◌+◌, ◌*◌, ◌/◌, ◌%◌, ◌^◌, ◌<◌, ◌≤◌, ◌==◌, ◌||◌, fold, ℤ, Bool, true, false, List, [], ◌∷◌, ◌++◌, length, codes, decimal, Option}
 use Rattle.std.proofs.Common.{Some, None, IfSome, refl, sym, subst, arith, length-append, if◌then◌else◌}
 use Rattle.std.proofs.lemmas.Fmt.{length-decimal-le}
-use Rattle.imap_syntax.specs.declared.response.FetchItems.{FetchItems}
-use Rattle.imap_syntax.specs.Commands.{literal_head}
-use Rattle.imap_syntax.specs.Dates.{clock_text, date_text, day_at, day_text, day_text_of, four_digits, month_name, seconds_from}
-use Rattle.imap_syntax.specs.Items.{AllNames, IsName}
-use Rattle.imap_syntax.specs.Lines.{joined, spaced}
-use Rattle.imap_syntax.specs.Strings.{escaped}
-use Rattle.imap_syntax.specs.Texts.{crlf}
+use Rattle.imap_types.specs.declared.response.FetchItems.{FetchItems}
+use Rattle.imap_types.specs.Commands.{literal_head}
+use Rattle.imap_types.specs.Dates.{clock_text, date_text, day_at, day_text, day_text_of, four_digits, month_name, seconds_from}
+use Rattle.imap_types.specs.Items.{AllNames, IsName}
+use Rattle.imap_types.specs.Lines.{joined, spaced}
+use Rattle.imap_types.specs.Strings.{escaped}
+use Rattle.imap_types.specs.Texts.{crlf}
 use Rattle.store_responses.specs.ResponseTexts.{count_text, flags_text, internal_date_text, item_texts, modseq_text, octets_text}
 use Rattle.store_responses.specs.Sendable.{octets_of}
 use Rattle.small_answers.specs.Limits.{text_limit, total_length}

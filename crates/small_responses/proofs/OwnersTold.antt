@@ -4,7 +4,7 @@ use Rattle.std.specs.List.{AllByRecursion}
 use Rattle.std.proofs.lemmas.Bool.{false≢true}
 use Rattle.std.proofs.lemmas.List.Elements.{All-from_recursion, recursion_from_All}
 use Rattle.std.proofs.lemmas.Option.{get_or_from_slice_get, none-some, same_Some, slice_get_within}
-use Rattle.imap_syntax.specs.Items.{kept}
+use Rattle.imap_types.specs.Items.{kept}
 use Rattle.honest_store.specs.StoreMail.{StoreMessage, StoreFolder, StoreMail, folder_called, has_flag}
 use Rattle.honest_store.specs.WellFormed.{IsStoreFolder, IsStoreMessage}
 use Rattle.honest_store.specs.MessageCommands.{flags_after}

@@ -10,9 +10,9 @@ use Rattle.std.specs.List.{list_any}
 use Rattle.std.specs.Ordering.{match_ordering, ordering_reverse}
 use Rattle.std.specs.declared.cmp.Ordering.{Ordering}
 use Rattle.std.specs.declared.cmp.Ordering.TheVariants.{Less, Equal, Greater}
-use Rattle.imap_syntax.specs.Items.{add_name, kept, kept_from}
-use Rattle.imap_syntax.specs.Octets.{lower}
-use Rattle.imap_syntax.proofs.KeptLemmas.{AreSorted, IsUnder, sorted_insert}
+use Rattle.imap_types.specs.Items.{add_name, kept, kept_from}
+use Rattle.imap_types.specs.Octets.{lower}
+use Rattle.imap_types.proofs.KeptLemmas.{AreSorted, IsUnder, sorted_insert}
 use Rattle.honest_store.specs.MessageCommands.{flags_after}
 use Rattle.small_answers.specs.Limits.{text_limit, total_length}
 use Rattle.small_answers.specs.OwnersCalls.{seen_flag}

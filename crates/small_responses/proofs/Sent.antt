@@ -6,18 +6,18 @@ use Rattle.std.proofs.lemmas.List.{length-take}
 use Rattle.std.proofs.lemmas.List.Elements.{All-from_recursion, All-take, recursion_from_All}
 use Rattle.std.proofs.lemmas.List.Sums.{count_by-le-length}
 use Rattle.text_words.specs.LineEnds.{line_end_len}
-use Rattle.imap_syntax.specs.declared.code.Code.{Code}
-use Rattle.imap_syntax.specs.declared.code.Code.TheVariants as code
-use Rattle.imap_syntax.specs.declared.response.FetchItems.{FetchItems}
-use Rattle.imap_syntax.specs.declared.response.Response.TheVariants as response
-use Rattle.imap_syntax.specs.declared.response.Status.{Status}
-use Rattle.imap_syntax.specs.declared.response.Status.TheVariants as status
-use Rattle.imap_syntax.specs.declared.uid_set.UidRange.{UidRange}
-use Rattle.imap_syntax.specs.Items.{AllNames, body_limit, header_limit, no_items}
-use Rattle.imap_syntax.specs.Lines.{joined}
-use Rattle.imap_syntax.specs.Strings.{escaped, quoted}
-use Rattle.imap_syntax.specs.Texts.{crlf}
-use Rattle.imap_syntax.proofs.KeptLemmas.{kept_again}
+use Rattle.imap_types.specs.declared.code.Code.{Code}
+use Rattle.imap_types.specs.declared.code.Code.TheVariants as code
+use Rattle.imap_types.specs.declared.response.FetchItems.{FetchItems}
+use Rattle.imap_types.specs.declared.response.Response.TheVariants as response
+use Rattle.imap_types.specs.declared.response.Status.{Status}
+use Rattle.imap_types.specs.declared.response.Status.TheVariants as status
+use Rattle.imap_types.specs.declared.uid_set.UidRange.{UidRange}
+use Rattle.imap_types.specs.Items.{AllNames, body_limit, header_limit, no_items}
+use Rattle.imap_types.specs.Lines.{joined}
+use Rattle.imap_types.specs.Strings.{escaped, quoted}
+use Rattle.imap_types.specs.Texts.{crlf}
+use Rattle.imap_types.proofs.KeptLemmas.{kept_again}
 use Rattle.honest_store.specs.StoreMail.{StoreMessage, StoreFolder}
 use Rattle.honest_store.specs.WellFormed.{AscendByUid, IsModseq, IsUpTo, IsStoreFolder, IsStoreMessage, nearest_date}
 use Rattle.honest_store.specs.Headers.{begins_with_empty_line, empty_line, header_section, header_told, through_empty_line}

@@ -1,10 +1,10 @@
 -- What must hold of the small store's mail, so that each of its responses has a spelling (RFC 9051 section 9).
 use Rattle.std.specs.Prelude.{◌≡◌, ◌⊎◌, ℕ, ◌<◌, ◌≤◌, [], ◌∷◌, ◌++◌, List, length, codes, All, not, filter, bytes_eq}
-use Rattle.imap_syntax.specs.declared.command.Command.{Command}
-use Rattle.imap_syntax.specs.declared.command.Command.TheVariants as command
-use Rattle.imap_syntax.specs.declared.response.Response.{Response}
-use Rattle.imap_syntax.specs.declared.response.Response.TheVariants as response
-use Rattle.imap_syntax.specs.Items.{AllNames}
+use Rattle.imap_types.specs.declared.command.Command.{Command}
+use Rattle.imap_types.specs.declared.command.Command.TheVariants as command
+use Rattle.imap_types.specs.declared.response.Response.{Response}
+use Rattle.imap_types.specs.declared.response.Response.TheVariants as response
+use Rattle.imap_types.specs.Items.{AllNames}
 use Rattle.honest_store.specs.StoreMail.{StoreMessage, StoreFolder, StoreMail}
 use Rattle.honest_store.specs.Sessions.{StoreAnswer}
 use Rattle.small_answers.specs.Limits.{text_limit, total_length}

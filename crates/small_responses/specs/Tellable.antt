@@ -1,5 +1,5 @@
 -- What who answers has to know: the small store's mail can be told, and a command leaves it so.
-use Rattle.imap_syntax.specs.declared.command.Command.{Command}
+use Rattle.imap_types.specs.declared.command.Command.{Command}
 use Rattle.honest_store.specs.StoreMail.{StoreMail}
 use Rattle.small_answers.specs.SmallMail.{HasStorableParts, IsSmallMail}
 use Rattle.small_responses.specs.SendableMail.{HasSendableParts, IsSendableMail}

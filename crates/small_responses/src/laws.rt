@@ -1,6 +1,6 @@
 //! What the small store answers may be sent, as clauses of functions that do nothing.
 ghost use Rattle.std.specs.Prelude.{◌≡◌, ℕ, ◌^◌, ◌<◌, ℤ, true, List, All, length};
-ghost use Rattle.imap_syntax.specs.declared.command.Command.{Command};
+ghost use Rattle.imap_types.specs.declared.command.Command.{Command};
 ghost use Rattle.honest_store.specs.StoreMail.{StoreMail};
 ghost use Rattle.honest_store.specs.Sessions.{StoreAnswer, StoreSession};
 ghost use Rattle.honest_store.specs.WellFormed.{nearest_date};

@@ -1,7 +1,7 @@
 -- What there is to a command for whose refusal there is no cause.
 use Rattle.std.proofs.Common.{◌≡◌, ◌≢◌, ◌⊎◌, inl, inr, ℕ, ℤ, ◌<◌, ◌≤◌, ◌^◌, Bool, true, false, not, List, [], Option, Some, None, refl, ap, ◌∙◌, arith}
 use Rattle.std.proofs.lemmas.Bool.{cases_order, false_from_ne_true}
-use Rattle.imap_syntax.specs.declared.command.Command.TheVariants as command
+use Rattle.imap_types.specs.declared.command.Command.TheVariants as command
 use Rattle.honest_store.specs.StoreMail.{StoreMessage, StoreFolder, folder_called, message_numbered}
 use Rattle.honest_store.specs.Sessions.{StoreSession}
 use Rattle.honest_store.specs.MessageCommands.{flags_after, is_deleted}

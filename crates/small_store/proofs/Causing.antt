@@ -3,9 +3,9 @@ use Rattle.std.proofs.Common.{◌≡◌, ◌⊎◌, inl, inr, ℕ, zero, suc, �
 use Rattle.std.proofs.Common.{arith, Any, IsSome, is_some, bytes_eq, nat_lt, if◌then◌else◌, true≢false}
 use Rattle.std.specs.List.{flat_map, list_any}
 use Rattle.std.proofs.lemmas.Bool.{ltb-false}
-use Rattle.imap_syntax.specs.declared.command.Command.{Command}
-use Rattle.imap_syntax.specs.declared.command.Command.TheVariants as command
-use Rattle.imap_syntax.specs.Folders.{folder_name}
+use Rattle.imap_types.specs.declared.command.Command.{Command}
+use Rattle.imap_types.specs.declared.command.Command.TheVariants as command
+use Rattle.imap_types.specs.Folders.{folder_name}
 use Rattle.honest_store.specs.StoreMail.{StoreFolder, StoreMail, folder_called}
 use Rattle.honest_store.specs.FolderChanges.{child_part, inbox_name, renamed_child}
 use Rattle.honest_store.specs.Sessions.{StoreSession}

@@ -1,7 +1,7 @@
 -- Commands that earlier tests left.
 use Rattle.std.proofs.Common.{◌≡◌, ℕ, ℤ, Bool, List, Option, None, refl}
-use Rattle.imap_syntax.specs.declared.command.Command.{Command}
-use Rattle.imap_syntax.specs.declared.command.Command.TheVariants as command
+use Rattle.imap_types.specs.declared.command.Command.{Command}
+use Rattle.imap_types.specs.declared.command.Command.TheVariants as command
 use Rattle.honest_store.specs.Sessions.{StoreSession}
 use Rattle.small_answers.specs.Causes.{NeedsSelected, RefusalCause}
 use Rattle.small_store.specs.reading.Steps.{ReadsMessages, UsesMessages}

@@ -1,6 +1,6 @@
 -- What is due to a command that reads messages of the folder that is selected.
 use Rattle.std.proofs.Common.{◌≡◌, ℕ, Bool, true, ◌==◌, Option, Some, sym, ap, ◌∙◌}
-use Rattle.imap_syntax.specs.declared.command.Command.TheVariants as command
+use Rattle.imap_types.specs.declared.command.Command.TheVariants as command
 use Rattle.honest_store.specs.StoreMail.{StoreFolder}
 use Rattle.honest_store.specs.Sessions.{StoreSession, StoreAnswer}
 use Rattle.small_answers.specs.Changes.{selected_folder}

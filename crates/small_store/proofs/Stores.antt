@@ -3,8 +3,8 @@ use Rattle.std.proofs.Common.{◌≡◌, ℕ, zero, suc, ◌+◌, ◌<◌, ◌�
 use Rattle.std.specs.Prelude.{option_map}
 use Rattle.std.specs.List.{slice_get}
 use Rattle.std.proofs.lemmas.Option.{get_or_from_slice_get, slice_get_within, slice_get-map}
-use Rattle.imap_syntax.specs.declared.response.Response.TheVariants as response
-use Rattle.imap_syntax.specs.Items.{no_items}
+use Rattle.imap_types.specs.declared.response.Response.TheVariants as response
+use Rattle.imap_types.specs.Items.{no_items}
 use Rattle.honest_store.specs.StoreMail.{StoreMessage}
 use Rattle.honest_store.specs.WellFormed.{AscendByUid}
 use Rattle.honest_store.specs.MessageChanges.{with_flags_at, flagged_messages}

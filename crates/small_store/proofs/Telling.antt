@@ -1,6 +1,6 @@
 -- Mail that can be told stays so, whatever is answered and whatever the owner does.
 use Rattle.std.proofs.Common.{◌≡◌, ℕ, ℤ, ◌^◌, ◌<◌, true, List, length}
-use Rattle.imap_syntax.specs.declared.command.Command.{Command}
+use Rattle.imap_types.specs.declared.command.Command.{Command}
 use Rattle.honest_store.specs.StoreMail.{StoreMail}
 use Rattle.honest_store.specs.WellFormed.{nearest_date}
 use Rattle.honest_store.specs.Sessions.{StoreAnswer, StoreSession}

@@ -1,9 +1,9 @@
 // What the store answers to a command.
 ghost use Rattle.std.specs.Prelude.{◌≡◌, []};
-ghost use Rattle.imap_syntax.specs.declared.code.Code.TheVariants as codes;
-ghost use Rattle.imap_syntax.specs.declared.response.Status.TheVariants as status;
+ghost use Rattle.imap_types.specs.declared.code.Code.TheVariants as codes;
+ghost use Rattle.imap_types.specs.declared.response.Status.TheVariants as status;
 
-use imap_syntax::{Code, Response, Status};
+use imap_types::{Code, Response, Status};
 use std::alloc::Global;
 use std::marker::Model;
 

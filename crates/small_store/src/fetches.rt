@@ -1,13 +1,13 @@
 // What fetches tell of messages (RFC 9051 sections 6.4.5 and 7.5.2).
 ghost use Rattle.std.specs.Prelude.{◌≡◌, ◌<◌, ◌+◌, ◌++◌, ℕ, IfOk, OnOk, Some, None, length, map, filter, if◌then◌else◌};
-ghost use Rattle.imap_syntax.specs.declared.response.Response.TheVariants as response;
-ghost use Rattle.imap_syntax.specs.Items.{no_items};
+ghost use Rattle.imap_types.specs.declared.response.Response.TheVariants as response;
+ghost use Rattle.imap_types.specs.Items.{no_items};
 ghost use Rattle.honest_store.specs.WellFormed.{AscendByUid};
 ghost use Rattle.small_answers.specs.ToldResponses as told;
 ghost use Rattle.small_store.specs.reading.Fetches as fetches;
 
-use gate_world::{Bytes, Names};
-use imap_syntax::{FetchItems, Response};
+use imap_types::{FetchItems, Response};
+use octets::{Bytes, Names};
 use small_mail::StoredMessage;
 use small_mail::headers::{body_told, header_told};
 use std::alloc::{AllocError, Global};

@@ -1,7 +1,7 @@
 // The store: its mail, and a session over it.
 ghost use Rattle.std.specs.Prelude.{◌≡◌, ◌≢◌, ◌⊎◌, ◌<◌, ◌^◌, ◌++◌, ℕ, [], length, List, Option, Some, None, IfOk, OnErr, OnOk, MatchOption};
 ghost use Rattle.std.specs.List.{flat_map};
-ghost use Rattle.imap_syntax.specs.declared.command.Command.TheVariants as commands;
+ghost use Rattle.imap_types.specs.declared.command.Command.TheVariants as commands;
 ghost use Rattle.honest_store.specs.StoreMail.{folder_called, StoreFolder};
 ghost use Rattle.honest_store.specs.Sessions.{StoreAnswer, StoreSession};
 ghost use Rattle.honest_store.specs.WellFormed.{AscendByUid, IsStoreFolder};
@@ -23,8 +23,8 @@ use crate::fetches::{Asked, Which, greatest_uid, push_fetches};
 use crate::messages::{append, expunge, move_out, store};
 use crate::selecting::{closed_responses, select_responses};
 use crate::told::{list_responses, two_names};
-use gate_world::Bytes;
-use imap_syntax::{Code, Command, Response};
+use imap_types::{Code, Command, Response};
+use octets::Bytes;
 use small_mail::names::told_name;
 use small_mail::{StoredFolder, StoredMail, StoredMessage};
 use std::alloc::{AllocError, Global};

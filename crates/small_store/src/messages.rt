@@ -1,9 +1,9 @@
 // Commands that change messages (RFC 9051 sections 6.3.12 and 6.4.6 to 6.4.9). Where memory is wanting they change nothing.
 ghost use Rattle.std.specs.Prelude.{◌≡◌, ◌<◌, ◌+◌, ◌^◌, ℕ, [], ◌∷◌, Option, Some, None, true, false, length, IfOk, OnErr, MatchOption};
-ghost use Rattle.imap_syntax.specs.declared.code.Code.TheVariants as codes;
-ghost use Rattle.imap_syntax.specs.declared.response.Response.TheVariants as response;
-ghost use Rattle.imap_syntax.specs.declared.response.Status.TheVariants as status;
-ghost use Rattle.imap_syntax.specs.Items.{no_items};
+ghost use Rattle.imap_types.specs.declared.code.Code.TheVariants as codes;
+ghost use Rattle.imap_types.specs.declared.response.Response.TheVariants as response;
+ghost use Rattle.imap_types.specs.declared.response.Status.TheVariants as status;
+ghost use Rattle.imap_types.specs.Items.{no_items};
 ghost use Rattle.honest_store.specs.StoreMail.{message_numbered, IsFolderNamed, StoreFolder, StoreMessage};
 ghost use Rattle.honest_store.specs.WellFormed.{IsStoreMail, nearest_date};
 ghost use Rattle.honest_store.specs.MessageCommands.{flags_after, is_deleted, sent_message};
@@ -17,8 +17,8 @@ ghost use Rattle.small_store.specs.reading.Steps.{Gives, session_of};
 use crate::answer::Answer;
 use crate::fetches::{flag_items, sequence_number};
 use crate::told::{ok_response, set_of, vanished};
-use gate_world::{Bytes, Names};
-use imap_syntax::{Code, Response};
+use imap_types::{Code, Response};
+use octets::{Bytes, Names};
 use small_mail::flags::{DELETED, flags_after, has_name, kept};
 use small_mail::{StoredFolder, StoredMail};
 use std::alloc::{AllocError, Global};

@@ -8,7 +8,7 @@ ghost use Rattle.small_responses.specs.Tellable.{IsTellableMail};
 
 use crate::machine::Machine;
 use crate::messages::is_full_for_move;
-use gate_world::{Bytes, Names};
+use octets::{Bytes, Names};
 use small_mail::StoredMail;
 use small_mail::flags::{SEEN, flags_after, has_name};
 use std::alloc::{AllocError, Global};

@@ -1,7 +1,7 @@
 // When a command is refused (RFC 9051 section 7.1.2).
 ghost use Rattle.std.specs.Prelude.{◌≡◌, ◌≢◌, ℕ, ℤ, List, Some, None, IfOk, MatchBool, MatchOption};
 ghost use Rattle.std.specs.List.{list_any};
-ghost use Rattle.imap_syntax.specs.declared.command.Command.TheVariants as commands;
+ghost use Rattle.imap_types.specs.declared.command.Command.TheVariants as commands;
 ghost use Rattle.small_answers.specs.Changes as changes;
 ghost use Rattle.small_answers.specs.Causes.{NeedsSelected, RefusalCause};
 ghost use Rattle.small_answers.specs.SmallMail.{IsSmallMail};
@@ -9,8 +9,8 @@ ghost use Rattle.small_store.specs.reading.Names as names;
 
 use crate::machine::Machine;
 use crate::messages::is_full_for_move;
-use gate_world::Names;
-use imap_syntax::Command;
+use imap_types::Command;
+use octets::Names;
 use small_mail::flags::{DELETED, MAX_TEXT_OCTETS, flags_after, has_name, kept, total_len};
 use small_mail::names::{child_name, child_part, told_name};
 use small_mail::{StoredFolder, StoredMail};

@@ -1,13 +1,13 @@
 // SELECT (RFC 9051 section 6.3.2, RFC 7162 section 3.2.5).
 ghost use Rattle.std.specs.Prelude.{◌≡◌, ◌++◌, ℕ, Option, OnOk, IfOk, map, filter, nat_lt, true};
-ghost use Rattle.imap_syntax.specs.declared.code.Code.TheVariants as codes;
-ghost use Rattle.imap_syntax.specs.declared.response.Response.TheVariants as response;
+ghost use Rattle.imap_types.specs.declared.code.Code.TheVariants as codes;
+ghost use Rattle.imap_types.specs.declared.response.Response.TheVariants as response;
 ghost use Rattle.honest_store.specs.WellFormed.{IsStoreFolder};
 ghost use Rattle.small_answers.specs.ToldResponses as told;
 
 use crate::fetches::{Asked, Which, push_fetches};
 use crate::told::{list_response, ok_response, system_flags, vanished};
-use imap_syntax::{Code, Response};
+use imap_types::{Code, Response};
 use small_mail::StoredFolder;
 use std::alloc::{AllocError, Global};
 

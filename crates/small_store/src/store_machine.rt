@@ -14,7 +14,7 @@ ghost use Rattle.small_responses.specs.Tellable.{IsTellableCommand, IsTellableMa
 
 use crate::answer::Answer;
 use crate::machine::Machine;
-use imap_syntax::Command;
+use imap_types::Command;
 use small_mail::StoredFolder;
 use std::alloc::{AllocError, Global};
 use std::marker::Model;

@@ -1,10 +1,10 @@
 // The responses by which the store tells its folders (RFC 9051 section 7, RFC 7162 section 3.2).
 ghost use Rattle.std.specs.Prelude.{◌≡◌, [], ◌∷◌, IfOk, map};
-ghost use Rattle.imap_syntax.specs.declared.response.Response.TheVariants as response;
+ghost use Rattle.imap_types.specs.declared.response.Response.TheVariants as response;
 ghost use Rattle.small_answers.specs.ToldResponses as told;
 
-use gate_world::{Bytes, Listed, Names};
-use imap_syntax::{Code, Response, Status, UidRange, UidSet};
+use imap_types::{Code, Response, Status, UidRange, UidSet};
+use octets::{Bytes, Listed, Names};
 use small_mail::StoredFolder;
 use small_mail::flags::kept;
 use small_mail::names::DELIMITER;

@@ -1,7 +1,7 @@
 // A client's copy of INBOX, brought up to date by what a SELECT tells.
-use gate_world::Names;
 use imap_grammar::{Code, FetchItems, Response};
-use imap_syntax::UidSet;
+use imap_types::UidSet;
+use octets::Names;
 use small_mail::StoredFolder;
 use std::alloc::{AllocError, Global};
 use std::collections::BTreeMap;

@@ -1,31 +1,21 @@
-//! What it costs to serve mail. `state_speed MESSAGES EACH` makes mail of MESSAGES messages in memory, with EACH in each
-//! conversation and with headers of some 1,400 octets. It reads their headers alone, takes them into a state, and then takes
-//! changes of one message at a time into it, the same mail again, and one new message at a time. `state_speed MESSAGES EACH FILTER`
-//! takes them in, and times queries of Emails beside sorts of the same keys, and one by FILTER, a filter of Emails as JSON.
+//! What it costs to serve mail: reads rows from standard input, mail that a store tells and what is done over it, and says how long
+//! each took. `tools/state-speed` makes the rows, and says what they are.
 #![tactic(auto)]
 
-mod made_mail;
-
-// Queries.
+// Queries, and sorts of the same keys.
 mod plain;
 mod queries;
-mod timed;
 
-use made_mail::{inbox, tell_new, tell_seen};
 use mail_header::fields;
 use mail_state::{MailState, MailType};
 use process_watch::{Watch, resident};
-use queries::{say_changes, say_filter, say_queries};
-use read_methods::type_text;
-use std::alloc::Global;
-use std::env;
+use random_mail::Told;
+use std::alloc::{AllocError, Global};
+use std::io;
 use told_mail::Mirror;
 
-/// How many messages are changed, one at a time; how often the same mail is taken in again; and how many messages come.
-const CHANGES: u32 = 5;
-
 /// How many fields the headers have, and how many octets. Each header is read once.
-fn read_headers(alloc: Global, mirror: &Mirror) -> Result<(usize, usize), anyhow::Error> {
+fn read_headers(alloc: Global, mirror: &Mirror) -> Result<(usize, usize), AllocError> {
     let mut count: usize = 0;
     let mut octets: usize = 0;
     for held in mirror.folders() {
@@ -38,144 +28,95 @@ fn read_headers(alloc: Global, mirror: &Mirror) -> Result<(usize, usize), anyhow
     Ok((count, octets))
 }
 
-/// How many Emails and Threads there are.
-fn say_rows(rt: &HostRuntime, state: &MailState) -> Result<(), anyhow::Error> {
-    let emails = state.numbers(MailType::Email)?.len();
-    let threads = state.numbers(MailType::Thread)?.len();
-    let place = state.list(MailType::Email).place();
-    println!(rt; "{emails} Emails, {threads} Threads, place {place}")?;
-    Ok(())
-}
-
-/// Takes all messages into a new state.
-fn take_in(rt: &HostRuntime, mirror: &Mirror, messages: u32) -> Result<MailState, anyhow::Error> {
-    let before = resident(rt);
-    let state = MailState::new(rt.alloc(), 1)?;
-    let watch = Watch::start(rt);
-    let (state, _moved) = state.apply(mirror)?;
-    watch.say(rt, "taken in");
-    let more = resident(rt).saturating_sub(before);
-    let octets = more.checked_div(u64::from(messages)).unwrap_or(0);
-    println!(rt; "{octets} octets of memory a row, beside its header's")?;
-    say_rows(rt, &state)?;
-    Ok(state)
-}
-
-/// Takes what was told in.
-fn take(
-    rt: &HostRuntime,
-    mirror: &Mirror,
-    state: MailState,
-    what: &str,
-) -> Result<MailState, anyhow::Error> {
-    let watch = Watch::start(rt);
-    let (state, _moved) = state.apply(mirror)?;
-    watch.say(rt, what);
-    Ok(state)
-}
-
 /// Says how long it takes to read the headers alone.
-fn say_headers(rt: &HostRuntime, mirror: &Mirror) -> Result<(), anyhow::Error> {
+fn say_headers(rt: &HostRuntime, mirror: &Mirror) -> Result<(), AllocError> {
     let watch = Watch::start(rt);
     let (count, octets) = read_headers(rt.alloc(), mirror)?;
     watch.say(rt, "headers read");
-    println!(rt; "{count} fields, {octets} octets of headers")?;
+    let _said = println!(rt; "{count} fields, {octets} octets of headers");
     Ok(())
 }
 
-/// Takes changes of one message at a time in.
-fn take_changes(
-    rt: &HostRuntime,
-    mirror: &mut Mirror,
-    state: MailState,
-    messages: u32,
-) -> Result<MailState, anyhow::Error> {
-    let mut state = state;
-    for change in 0..CHANGES {
-        let uid = (messages / CHANGES)
-            .saturating_mul(change)
-            .saturating_add(1);
-        tell_seen(rt.alloc(), mirror, uid)?;
-        state = take(rt, mirror, state, "one message changed")?;
+/// Says how many Emails and Threads there are, and how many octets of memory came to the process.
+fn say_rows(rt: &HostRuntime, state: &MailState, more: u64) -> Result<(), AllocError> {
+    let emails = state.numbers(MailType::Email)?.len();
+    let threads = state.numbers(MailType::Thread)?.len();
+    let place = state.list(MailType::Email).place();
+    let _said = println!(rt;
+        "{emails} Emails at place {place}, {threads} Threads; {more} octets of memory more"
+    );
+    Ok(())
+}
+
+/// Mail that is told, and the state that serves it.
+#[derive(Drop)]
+struct Served {
+    told: Told,
+    /// None where a step was refused.
+    state: Option<MailState>,
+}
+
+impl Served {
+    fn new(alloc: Global) -> Result<Served, AllocError> {
+        let state = MailState::new(alloc, 1)?;
+        Ok(Served {
+            told: Told::new(alloc),
+            state: Some(state),
+        })
     }
-    Ok(state)
-}
 
-/// Takes new messages in, one at a time.
-fn take_new(
-    rt: &HostRuntime,
-    mirror: &mut Mirror,
-    state: MailState,
-    messages: u32,
-    each: u32,
-) -> Result<MailState, anyhow::Error> {
-    let mut state = state;
-    for more in 0..CHANGES {
-        tell_new(rt.alloc(), mirror, messages.saturating_add(more), each)?;
-        state = take(rt, mirror, state, "one new message")?;
-    }
-    Ok(state)
-}
-
-/// Takes the same mail in again and again.
-fn take_again(
-    rt: &HostRuntime,
-    mirror: &Mirror,
-    state: MailState,
-) -> Result<MailState, anyhow::Error> {
-    let mut state = state;
-    for _ in 0..CHANGES {
-        state = take(rt, mirror, state, "nothing changed")?;
-    }
-    Ok(state)
-}
-
-fn measure(rt: &HostRuntime, messages: u32, each: u32) -> Result<(), anyhow::Error> {
-    let mut mirror = inbox(rt.alloc(), messages, each)?;
-    say_headers(rt, &mirror)?;
-    let state = take_in(rt, &mirror, messages)?;
-    let state = take_changes(rt, &mut mirror, state, messages)?;
-    let state = take_again(rt, &mirror, state)?;
-    let state = take_new(rt, &mut mirror, state, messages, each)?;
-    say_rows(rt, &state)
-}
-
-/// Times queries, and what they answer of one new message and of one that is changed.
-fn measure_queries(
-    rt: &HostRuntime,
-    messages: u32,
-    each: u32,
-    filter: &str,
-) -> Result<(), anyhow::Error> {
-    let mut mirror = inbox(rt.alloc(), messages, each)?;
-    let state = take_in(rt, &mirror, messages)?;
-    say_queries(rt, &state)?;
-    say_filter(rt, &state, filter)?;
-    let since = type_text(rt.alloc(), &state, MailType::Email)?;
-    tell_new(rt.alloc(), &mut mirror, messages, each)?;
-    let state = take(rt, &mirror, state, "one new message")?;
-    say_changes(rt, &state, since.as_str())?;
-    let since = type_text(rt.alloc(), &state, MailType::Email)?;
-    tell_seen(rt.alloc(), &mut mirror, messages / 2)?;
-    let state = take(rt, &mirror, state, "one message changed")?;
-    say_changes(rt, &state, since.as_str())
-}
-
-fn number(word: String) -> u32 {
-    word.parse::<u32>().unwrap_or(0)
-}
-
-fn main(rt: HostRuntime) -> Result<(), anyhow::Error> {
-    let mut words = env::args(&rt)?;
-    let _ = words.next();
-    match (words.next(), words.next(), words.next()) {
-        (Some(messages), Some(each), Some(filter)) => {
-            measure_queries(&rt, number(messages), number(each), &filter)
-        }
-        (Some(messages), Some(each), None) => measure(&rt, number(messages), number(each)),
-        _ => {
-            println!(rt; "usage: state_speed MESSAGES EACH, or state_speed MESSAGES EACH FILTER")?;
-            Ok(())
+    /// The state goes on to the mail.
+    fn follow(&mut self) {
+        if let Some(state) = self.state.take() {
+            self.state = state.apply(&self.told.mirror).ok().map(|step| step.0);
         }
     }
+
+    /// Says what it took to go on, which is called so.
+    fn say_step(&mut self, rt: &HostRuntime, what: &str) -> Result<(), AllocError> {
+        let before = resident(rt);
+        let watch = Watch::start(rt);
+        self.follow();
+        watch.say(rt, what);
+        let more = resident(rt).saturating_sub(before);
+        match &self.state {
+            Some(state) => say_rows(rt, state, more),
+            None => Ok(()),
+        }
+    }
+
+    /// Says what it took to do what the word says with the state.
+    fn say_served(&self, rt: &HostRuntime, word: &str, text: &str) -> Result<(), AllocError> {
+        match &self.state {
+            Some(state) if word == "sort" => plain::say_sort(rt, state, text),
+            Some(state) => Ok(queries::say_query(rt, state, word, text)),
+            None => Ok(()),
+        }
+    }
+
+    /// Does what a line says.
+    fn take(&mut self, rt: &HostRuntime, line: &str) -> Result<(), AllocError> {
+        let (word, text) = line.split_once(' ').unwrap_or((line, ""));
+        match word {
+            "headers" => say_headers(rt, &self.told.mirror),
+            "step" => self.say_step(rt, text),
+            "query" | "changes" | "sort" => self.say_served(rt, word, text),
+            _ => self.told.take(word, text),
+        }
+    }
+}
+
+/// Does what each line says.
+fn take_all(rt: &HostRuntime, lines: &str) -> Result<(), AllocError> {
+    let mut served = Served::new(rt.alloc())?;
+    for line in lines.lines() {
+        served.take(rt, line)?;
+    }
+    Ok(())
+}
+
+fn main(rt: HostRuntime) -> io::Result<()> {
+    let lines = io::read_to_string(rt.alloc(), rt.reader())?;
+    take_all(&rt, &lines)?;
+    Ok(())
 }

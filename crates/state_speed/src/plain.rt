@@ -1,22 +1,23 @@
-// Keys of Emails by themselves, as a program has them that sorts nothing else.
+// Sorts of the keys of Emails, as a program does them that does nothing else.
 use mail_maps::EmailRow;
 use mail_state::{MailState, MailType};
+use process_watch::Watch;
 use std::alloc::{AllocError, Global};
 
 /// What senders are searched for, in small letters.
-pub const WORD: &[u8] = b"dora";
+const WORD: &[u8] = b"dora";
 
 /// The texts of an Email by which it's searched and sorted, and its date and number.
 #[derive(Drop)]
-pub struct Keys {
+struct Keys {
     /// The text of From.
-    pub from: Vec<u8>,
+    from: Vec<u8>,
     /// The base subject, in small letters.
-    pub subject: Vec<u8>,
+    subject: Vec<u8>,
     /// When it came.
-    pub received: i64,
+    received: i64,
     /// Its number.
-    pub number: u64,
+    number: u64,
 }
 
 fn keys_of(alloc: Global, row: &EmailRow) -> Result<Keys, AllocError> {
@@ -33,7 +34,7 @@ fn keys_of(alloc: Global, row: &EmailRow) -> Result<Keys, AllocError> {
 }
 
 /// The keys of all Emails, by number.
-pub fn keys_of_all(alloc: Global, state: &MailState) -> Result<Vec<Keys>, AllocError> {
+fn keys_of_all(alloc: Global, state: &MailState) -> Result<Vec<Keys>, AllocError> {
     let mut all = Vec::new(alloc);
     for number in &state.numbers(MailType::Email)? {
         if let Some(row) = state.email(*number) {
@@ -44,7 +45,7 @@ pub fn keys_of_all(alloc: Global, state: &MailState) -> Result<Vec<Keys>, AllocE
 }
 
 /// Dates with numbers.
-pub fn dates(alloc: Global, all: &[Keys]) -> Result<Vec<(i64, u64)>, AllocError> {
+fn dates(alloc: Global, all: &[Keys]) -> Result<Vec<(i64, u64)>, AllocError> {
     let mut dates = Vec::with_capacity(alloc, all.len())?;
     for keys in all {
         dates.push((keys.received, keys.number))?;
@@ -53,7 +54,7 @@ pub fn dates(alloc: Global, all: &[Keys]) -> Result<Vec<(i64, u64)>, AllocError>
 }
 
 /// Subjects with numbers.
-pub fn subjects(alloc: Global, all: &[Keys]) -> Result<Vec<(&[u8], u64)>, AllocError> {
+fn subjects(alloc: Global, all: &[Keys]) -> Result<Vec<(&[u8], u64)>, AllocError> {
     let mut subjects = Vec::with_capacity(alloc, all.len())?;
     for keys in all {
         subjects.push((keys.subject.as_slice(), keys.number))?;
@@ -62,7 +63,7 @@ pub fn subjects(alloc: Global, all: &[Keys]) -> Result<Vec<(&[u8], u64)>, AllocE
 }
 
 /// Texts of From with numbers.
-pub fn senders(alloc: Global, all: &[Keys]) -> Result<Vec<(&[u8], u64)>, AllocError> {
+fn senders(alloc: Global, all: &[Keys]) -> Result<Vec<(&[u8], u64)>, AllocError> {
     let mut senders = Vec::with_capacity(alloc, all.len())?;
     for keys in all {
         senders.push((keys.from.as_slice(), keys.number))?;
@@ -76,21 +77,21 @@ fn has_word(text: &[u8]) -> bool {
 }
 
 /// Sorts a copy of dates with numbers: how many there are.
-pub fn sort_dates(alloc: Global, dates: &[(i64, u64)]) -> Result<usize, AllocError> {
+fn sort_dates(alloc: Global, dates: &[(i64, u64)]) -> Result<usize, AllocError> {
     let mut sorted = dates.to_vec(alloc)?;
     sorted.sort_unstable();
     Ok(sorted.len())
 }
 
 /// The same of texts with numbers.
-pub fn sort_texts(alloc: Global, texts: &[(&[u8], u64)]) -> Result<usize, AllocError> {
+fn sort_texts(alloc: Global, texts: &[(&[u8], u64)]) -> Result<usize, AllocError> {
     let mut sorted = texts.to_vec(alloc)?;
     sorted.sort_unstable();
     Ok(sorted.len())
 }
 
 /// Searches the texts of From, and sorts the dates with numbers of those that have the word: how many do.
-pub fn search_and_sort(alloc: Global, all: &[Keys]) -> Result<usize, AllocError> {
+fn search_and_sort(alloc: Global, all: &[Keys]) -> Result<usize, AllocError> {
     let mut found = Vec::new(alloc);
     for keys in all {
         if has_word(keys.from.as_slice()) {
@@ -99,4 +100,54 @@ pub fn search_and_sort(alloc: Global, all: &[Keys]) -> Result<usize, AllocError>
     }
     found.sort_unstable();
     Ok(found.len())
+}
+
+fn say_count(rt: &HostRuntime, count: usize) {
+    let _said = println!(rt; "{count} items");
+}
+
+fn say_dates(rt: &HostRuntime, all: &[Keys]) -> Result<(), AllocError> {
+    let dates = dates(rt.alloc(), all)?;
+    let watch = Watch::start(rt);
+    let count = sort_dates(rt.alloc(), &dates)?;
+    watch.say(rt, "sort of dates");
+    say_count(rt, count);
+    Ok(())
+}
+
+fn say_texts(rt: &HostRuntime, texts: &[(&[u8], u64)], what: &str) -> Result<(), AllocError> {
+    let watch = Watch::start(rt);
+    let count = sort_texts(rt.alloc(), texts)?;
+    watch.say(rt, what);
+    say_count(rt, count);
+    Ok(())
+}
+
+fn say_subjects(rt: &HostRuntime, all: &[Keys]) -> Result<(), AllocError> {
+    let texts = subjects(rt.alloc(), all)?;
+    say_texts(rt, &texts, "sort of subjects")
+}
+
+fn say_senders(rt: &HostRuntime, all: &[Keys]) -> Result<(), AllocError> {
+    let texts = senders(rt.alloc(), all)?;
+    say_texts(rt, &texts, "sort of senders")
+}
+
+fn say_search(rt: &HostRuntime, all: &[Keys]) -> Result<(), AllocError> {
+    let watch = Watch::start(rt);
+    let count = search_and_sort(rt.alloc(), all)?;
+    watch.say(rt, "search of senders and sort of their dates");
+    say_count(rt, count);
+    Ok(())
+}
+
+/// Says how long a sort of all Emails' keys takes: of dates, of subjects, of senders, or of the dates that a search of senders finds.
+pub fn say_sort(rt: &HostRuntime, state: &MailState, what: &str) -> Result<(), AllocError> {
+    let all = keys_of_all(rt.alloc(), state)?;
+    match what {
+        "dates" => say_dates(rt, &all),
+        "subjects" => say_subjects(rt, &all),
+        "senders" => say_senders(rt, &all),
+        _ => say_search(rt, &all),
+    }
 }

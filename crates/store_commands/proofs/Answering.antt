@@ -4,8 +4,8 @@ use Rattle.std.proofs.Common.{arith, inl, inr}
 use Rattle.std.specs.Prelude.{Result, Ok, Err, IfOk, MatchResult}
 use Rattle.std.proofs.lemmas.List.{length-append, length-drop, take-append-drop, take-take, take-map, take_at, take-append-le, append-nil}
 use Rattle.std.proofs.lemmas.Bool.{lt-ltb, cases_lt, cases_order}
-use Rattle.imap_syntax.specs.declared.command.Command.{Command}
-use Rattle.imap_syntax.specs.Texts.{plain_of, plain_octets}
+use Rattle.imap_types.specs.declared.command.Command.{Command}
+use Rattle.imap_types.specs.Texts.{plain_of, plain_octets}
 use Rattle.command_parts.specs.Fields.{AreOctets}
 use Rattle.store_commands.specs.Requests.{IsCommandText}
 use Rattle.store_commands.specs.Answers.{IsCommand, IsCommandPrefix, IsProperCommandPrefix, IsReadAs, IsFinal, BeginsWithCommand}

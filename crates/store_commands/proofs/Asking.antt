@@ -8,16 +8,16 @@ use Rattle.std.specs.Cmp.Lexicographic.{slice_cmp}
 use Rattle.std.specs.Ordering.{match_ordering}
 use Rattle.std.specs.declared.cmp.Ordering.TheVariants.{Less, Equal, Greater}
 use Rattle.jiff_core.proofs.SignedLemmas.{signed_arith}
-use Rattle.imap_syntax.proofs.EachLemmas.{each_to}
-use Rattle.imap_syntax.proofs.KeptLemmas.{kept_again}
-use Rattle.imap_syntax.specs.declared.command.Command.{Command}
-use Rattle.imap_syntax.specs.declared.command.Command.TheVariants as command
-use Rattle.imap_syntax.specs.Octets.{is_text, is_atom, is_inside, lower}
-use Rattle.imap_syntax.specs.Texts.{Each, plain_of, plain_octets}
-use Rattle.imap_syntax.specs.Strings.{IsAtom, IsCounted}
-use Rattle.imap_syntax.specs.Items.{IsName, AllNames, add_name, kept_from}
-use Rattle.imap_syntax.specs.Dates.{seconds_from}
-use Rattle.imap_syntax.specs.DateTimes.{days_to, seconds_of, IsDateTime}
+use Rattle.imap_types.proofs.EachLemmas.{each_to}
+use Rattle.imap_types.proofs.KeptLemmas.{kept_again}
+use Rattle.imap_types.specs.declared.command.Command.{Command}
+use Rattle.imap_types.specs.declared.command.Command.TheVariants as command
+use Rattle.imap_types.specs.Octets.{is_text, is_atom, is_inside, lower}
+use Rattle.imap_types.specs.Texts.{Each, plain_of, plain_octets}
+use Rattle.imap_types.specs.Strings.{IsAtom, IsCounted}
+use Rattle.imap_types.specs.Items.{IsName, AllNames, add_name, kept_from}
+use Rattle.imap_types.specs.Dates.{seconds_from}
+use Rattle.imap_types.specs.DateTimes.{days_to, seconds_of, IsDateTime}
 use Rattle.honest_store.specs.WellFormed.{nearest_date}
 use Rattle.command_parts.specs.Fields.{fits_octet, AreOctets, IsTag, IsFolderName, IsCredential, IsFlagList}
 use Rattle.store_commands.specs.Requests.{IsSelectParameter, IsRequest}

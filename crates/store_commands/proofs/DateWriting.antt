@@ -7,9 +7,9 @@ use Rattle.jiff_core.specs.Calendar.{days_in_month, day_count}
 use Rattle.jiff_core.proofs.CalendarLemmas.{day_count-day, day_count-next_month, day_count-next_year, day_count-last_of_year, days_in_month_bounds}
 use Rattle.jiff_core.proofs.MarchLemmas.{day_count-early}
 use Rattle.jiff_core.proofs.SignedLemmas.{signed_arith}
-use Rattle.imap_syntax.specs.Octets.{is_digit}
-use Rattle.imap_syntax.specs.Dates.{Day, next_day, day_at, seconds_from, two_digits, four_digits, month_name, day_text, clock_text, day_text_of, date_text}
-use Rattle.imap_syntax.specs.DateTimes.{days_to, seconds_of, IsDigits, IsDate, IsTime, IsZone, IsDateTime}
+use Rattle.imap_types.specs.Octets.{is_digit}
+use Rattle.imap_types.specs.Dates.{Day, next_day, day_at, seconds_from, two_digits, four_digits, month_name, day_text, clock_text, day_text_of, date_text}
+use Rattle.imap_types.specs.DateTimes.{days_to, seconds_of, IsDigits, IsDate, IsTime, IsZone, IsDateTime}
 use Rattle.imap_values.proofs.DateLemmas.{year_small}
 use Rattle.honest_store.specs.WellFormed.{nearest_date}
 

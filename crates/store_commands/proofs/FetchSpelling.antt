@@ -5,9 +5,9 @@ use Rattle.std.specs.Fmt.{decimal}
 use Rattle.std.proofs.lemmas.Fmt.{decimal_digit}
 use Rattle.std.proofs.Common.{arith}
 use Rattle.std.proofs.lemmas.Bool.{eqb-true, or_cases, both_ways}
-use Rattle.imap_syntax.specs.declared.command.Command.{Command}
-use Rattle.imap_syntax.specs.declared.command.Command.TheVariants as command
-use Rattle.imap_syntax.specs.Texts.{IsWord, crlf}
+use Rattle.imap_types.specs.declared.command.Command.{Command}
+use Rattle.imap_types.specs.declared.command.Command.TheVariants as command
+use Rattle.imap_types.specs.Texts.{IsWord, crlf}
 use Rattle.store_commands.specs.Requests.{IsHeaderItems}
 use Rattle.command_parts.specs.declared.fixed_text.FixedText.{FixedText}
 use Rattle.command_parts.specs.declared.fixed_text.FixedText.TheVariants as word

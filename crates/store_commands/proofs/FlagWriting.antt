@@ -2,10 +2,10 @@
 use Rattle.std.proofs.Common.{◌≡◌, ℕ, Bool, true, false, List, [], ◌∷◌, ◌++◌, map, cond, refl, sym, ap, ◌∙◌, arith, inr}
 use Rattle.std.specs.Prelude.{codes, bytes_eq}
 use Rattle.imap_keywords.proofs.KeyLemmas.{same_text}
-use Rattle.imap_syntax.specs.Octets.{lower}
-use Rattle.imap_syntax.specs.Lines.{spaced, joined}
-use Rattle.imap_syntax.specs.Items.{IsName, AllNames, add_name, kept_from}
-use Rattle.imap_syntax.specs.Commands.{flag_text, more_flags, flags_inside, flags_text}
+use Rattle.imap_types.specs.Octets.{lower}
+use Rattle.imap_types.specs.Lines.{spaced, joined}
+use Rattle.imap_types.specs.Items.{IsName, AllNames, add_name, kept_from}
+use Rattle.imap_types.specs.Commands.{flag_text, more_flags, flags_inside, flags_text}
 use Rattle.command_parts.specs.Fields.{IsFlagList}
 use Rattle.store_commands.specs.Written.{AreKeptFlags}
 

@@ -2,15 +2,15 @@
 use Rattle.std.proofs.Common.{arith}
 use Rattle.std.proofs.Common.{◌≡◌, ℕ, Bool, true, false, List, [], ◌∷◌, ◌++◌, cond, Some, None, refl, sym, ◌∙◌, append_assoc}
 use Rattle.std.specs.Prelude.{◌==◌, ℤ, Result}
-use Rattle.imap_syntax.specs.declared.command.Command.{Command}
-use Rattle.imap_syntax.specs.declared.command.Command.TheVariants as command
+use Rattle.imap_types.specs.declared.command.Command.{Command}
+use Rattle.imap_types.specs.declared.command.Command.TheVariants as command
 use Rattle.command_parts.specs.declared.no_command.NoCommand.{NoCommand}
 use Rattle.command_parts.specs.declared.no_command.NoCommand.TheVariants.{NeedMore}
 use Rattle.command_parts.specs.declared.follow.Follow.{Follow}
 use Rattle.command_parts.specs.declared.follow.Follow.TheVariants as follow
 use Rattle.command_parts.specs.declared.fixed_text.FixedText.TheVariants as word
 use Rattle.command_parts.specs.reading.FixedTexts.{fixed_at}
-use Rattle.imap_syntax.specs.DateTimes.{IsDateTime}
+use Rattle.imap_types.specs.DateTimes.{IsDateTime}
 use Rattle.command_parts.specs.reading.Lexemes.{numeral_at, number_at}
 use Rattle.command_parts.specs.reading.Strings.{last_name_at, name_at, literal_at, flags_at, date_at, credential_at}
 use Rattle.store_commands.specs.reading.Arguments.{login_at, known_at, known_folder_at, new_folder_at, selected_at, select_at, append_at, create_at, delete_at, rename_at}

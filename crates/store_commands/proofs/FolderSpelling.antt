@@ -4,10 +4,10 @@ use Rattle.std.specs.Prelude.{◌⊎◌, nat_le, codes}
 use Rattle.std.specs.List.{list_all}
 use Rattle.std.proofs.lemmas.Bool.{eqb-true, and_parts}
 use Rattle.std.proofs.lemmas.List.{map-append, append-nil}
-use Rattle.imap_syntax.specs.declared.command.Command.{Command}
-use Rattle.imap_syntax.specs.declared.command.Command.TheVariants as command
-use Rattle.imap_syntax.specs.Octets.{lower}
-use Rattle.imap_syntax.specs.Texts.{Then, IsWord, crlf, IsCrlf}
+use Rattle.imap_types.specs.declared.command.Command.{Command}
+use Rattle.imap_types.specs.declared.command.Command.TheVariants as command
+use Rattle.imap_types.specs.Octets.{lower}
+use Rattle.imap_types.specs.Texts.{Then, IsWord, crlf, IsCrlf}
 use Rattle.command_parts.specs.Fields.{◌▷◌, IsFolderName}
 use Rattle.store_commands.specs.Requests.{IsAnyName, IsReturn, IsRequest}
 use Rattle.command_parts.specs.declared.follow.Follow.TheVariants as follow

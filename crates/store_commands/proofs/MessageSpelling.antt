@@ -2,10 +2,10 @@
 use Rattle.std.proofs.Common.{◌≡◌, ℕ, ◌≤◌, Bool, true, false, List, [], ◌∷◌, ◌++◌, cond, refl, sym, ap, subst, ◌∙◌, append_assoc, inl, inr}
 use Rattle.std.specs.Prelude.{codes}
 use Rattle.std.specs.Fmt.{decimal}
-use Rattle.imap_syntax.specs.declared.command.Command.{Command}
-use Rattle.imap_syntax.specs.declared.command.Command.TheVariants as command
-use Rattle.imap_syntax.specs.Texts.{IsWord, crlf}
-use Rattle.imap_syntax.specs.Lines.{joined}
+use Rattle.imap_types.specs.declared.command.Command.{Command}
+use Rattle.imap_types.specs.declared.command.Command.TheVariants as command
+use Rattle.imap_types.specs.Texts.{IsWord, crlf}
+use Rattle.imap_types.specs.Lines.{joined}
 use Rattle.command_parts.specs.Fields.{IsFlagList}
 use Rattle.command_parts.specs.declared.fixed_text.FixedText.{FixedText}
 use Rattle.command_parts.specs.declared.fixed_text.FixedText.TheVariants as word

@@ -2,10 +2,10 @@
 use Rattle.std.proofs.Common.{◌≡◌, ℕ, ◌≤◌, List, [], ◌∷◌, ◌++◌, length, refl, sym, ap, ◌∙◌, append_assoc, arith}
 use Rattle.std.specs.Fmt.{decimal}
 use Rattle.std.proofs.lemmas.List.{append-nil, map-append}
-use Rattle.imap_syntax.proofs.EachLemmas.{each_to, each_append}
-use Rattle.imap_syntax.specs.Octets.{is_digit}
-use Rattle.imap_syntax.specs.Texts.{crlf, plain_of, plain_octets, literal_limit}
-use Rattle.imap_syntax.specs.Commands.{Part, Plain, Literal, literal_head, put_before, pieces_of, joined_pieces}
+use Rattle.imap_types.proofs.EachLemmas.{each_to, each_append}
+use Rattle.imap_types.specs.Octets.{is_digit}
+use Rattle.imap_types.specs.Texts.{crlf, plain_of, plain_octets, literal_limit}
+use Rattle.imap_types.specs.Commands.{Part, Plain, Literal, literal_head, put_before, pieces_of, joined_pieces}
 use Rattle.imap_values.proofs.Cuts.{plain_small, digit_small}
 use Rattle.command_parts.specs.Fields.{fits_octet, AreOctets, EndsWithHead}
 use Rattle.command_parts.proofs.Readers.{some_cons, more_before}

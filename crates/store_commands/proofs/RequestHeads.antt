@@ -2,11 +2,11 @@
 use Rattle.std.proofs.Common.{◌≡◌, ℕ, Bool, true, false, List, [], ◌∷◌, ◌++◌, Option, Some, None, refl, sym, ap, ◌∙◌, append_assoc, arith, inl, inr}
 use Rattle.std.specs.Prelude.{◌==◌, codes}
 use Rattle.std.proofs.lemmas.List.{append-nil}
-use Rattle.imap_syntax.proofs.EachLemmas.{each_to}
-use Rattle.imap_syntax.specs.declared.command.Command.{Command}
-use Rattle.imap_syntax.specs.declared.command.Command.TheVariants as command
-use Rattle.imap_syntax.specs.Octets.{is_alnum}
-use Rattle.imap_syntax.specs.Texts.{Each, crlf}
+use Rattle.imap_types.proofs.EachLemmas.{each_to}
+use Rattle.imap_types.specs.declared.command.Command.{Command}
+use Rattle.imap_types.specs.declared.command.Command.TheVariants as command
+use Rattle.imap_types.specs.Octets.{is_alnum}
+use Rattle.imap_types.specs.Texts.{Each, crlf}
 use Rattle.command_parts.specs.Fields.{EndsWithHead, IsSpace, IsUnsigned}
 use Rattle.command_parts.proofs.Readers.{ends_with_line, ends_append, seam, more_before}
 use Rattle.command_parts.proofs.Heads.{Headed, is_other, join_headed, then_headed, then_others, other_headed, exact_others, alnum_other, word_other, number_others}

@@ -4,13 +4,13 @@ use Rattle.std.specs.Prelude.{◌==◌, ℤ, codes}
 use Rattle.std.specs.Fmt.{decimal}
 use Rattle.std.proofs.lemmas.Bool.{eqb-true, or_cases, both_ways}
 use Rattle.std.proofs.lemmas.List.{append-nil}
-use Rattle.imap_syntax.specs.declared.command.Command.{Command}
-use Rattle.imap_syntax.specs.declared.command.Command.TheVariants as command
-use Rattle.imap_syntax.specs.Texts.{IsWord, crlf}
-use Rattle.imap_syntax.specs.Lines.{joined}
-use Rattle.imap_syntax.specs.Strings.{IsCounted}
-use Rattle.imap_syntax.specs.Items.{IsNames, kept}
-use Rattle.imap_syntax.specs.DateTimes.{IsDateTime}
+use Rattle.imap_types.specs.declared.command.Command.{Command}
+use Rattle.imap_types.specs.declared.command.Command.TheVariants as command
+use Rattle.imap_types.specs.Texts.{IsWord, crlf}
+use Rattle.imap_types.specs.Lines.{joined}
+use Rattle.imap_types.specs.Strings.{IsCounted}
+use Rattle.imap_types.specs.Items.{IsNames, kept}
+use Rattle.imap_types.specs.DateTimes.{IsDateTime}
 use Rattle.command_parts.specs.Fields.{IsFolderName}
 use Rattle.command_parts.specs.declared.follow.Follow.TheVariants as follow
 use Rattle.command_parts.specs.declared.fixed_text.FixedText.TheVariants as word

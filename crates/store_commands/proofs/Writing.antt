@@ -6,16 +6,16 @@ use Rattle.std.specs.List.{list_all}
 use Rattle.std.specs.Fmt.{decimal}
 use Rattle.std.proofs.lemmas.Fmt.{decimal_by_steps, length-decimal-le, decimal_nonempty}
 use Rattle.std.proofs.lemmas.List.{append-nil, map-append, length-append, length-map, take_at}
-use Rattle.imap_syntax.proofs.EachLemmas.{each_to, each_append, each_all}
-use Rattle.imap_syntax.specs.declared.command.Command.{Command}
-use Rattle.imap_syntax.specs.declared.command.Command.TheVariants as command
-use Rattle.imap_syntax.specs.Octets.{is_digit, is_alnum, is_text}
-use Rattle.imap_syntax.specs.Texts.{Each, crlf, plain_of}
-use Rattle.imap_syntax.specs.Numbers.{value_from}
-use Rattle.imap_syntax.specs.Strings.{quoted, IsCounted}
-use Rattle.imap_syntax.specs.Dates.{date_text}
-use Rattle.imap_syntax.specs.Commands.{Part, Plain, Literal, tag_of, flags_text, header_items, known_text, is_printable, credential, words_of, parts_of, literal_head}
-use Rattle.imap_syntax.specs.Commands.{command_pieces, joined_pieces, command_text}
+use Rattle.imap_types.proofs.EachLemmas.{each_to, each_append, each_all}
+use Rattle.imap_types.specs.declared.command.Command.{Command}
+use Rattle.imap_types.specs.declared.command.Command.TheVariants as command
+use Rattle.imap_types.specs.Octets.{is_digit, is_alnum, is_text}
+use Rattle.imap_types.specs.Texts.{Each, crlf, plain_of}
+use Rattle.imap_types.specs.Numbers.{value_from}
+use Rattle.imap_types.specs.Strings.{quoted, IsCounted}
+use Rattle.imap_types.specs.Dates.{date_text}
+use Rattle.imap_types.specs.Commands.{Part, Plain, Literal, tag_of, flags_text, header_items, known_text, is_printable, credential, words_of, parts_of, literal_head}
+use Rattle.imap_types.specs.Commands.{command_pieces, joined_pieces, command_text}
 use Rattle.command_parts.specs.Fields.{fits_octet, AreOctets, IsTag, IsFolderName, IsCredential}
 use Rattle.command_parts.proofs.Literals.{marked, marked_inside, plain_marked}
 use Rattle.command_parts.proofs.Heads.{digits_are, others_small, folder_others, flags_others, date_others}

@@ -1,7 +1,7 @@
 -- What octets are that a client sends: a command, the front of one, or neither.
 use Rattle.std.specs.Prelude.{◌≡◌, ◌≢◌, ℕ, ◌+◌, ◌<◌, ◌≤◌, List, [], ◌++◌, length, take}
-use Rattle.imap_syntax.specs.declared.command.Command.{Command}
-use Rattle.imap_syntax.specs.Texts.{plain_octets}
+use Rattle.imap_types.specs.declared.command.Command.{Command}
+use Rattle.imap_types.specs.Texts.{plain_octets}
 use Rattle.command_parts.specs.Fields.{EndsWithHead}
 use Rattle.store_commands.specs.declared.command_read.CommandRead.{CommandRead}
 use Rattle.store_commands.specs.declared.command_read.CommandRead.TheVariants.{Whole, NeedMore, WantsLiteral, Bad}

@@ -1,12 +1,12 @@
 -- The commands, and the texts that a store reads as each: of those of RFC 9051 sections 6 and 9 and RFC 7162 section 3.2.5 the ones that
 -- have a value as a Command, and LIST with the special uses (RFC 6154 section 2). Words are in letters of any case. No other text is a command.
 use Rattle.std.specs.Prelude.{◌≡◌, ◌⊎◌, ℕ, Bool, true, false, List, [], ◌∷◌, ◌++◌, codes, Option, Some, None}
-use Rattle.imap_syntax.specs.declared.command.Command.{Command}
-use Rattle.imap_syntax.specs.declared.command.Command.TheVariants.{Capability, Login, Enable, List as ListFolders, Select, Unselect, FetchFlags, FetchSlice}
-use Rattle.imap_syntax.specs.declared.command.Command.TheVariants.{FetchNew, FetchBody, Store, Move, Expunge, Append, Create, Delete, Rename, Subscribe}
-use Rattle.imap_syntax.specs.Texts.{IsWord, IsCrlf}
-use Rattle.imap_syntax.specs.Strings.{IsCounted}
-use Rattle.imap_syntax.specs.DateTimes.{IsDateTime}
+use Rattle.imap_types.specs.declared.command.Command.{Command}
+use Rattle.imap_types.specs.declared.command.Command.TheVariants.{Capability, Login, Enable, List as ListFolders, Select, Unselect, FetchFlags, FetchSlice}
+use Rattle.imap_types.specs.declared.command.Command.TheVariants.{FetchNew, FetchBody, Store, Move, Expunge, Append, Create, Delete, Rename, Subscribe}
+use Rattle.imap_types.specs.Texts.{IsWord, IsCrlf}
+use Rattle.imap_types.specs.Strings.{IsCounted}
+use Rattle.imap_types.specs.DateTimes.{IsDateTime}
 use Rattle.command_parts.specs.Fields.{◌▷◌, greatest_modseq, IsSpace, IsTag, IsPlainNumber, IsUnsigned, IsFolderName, IsCredential, IsFlagList}
 
 -- every name, as a pattern of LIST: "*", in quotes or not

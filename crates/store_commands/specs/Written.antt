@@ -2,13 +2,13 @@
 -- kept form, and literals are within their limit.
 use Rattle.std.specs.Prelude.{◌≡◌, ◌⊎◌, ℕ, ◌≤◌, true, List, length, Option, Some, None}
 use Rattle.std.specs.List.{list_all}
-use Rattle.imap_syntax.specs.declared.command.Command.{Command}
-use Rattle.imap_syntax.specs.declared.command.Command.TheVariants.{Capability, Login, Enable, List as ListFolders, Select, Unselect, FetchFlags, FetchSlice}
-use Rattle.imap_syntax.specs.declared.command.Command.TheVariants.{FetchNew, FetchBody, Store, Move, Expunge, Append, Create, Delete, Rename, Subscribe}
-use Rattle.imap_syntax.specs.Octets.{is_text}
-use Rattle.imap_syntax.specs.Texts.{Each, literal_limit}
-use Rattle.imap_syntax.specs.Items.{AllNames, kept}
-use Rattle.imap_syntax.specs.Commands.{is_printable}
+use Rattle.imap_types.specs.declared.command.Command.{Command}
+use Rattle.imap_types.specs.declared.command.Command.TheVariants.{Capability, Login, Enable, List as ListFolders, Select, Unselect, FetchFlags, FetchSlice}
+use Rattle.imap_types.specs.declared.command.Command.TheVariants.{FetchNew, FetchBody, Store, Move, Expunge, Append, Create, Delete, Rename, Subscribe}
+use Rattle.imap_types.specs.Octets.{is_text}
+use Rattle.imap_types.specs.Texts.{Each, literal_limit}
+use Rattle.imap_types.specs.Items.{AllNames, kept}
+use Rattle.imap_types.specs.Commands.{is_printable}
 use Rattle.honest_store.specs.WellFormed.{nearest_date}
 use Rattle.command_parts.specs.Fields.{AreOctets, greatest_unsigned, greatest_modseq}
 

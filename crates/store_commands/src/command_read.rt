@@ -9,8 +9,8 @@ use crate::folder_arguments::{append, create, delete, login, rename, select, sub
 use crate::message_arguments::{expunge, fetch, move_to, store};
 use crate::request::{Request, command_of};
 use command_parts::{Choice, FixedText, NoCommand, read_choice, read_tag};
-use gate_world::Bytes;
-use imap_syntax::Command;
+use imap_types::Command;
+use octets::Bytes;
 use std::alloc::{AllocError, Global};
 
 /// What octets are that a client sends.

@@ -1,12 +1,12 @@
 // What holds of commands as they are read. Each function is a theorem: its contract states it.
 ghost use Rattle.std.specs.Prelude.{◌≡◌, ◌≢◌, ℕ, ◌<◌, ◌^◌, List, [], ◌++◌, length};
-ghost use Rattle.imap_syntax.specs.Commands.{tag_of, command_text, command_pieces, joined_pieces};
+ghost use Rattle.imap_types.specs.Commands.{tag_of, command_text, command_pieces, joined_pieces};
 ghost use Rattle.command_parts.specs.Fields.{IsTag};
 ghost use Rattle.store_commands.specs.Answers.{IsCommand, IsReadAs, IsFinal};
 ghost use Rattle.store_commands.specs.Written.{IsReadable, IsAskable, as_sent};
 
 use crate::command_read::CommandRead;
-use imap_syntax::Command;
+use imap_types::Command;
 
 /// No octets have two answers, so each of them comes exactly where it is right.
 pub fn one_answer()

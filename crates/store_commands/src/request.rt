@@ -6,9 +6,9 @@ ghost use Rattle.command_parts.specs.reading.Strings as strings;
 ghost use Rattle.store_commands.specs.reading.Asked as asked;
 
 use command_parts::Credential;
-use gate_world::{Bytes, Names};
-use imap_syntax::Command;
+use imap_types::Command;
 use imap_values::{astring_in, flags_in};
+use octets::{Bytes, Names};
 use std::alloc::{AllocError, Global};
 
 /// A command whose texts are lent by the octets that were read. A name and flags stand at the front of theirs.

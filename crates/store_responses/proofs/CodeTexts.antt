@@ -2,16 +2,16 @@
 use Rattle.std.proofs.Common.{◌≡◌, ℕ, ◌^◌, ◌<◌, Bool, true, false, List, [], ◌∷◌, ◌++◌, get_or, codes, decimal, inl, inr, refl, sym, ap, subst, ◌∙◌, arith, append_assoc}
 use Rattle.std.specs.Prelude.{◌&&◌, ◌==◌}
 use Rattle.std.proofs.lemmas.Bool.{eqb-false}
-use Rattle.imap_syntax.proofs.EachLemmas.{each_append, each_all, each_to}
-use Rattle.imap_syntax.proofs.CutLemmas.{other, cut_free, cut_none}
-use Rattle.imap_syntax.specs.declared.code.Code.{Code}
-use Rattle.imap_syntax.specs.declared.code.Code.TheVariants as code
-use Rattle.imap_syntax.specs.declared.uid_set.UidSet.{UidSet}
-use Rattle.imap_syntax.specs.Octets.{is_digit, is_text, is_word}
-use Rattle.imap_syntax.specs.Texts.{Each, crlf, IsWord}
-use Rattle.imap_syntax.specs.Codes.{IsKnown, in_brackets, Bracketed, HasCode}
-use Rattle.imap_syntax.specs.Lines.{IsLine, IsRest, IsCodedRest}
-use Rattle.imap_syntax.specs.reading.CodeReading.{cut}
+use Rattle.imap_types.proofs.EachLemmas.{each_append, each_all, each_to}
+use Rattle.imap_types.proofs.CutLemmas.{other, cut_free, cut_none}
+use Rattle.imap_types.specs.declared.code.Code.{Code}
+use Rattle.imap_types.specs.declared.code.Code.TheVariants as code
+use Rattle.imap_types.specs.declared.uid_set.UidSet.{UidSet}
+use Rattle.imap_types.specs.Octets.{is_digit, is_text, is_word}
+use Rattle.imap_types.specs.Texts.{Each, crlf, IsWord}
+use Rattle.imap_types.specs.Codes.{IsKnown, in_brackets, Bracketed, HasCode}
+use Rattle.imap_types.specs.Lines.{IsLine, IsRest, IsCodedRest}
+use Rattle.imap_types.specs.reading.CodeReading.{cut}
 use Rattle.imap_values.proofs.Cuts.{small, text_small}
 use Rattle.store_responses.specs.ResponseTexts.{ranges_text, code_words, code_text}
 use Rattle.store_responses.specs.Sendable.{IsNonZeroNumber, IsSendableSet, IsSendableCode}

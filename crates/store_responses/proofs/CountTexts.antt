@@ -3,12 +3,12 @@ use Rattle.std.proofs.Common.{◌≡◌, ℕ, ◌<◌, ◌≤◌, ◌^◌, true,
 use Rattle.std.specs.Prelude.{nat_le}
 use Rattle.std.proofs.lemmas.Bool.{cond-true, le-leb}
 use Rattle.std.proofs.lemmas.List.{map-append}
-use Rattle.imap_syntax.proofs.EachLemmas.{each_append, each_all, each_to}
-use Rattle.imap_syntax.specs.declared.response.StatusItems.{StatusItems}
-use Rattle.imap_syntax.specs.Octets.{is_status_word}
-use Rattle.imap_syntax.specs.Texts.{Each, crlf}
-use Rattle.imap_syntax.specs.Lines.{spaced, joined}
-use Rattle.imap_syntax.specs.Folders.{IsCount, IsMoreCounts, IsCounts, told_counts, no_counts}
+use Rattle.imap_types.proofs.EachLemmas.{each_append, each_all, each_to}
+use Rattle.imap_types.specs.declared.response.StatusItems.{StatusItems}
+use Rattle.imap_types.specs.Octets.{is_status_word}
+use Rattle.imap_types.specs.Texts.{Each, crlf}
+use Rattle.imap_types.specs.Lines.{spaced, joined}
+use Rattle.imap_types.specs.Folders.{IsCount, IsMoreCounts, IsCounts, told_counts, no_counts}
 use Rattle.imap_values.proofs.Cuts.{small, digit_small}
 use Rattle.store_responses.specs.ResponseTexts.{count_text, count_texts}
 use Rattle.store_responses.specs.Sendable.{AreSendableCounts}

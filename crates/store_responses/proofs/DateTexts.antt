@@ -6,11 +6,11 @@ use Rattle.jiff_core.specs.Calendar.{days_in_month, day_count}
 use Rattle.jiff_core.proofs.CalendarLemmas.{day_count-day, day_count-next_month, day_count-next_year, day_count-last_of_year, days_in_month_bounds}
 use Rattle.jiff_core.proofs.SignedLemmas.{signed_arith}
 use Rattle.honest_store.specs.WellFormed.{nearest_date}
-use Rattle.imap_syntax.proofs.EachLemmas.{each_append, each_all, each_to}
-use Rattle.imap_syntax.specs.Octets.{is_digit}
-use Rattle.imap_syntax.specs.Texts.{Each}
-use Rattle.imap_syntax.specs.Dates.{Day, next_day, day_at, seconds_from, two_digits, four_digits, month_name, day_text, clock_text, date_text}
-use Rattle.imap_syntax.specs.DateTimes.{days_to, seconds_of, IsDigits, IsDate, IsTime, IsZone, IsDateTime}
+use Rattle.imap_types.proofs.EachLemmas.{each_append, each_all, each_to}
+use Rattle.imap_types.specs.Octets.{is_digit}
+use Rattle.imap_types.specs.Texts.{Each}
+use Rattle.imap_types.specs.Dates.{Day, next_day, day_at, seconds_from, two_digits, four_digits, month_name, day_text, clock_text, date_text}
+use Rattle.imap_types.specs.DateTimes.{days_to, seconds_of, IsDigits, IsDate, IsTime, IsZone, IsDateTime}
 use Rattle.imap_values.proofs.Cuts.{small, digit_small}
 use Rattle.imap_values.proofs.DateLemmas.{year_small}
 use Rattle.store_responses.proofs.Numerals.{digit_octet}

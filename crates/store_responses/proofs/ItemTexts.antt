@@ -3,16 +3,16 @@ use Rattle.std.proofs.Common.{◌≡◌, ◌≢◌, ℕ, ◌+◌, ◌<◌, ◌�
 use Rattle.std.proofs.Common.{◌∙◌, arith, append_assoc, All}
 use Rattle.std.proofs.lemmas.List.{map-append, length-map, take_all}
 use Rattle.honest_store.specs.WellFormed.{nearest_date}
-use Rattle.imap_syntax.proofs.EachLemmas.{each_append, each_all}
-use Rattle.imap_syntax.specs.declared.response.FetchItems.{FetchItems}
-use Rattle.imap_syntax.specs.Octets.{is_digit}
-use Rattle.imap_syntax.specs.Texts.{Each, crlf, literal_limit}
-use Rattle.imap_syntax.specs.Lines.{spaced, joined}
-use Rattle.imap_syntax.specs.Strings.{IsCounted, IsNString}
-use Rattle.imap_syntax.specs.Dates.{date_text}
-use Rattle.imap_syntax.specs.Commands.{literal_head}
-use Rattle.imap_syntax.specs.Items.{Item, IsItemValue, IsItem, IsMore, IsItems, AllNames, told_from, items_of, header_limit, body_limit}
-use Rattle.imap_syntax.specs.Items as item
+use Rattle.imap_types.proofs.EachLemmas.{each_append, each_all}
+use Rattle.imap_types.specs.declared.response.FetchItems.{FetchItems}
+use Rattle.imap_types.specs.Octets.{is_digit}
+use Rattle.imap_types.specs.Texts.{Each, crlf, literal_limit}
+use Rattle.imap_types.specs.Lines.{spaced, joined}
+use Rattle.imap_types.specs.Strings.{IsCounted, IsNString}
+use Rattle.imap_types.specs.Dates.{date_text}
+use Rattle.imap_types.specs.Commands.{literal_head}
+use Rattle.imap_types.specs.Items.{Item, IsItemValue, IsItem, IsMore, IsItems, AllNames, told_from, items_of, header_limit, body_limit}
+use Rattle.imap_types.specs.Items as item
 use Rattle.imap_values.proofs.Cuts.{small, digit_small}
 use Rattle.imap_values.proofs.NameReadings.{joined_small}
 use Rattle.store_responses.specs.ResponseTexts.{names_text, literal_text, count_text, flags_text, modseq_text, internal_date_text, octets_text, item_texts}

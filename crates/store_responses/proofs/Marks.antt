@@ -4,10 +4,10 @@ use Rattle.std.specs.Prelude.{nat_lt}
 use Rattle.std.proofs.lemmas.Bool.{cond-true}
 use Rattle.std.proofs.lemmas.List.{map-append, length-append}
 use Rattle.std.proofs.lemmas.List.Elements.{All-head, All-tail}
-use Rattle.imap_syntax.specs.Octets.{is_inside}
-use Rattle.imap_syntax.specs.Texts.{Each, plain_of, plain_octets, outside, limit}
-use Rattle.imap_syntax.specs.declared.response.Response.{Response}
-use Rattle.imap_syntax.specs.Spells.{Spells, IsSpelling}
+use Rattle.imap_types.specs.Octets.{is_inside}
+use Rattle.imap_types.specs.Texts.{Each, plain_of, plain_octets, outside, limit}
+use Rattle.imap_types.specs.declared.response.Response.{Response}
+use Rattle.imap_types.specs.Spells.{Spells, IsSpelling}
 use Rattle.imap_values.proofs.Cuts.{small, plain_small}
 use Rattle.store_responses.specs.ResponseTexts.{text_of_response}
 use Rattle.store_responses.specs.Sendable.{literal_octets}

@@ -1,10 +1,10 @@
 -- Decimal numbers are numbers of the grammar.
 use Rattle.std.proofs.Common.{◌≡◌, ℕ, ◌+◌, ◌-◌, ◌*◌, ◌/◌, ◌%◌, ◌^◌, ◌<◌, ◌≤◌, Bool, true, List, [], ◌∷◌, ◌++◌, length, decimal, refl, sym, ap, ◌∙◌, arith}
 use Rattle.std.proofs.lemmas.Fmt.{decimal_by_steps, decimal_nonempty, length-decimal-le}
-use Rattle.imap_syntax.proofs.EachLemmas.{each_append, each_to}
-use Rattle.imap_syntax.specs.Octets.{is_digit}
-use Rattle.imap_syntax.specs.Texts.{Each}
-use Rattle.imap_syntax.specs.Numbers.{value_from, IsNumber, IsNonZero, IsLong}
+use Rattle.imap_types.proofs.EachLemmas.{each_append, each_to}
+use Rattle.imap_types.specs.Octets.{is_digit}
+use Rattle.imap_types.specs.Texts.{Each}
+use Rattle.imap_types.specs.Numbers.{value_from, IsNumber, IsNonZero, IsLong}
 use Rattle.store_responses.specs.Sendable.{IsNonZeroNumber}
 
 pub digit_octet : (d : ℕ) → d < 10 → is_digit (48 + d) ≡ true

@@ -6,25 +6,25 @@ use Rattle.std.specs.List.{list_all}
 use Rattle.std.proofs.lemmas.Bool.{false≢true, and_parts}
 use Rattle.std.proofs.lemmas.Slice.Eq.{bytes_eq-Decides}
 use Rattle.honest_store.specs.WellFormed.{IsToldOctet, IsToldName}
-use Rattle.imap_syntax.proofs.EachLemmas.{each_append, each_all, each_to}
-use Rattle.imap_syntax.proofs.CutLemmas.{other, cut_free, cut_none}
-use Rattle.imap_syntax.specs.declared.code.Code.{Code}
-use Rattle.imap_syntax.specs.declared.response.Status.{Status}
-use Rattle.imap_syntax.specs.declared.response.Status.TheVariants as status
-use Rattle.imap_syntax.specs.declared.response.FetchItems.{FetchItems}
-use Rattle.imap_syntax.specs.declared.response.StatusItems.{StatusItems}
-use Rattle.imap_syntax.specs.declared.response.Response.{Response}
-use Rattle.imap_syntax.specs.declared.response.Response.TheVariants as response
-use Rattle.imap_syntax.specs.declared.uid_set.UidRange.{UidRange}
-use Rattle.imap_syntax.specs.Octets.{is_digit, is_alnum, is_text, is_word, lower}
-use Rattle.imap_syntax.specs.Texts.{Each, IsWord, crlf}
-use Rattle.imap_syntax.specs.Lines.{word_of, Completes, IsTagged, spaced, joined, AllPrinted}
-use Rattle.imap_syntax.specs.Strings.{escaped, quoted}
-use Rattle.imap_syntax.specs.UidSets.{IsSetLine, IsVanished}
-use Rattle.imap_syntax.specs.Folders.{IsDelimiter}
-use Rattle.imap_syntax.specs.Free.{EndsInCount}
-use Rattle.imap_syntax.specs.Spells.{keywords, Says, Numbered, IsUntagged, Spells, IsSpelling}
-use Rattle.imap_syntax.specs.reading.CodeReading.{cut}
+use Rattle.imap_types.proofs.EachLemmas.{each_append, each_all, each_to}
+use Rattle.imap_types.proofs.CutLemmas.{other, cut_free, cut_none}
+use Rattle.imap_types.specs.declared.code.Code.{Code}
+use Rattle.imap_types.specs.declared.response.Status.{Status}
+use Rattle.imap_types.specs.declared.response.Status.TheVariants as status
+use Rattle.imap_types.specs.declared.response.FetchItems.{FetchItems}
+use Rattle.imap_types.specs.declared.response.StatusItems.{StatusItems}
+use Rattle.imap_types.specs.declared.response.Response.{Response}
+use Rattle.imap_types.specs.declared.response.Response.TheVariants as response
+use Rattle.imap_types.specs.declared.uid_set.UidRange.{UidRange}
+use Rattle.imap_types.specs.Octets.{is_digit, is_alnum, is_text, is_word, lower}
+use Rattle.imap_types.specs.Texts.{Each, IsWord, crlf}
+use Rattle.imap_types.specs.Lines.{word_of, Completes, IsTagged, spaced, joined, AllPrinted}
+use Rattle.imap_types.specs.Strings.{escaped, quoted}
+use Rattle.imap_types.specs.UidSets.{IsSetLine, IsVanished}
+use Rattle.imap_types.specs.Folders.{IsDelimiter}
+use Rattle.imap_types.specs.Free.{EndsInCount}
+use Rattle.imap_types.specs.Spells.{keywords, Says, Numbered, IsUntagged, Spells, IsSpelling}
+use Rattle.imap_types.specs.reading.CodeReading.{cut}
 use Rattle.imap_values.proofs.Cuts.{small, digit_small, word_small, text_small}
 use Rattle.store_responses.specs.ResponseTexts.{ranges_text, status_text, status_line_text, code_text, names_text, count_texts, item_texts, delimiter_text, earlier_text, text_of_response}
 use Rattle.store_responses.specs.Sendable.{IsSendableSet, IsSendableCode, IsSendableTag, AreSendableNames, AreSendableCounts, octets_of}

@@ -4,11 +4,11 @@ use Rattle.std.specs.Prelude.{nat_le}
 use Rattle.std.proofs.lemmas.Bool.{cond-true, le-leb}
 use Rattle.std.proofs.lemmas.List.{append-nil}
 use Rattle.std.proofs.lemmas.List.Elements.{All-head, All-tail}
-use Rattle.imap_syntax.proofs.EachLemmas.{each_append}
-use Rattle.imap_syntax.specs.declared.uid_set.UidRange.{UidRange}
-use Rattle.imap_syntax.specs.Octets.{is_digit}
-use Rattle.imap_syntax.specs.Texts.{Each}
-use Rattle.imap_syntax.specs.UidSets.{range_of, IsRange, IsSet}
+use Rattle.imap_types.proofs.EachLemmas.{each_append}
+use Rattle.imap_types.specs.declared.uid_set.UidRange.{UidRange}
+use Rattle.imap_types.specs.Octets.{is_digit}
+use Rattle.imap_types.specs.Texts.{Each}
+use Rattle.imap_types.specs.UidSets.{range_of, IsRange, IsSet}
 use Rattle.store_responses.specs.ResponseTexts.{range_text, more_ranges_text, ranges_text}
 use Rattle.store_responses.specs.Sendable.{IsSendableRange, IsSendableSet}
 use Rattle.store_responses.proofs.Numerals.{decimal_class, nonzero_text}

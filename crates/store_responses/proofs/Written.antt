@@ -1,7 +1,7 @@
 -- Items that are written one after another.
 use Rattle.std.proofs.Common.{◌≡◌, ℕ, Bool, true, false, List, [], ◌∷◌, ◌++◌, refl, sym, ap, ◌∙◌, append_assoc}
 use Rattle.std.specs.Prelude.{◌&&◌}
-use Rattle.imap_syntax.specs.Lines.{spaced}
+use Rattle.imap_types.specs.Lines.{spaced}
 use Rattle.store_responses.specs.reading.Items.{written, are_none, WritesItems}
 
 spaced_join : (xs ys : List (List ℕ)) → spaced (xs ++ ys) ≡ spaced xs ++ spaced ys

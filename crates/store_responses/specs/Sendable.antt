@@ -1,16 +1,16 @@
 -- The responses that a store may send: those whose texts spell them (RFC 9051 section 9).
 use Rattle.std.specs.Prelude.{◌≡◌, ◌≢◌, ℕ, ◌+◌, ◌^◌, ◌<◌, ◌≤◌, List, [], length, Option, Some, None, IfSome, All}
-use Rattle.imap_syntax.specs.declared.code.Code.{Code}
-use Rattle.imap_syntax.specs.declared.code.Code.TheVariants as code
-use Rattle.imap_syntax.specs.declared.response.Response.{Response}
-use Rattle.imap_syntax.specs.declared.response.Response.TheVariants as response
-use Rattle.imap_syntax.specs.declared.response.FetchItems.{FetchItems}
-use Rattle.imap_syntax.specs.declared.response.StatusItems.{StatusItems}
-use Rattle.imap_syntax.specs.declared.uid_set.UidRange.{UidRange}
-use Rattle.imap_syntax.specs.Octets.{is_alnum}
-use Rattle.imap_syntax.specs.Texts.{Each, limit}
-use Rattle.imap_syntax.specs.Lines.{Completes, AllPrinted}
-use Rattle.imap_syntax.specs.Items.{AllNames, kept, header_limit, body_limit}
+use Rattle.imap_types.specs.declared.code.Code.{Code}
+use Rattle.imap_types.specs.declared.code.Code.TheVariants as code
+use Rattle.imap_types.specs.declared.response.Response.{Response}
+use Rattle.imap_types.specs.declared.response.Response.TheVariants as response
+use Rattle.imap_types.specs.declared.response.FetchItems.{FetchItems}
+use Rattle.imap_types.specs.declared.response.StatusItems.{StatusItems}
+use Rattle.imap_types.specs.declared.uid_set.UidRange.{UidRange}
+use Rattle.imap_types.specs.Octets.{is_alnum}
+use Rattle.imap_types.specs.Texts.{Each, limit}
+use Rattle.imap_types.specs.Lines.{Completes, AllPrinted}
+use Rattle.imap_types.specs.Items.{AllNames, kept, header_limit, body_limit}
 use Rattle.honest_store.specs.WellFormed.{IsToldName, IsToldOctet, nearest_date}
 use Rattle.store_responses.specs.ResponseTexts.{item_texts, text_of_response}
 

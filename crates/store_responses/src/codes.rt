@@ -3,7 +3,7 @@ ghost use Rattle.std.specs.Prelude.{◌≡◌, ◌++◌, OnOk};
 ghost use Rattle.store_responses.specs.ResponseTexts as texts;
 
 use crate::numbers::{push_number, push_ranges};
-use imap_syntax::{Code, Status};
+use imap_types::{Code, Status};
 use std::alloc::AllocError;
 
 /// The word of a status.

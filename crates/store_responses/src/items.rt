@@ -1,14 +1,14 @@
 // Items of a FETCH and counts of a STATUS, with a space between two (RFC 9051 sections 7.3.3 and 7.5.2).
 ghost use Rattle.std.specs.Prelude.{◌≡◌, ◌++◌, ◌∷◌, [], true, IfOk, OnOk, if◌then◌else◌};
-ghost use Rattle.imap_syntax.specs.Lines as lines;
+ghost use Rattle.imap_types.specs.Lines as lines;
 ghost use Rattle.store_responses.specs.ResponseTexts as texts;
 ghost use Rattle.store_responses.specs.reading.Items.{WritesItems};
 
 use crate::numbers::push_number;
 use crate::strings::{push_literal, push_names};
-use gate_world::{Bytes, Names};
-use imap_syntax::{FetchItems, StatusItems};
+use imap_types::{FetchItems, StatusItems};
 use imap_values::push_date;
+use octets::{Bytes, Names};
 use std::alloc::AllocError;
 
 /// Adds a space where an item stands before.

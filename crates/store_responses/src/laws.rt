@@ -1,6 +1,6 @@
 // What the texts of responses spell (RFC 9051 section 9).
-ghost use Rattle.imap_syntax.specs.declared.response.Response.{Response};
-ghost use Rattle.imap_syntax.specs.Spells.{IsSpelling};
+ghost use Rattle.imap_types.specs.declared.response.Response.{Response};
+ghost use Rattle.imap_types.specs.Spells.{IsSpelling};
 ghost use Rattle.store_responses.specs.ResponseTexts.{text_of_response};
 ghost use Rattle.store_responses.specs.Sendable.{IsSendable};
 

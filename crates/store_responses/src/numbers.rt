@@ -3,7 +3,7 @@ ghost use Rattle.std.specs.Prelude.{◌≡◌, ◌++◌, OnOk};
 ghost use Rattle.std.specs.Fmt.{decimal};
 ghost use Rattle.store_responses.specs.ResponseTexts as texts;
 
-use imap_syntax::UidRange;
+use imap_types::UidRange;
 use std::alloc::{AllocError, Global};
 
 /// Adds a text and the digits of a number.

@@ -1,17 +1,17 @@
 // Responses (RFC 9051 section 7, RFC 7162 section 3.2).
 ghost use Rattle.std.specs.Prelude.{◌≡◌, ◌++◌, ◌∷◌, OnOk, codes};
 ghost use Rattle.std.specs.Fmt.{decimal};
-ghost use Rattle.imap_syntax.specs.declared.response.Response.TheVariants as response;
-ghost use Rattle.imap_syntax.specs.Lines as lines;
-ghost use Rattle.imap_syntax.specs.Texts.{crlf};
+ghost use Rattle.imap_types.specs.declared.response.Response.TheVariants as response;
+ghost use Rattle.imap_types.specs.Lines as lines;
+ghost use Rattle.imap_types.specs.Texts.{crlf};
 ghost use Rattle.store_responses.specs.ResponseTexts as texts;
 
 use crate::codes::push_status_line;
 use crate::items::{push_counts, push_items};
 use crate::numbers::{push_number, push_ranges};
 use crate::strings::{push_names, push_quoted, push_spaced};
-use gate_world::Names;
-use imap_syntax::{FetchItems, Response, StatusItems, UidSet};
+use imap_types::{FetchItems, Response, StatusItems, UidSet};
+use octets::Names;
 use std::alloc::AllocError;
 
 /// Adds a text, and words with a space before each.

@@ -1,11 +1,11 @@
 // Strings, words and names (RFC 9051 sections 4.3 and 9).
 ghost use Rattle.std.specs.Prelude.{◌≡◌, ◌++◌, OnOk};
-ghost use Rattle.imap_syntax.specs.Lines as lines;
-ghost use Rattle.imap_syntax.specs.Strings.{quoted};
+ghost use Rattle.imap_types.specs.Lines as lines;
+ghost use Rattle.imap_types.specs.Strings.{quoted};
 ghost use Rattle.store_responses.specs.ResponseTexts as texts;
 
 use crate::numbers::push_number;
-use gate_world::{Bytes, Names};
+use octets::{Bytes, Names};
 use std::alloc::AllocError;
 
 /// Adds the text in quotes, with `\` before each `"` and `\` (section 4.3).

@@ -9,7 +9,7 @@ use Rattle.gate_world.specs.Sending.{Sends}
 use Rattle.gate_world.specs.declared.event.Event.{Event}
 use Rattle.gate_world.specs.declared.event.Event.TheVariants.{ClientDone, ClientEnded, ClientGave, ClientTook}
 use Rattle.gate_world.specs.declared.outside.Failed.{Failed as OutsideFailed}
-use Rattle.imap_syntax.specs.declared.command.Command.{Command}
+use Rattle.imap_types.specs.declared.command.Command.{Command}
 use Rattle.honest_store.specs.Sessions.{StoreAnswer, StoreSession}
 use Rattle.small_answers.specs.Answers.{AnswersCommand, unselected}
 use Rattle.small_responses.specs.AnswerTexts.{text_of_answer}

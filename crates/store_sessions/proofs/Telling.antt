@@ -1,9 +1,9 @@
 -- What is read as a command may be answered.
 use Rattle.std.proofs.Common.{◌≡◌, ◌⊎◌, inl, inr, ℕ, ◌<◌, ◌^◌, ◌≤◌, List, [], ◌∷◌, length, take, arith, sym, subst, ltb-true}
 use Rattle.std.proofs.lemmas.List.Elements.{All-nil, All-cons}
-use Rattle.imap_syntax.specs.declared.command.Command.{Command}
-use Rattle.imap_syntax.specs.declared.command.Command.TheVariants as command
-use Rattle.imap_syntax.specs.Texts.{literal_limit}
+use Rattle.imap_types.specs.declared.command.Command.{Command}
+use Rattle.imap_types.specs.declared.command.Command.TheVariants as command
+use Rattle.imap_types.specs.Texts.{literal_limit}
 use Rattle.command_parts.specs.Fields as fields
 use Rattle.honest_store.specs.Sessions.{StoreAnswer, StoreSession}
 use Rattle.small_answers.specs.Answers.{AnswersCommand}

@@ -3,7 +3,7 @@ use Rattle.std.specs.Prelude.{◌≡◌, ◌⊎◌, ℕ, List, [], ◌∷◌, �
 use Rattle.std.specs.List.{flat_map}
 use Rattle.gate_world.specs.Octets.{client_gave_in, client_took_in}
 use Rattle.gate_world.specs.declared.event.Event.{Event}
-use Rattle.imap_syntax.specs.declared.command.Command.{Command}
+use Rattle.imap_types.specs.declared.command.Command.{Command}
 use Rattle.honest_store.specs.Sessions.{StoreAnswer, StoreSession}
 use Rattle.small_answers.specs.Answers.{AnswersCommand, unselected}
 use Rattle.small_responses.specs.AnswerTexts.{text_of_answer}

@@ -1,6 +1,6 @@
 -- What a store does with the octets that a client gave (RFC 9051 sections 2.2, 3.4 and 7.6).
 use Rattle.std.specs.Prelude.{◌≡◌, ℕ, List, [], codes}
-use Rattle.imap_syntax.specs.declared.command.Command.{Command}
+use Rattle.imap_types.specs.declared.command.Command.{Command}
 use Rattle.honest_store.specs.Sessions.{StoreSession, StoreAnswer}
 use Rattle.small_answers.specs.Answers.{AnswersCommand}
 use Rattle.small_responses.specs.AnswerTexts.{text_of_answer}

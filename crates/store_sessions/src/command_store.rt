@@ -5,7 +5,7 @@ ghost use Rattle.small_answers.specs.Answers.{AnswersCommand, unselected};
 ghost use Rattle.small_responses.specs.AnswerTexts.{text_of_answer};
 ghost use Rattle.small_responses.specs.Tellable.{IsTellableCommand, IsTellableMail};
 
-use imap_syntax::Command;
+use imap_types::Command;
 use std::alloc::AllocError;
 
 /// A store that answers commands, in one session after another.

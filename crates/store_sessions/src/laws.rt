@@ -2,7 +2,7 @@
 ghost use Rattle.std.specs.Prelude.{List, Ok, ℕ};
 ghost use Rattle.gate_world.specs.declared.event.Event.{Event};
 ghost use Rattle.honest_store.specs.Sessions.{StoreSession};
-ghost use Rattle.imap_syntax.specs.declared.command.Command.{Command};
+ghost use Rattle.imap_types.specs.declared.command.Command.{Command};
 ghost use Rattle.small_responses.specs.Tellable.{IsTellableCommand};
 ghost use Rattle.store_commands.specs.Answers.{IsCommand};
 ghost use Rattle.store_sessions.specs.Answered.{IsAnswered};

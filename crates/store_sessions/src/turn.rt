@@ -10,7 +10,7 @@ ghost use Rattle.store_sessions.specs.Turns.{IsAnswer, Lacks, Turns, octets_read
 
 use crate::command_store::CommandStore;
 use crate::laws::read_may_be_told;
-use imap_syntax::Command;
+use imap_types::Command;
 use std::alloc::{AllocError, Global};
 use store_commands::{CommandRead, read_command};
 

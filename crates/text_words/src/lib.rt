@@ -3,15 +3,15 @@
 #![tactic(auto)]
 
 pub mod class;
+pub mod classes;
 pub mod line_ends;
-pub mod octets;
 pub mod parts;
 #[cfg(test)]
 mod tests;
 
 pub use class::{Class, are_all, cut};
-pub use line_ends::{begins_with_lf, line_end_len};
-pub use octets::{
+pub use classes::{
     Alpha, Blank, Digit, White, hex_value, is_alpha, is_blank, is_digit, is_white, same_text,
 };
+pub use line_ends::{begins_with_lf, line_end_len};
 pub use parts::{behind, first, run_before};

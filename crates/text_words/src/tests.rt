@@ -1,7 +1,7 @@
 // Tests of cuts, classes and line ends.
 use crate::class::{are_all, cut};
+use crate::classes::{Alpha, Blank, Digit, White, hex_value, is_alpha, same_text};
 use crate::line_ends::line_end_len;
-use crate::octets::{Alpha, Blank, Digit, White, hex_value, is_alpha, same_text};
 use std::test::Fail;
 
 #[test]

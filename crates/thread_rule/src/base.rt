@@ -5,7 +5,7 @@ ghost use Rattle.thread_rule.specs.BaseSubject as base;
 ghost use Rattle.thread_rule.specs.reading.Stripping.{IsStripped};
 
 use crate::subject::{before_trailer, behind_blob_before_text, behind_leader, unwrapped};
-use gate_world::Bytes;
+use octets::Bytes;
 use std::alloc::{AllocError, Global};
 use text_words::is_blank;
 

@@ -5,7 +5,7 @@ ghost use Rattle.text_words.specs.Cuts.{Each};
 ghost use Rattle.thread_rule.specs.Ids.{is_within, ids_in, each_once};
 ghost use Rattle.thread_rule.specs.reading.Once.{has_text};
 
-use gate_world::Bytes;
+use octets::Bytes;
 use std::alloc::{AllocError, Global};
 use std::collections::BTreeSet;
 use std::fmt;

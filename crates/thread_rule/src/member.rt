@@ -1,7 +1,7 @@
 // An Email as its header names other Emails, and as a member of a Thread.
 
 use crate::ids::Ids;
-use gate_world::Bytes;
+use octets::Bytes;
 
 /// An Email by its number, with the ids of its References, In-Reply-To and Message-ID, in this order and each once,
 /// and its base subject.

@@ -1,7 +1,7 @@
 // Commands by their texts.
 use crate::texts::{bytes_of, first_uid, first_word};
-use gate_world::Names;
 use imap_commands::Command;
+use octets::Names;
 use std::alloc::{AllocError, Global};
 
 /// When messages are told to have come: 2 January 2024, 09:00:00 UTC.

@@ -1,8 +1,8 @@
 // Exchanges made of octets.
 use crate::commands::command_of;
-use gate_world::{Bytes, Listed};
 use imap_commands::Command;
 use imap_grammar::{Response, Scan, decode, scan};
+use octets::{Bytes, Listed};
 use std::alloc::{AllocError, Global};
 use told_mail::Exchange;
 

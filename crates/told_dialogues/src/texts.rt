@@ -1,5 +1,5 @@
 // Words, numbers and octets of a text.
-use gate_world::Bytes;
+use octets::Bytes;
 use percent_encoding::{CONTROLS, percent_decode, percent_encode};
 use std::alloc::{AllocError, Global};
 

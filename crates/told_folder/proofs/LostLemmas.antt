@@ -7,7 +7,7 @@ use Rattle.std.proofs.lemmas.List.{take_more}
 use Rattle.std.specs.BTreeMap.{BTreeMap, get, is_at}
 use Rattle.std.specs.Option.{option_map}
 use Rattle.std.specs.declared.alloc.AllocError.{AllocError}
-use Rattle.imap_syntax.specs.declared.uid_set.UidRange.{UidRange}
+use Rattle.imap_types.specs.declared.uid_set.UidRange.{UidRange}
 use Rattle.told_folder.specs.Folders.{uid_of, held_in, mark_in, with_messages}
 use Rattle.told_folder.specs.Index.{IsIndexed}
 use Rattle.told_folder.specs.Keyed.{AllAbove, Ascends, with_key, cut_keyed}

@@ -10,10 +10,10 @@ use Rattle.told_folder.specs.declared.message.Message.{Message}
 use Rattle.told_folder.specs.declared.message.Held.{Held}
 use Rattle.std.proofs.Common.{Result, Ok, Err, OnOk, OnErr}
 use Rattle.std.specs.declared.alloc.AllocError.{AllocError}
-use Rattle.imap_syntax.specs.declared.response.FetchItems.{FetchItems}
+use Rattle.imap_types.specs.declared.response.FetchItems.{FetchItems}
 use Rattle.told_folder.specs.declared.telling.Work.{Work}
 use Rattle.told_folder.specs.Tell.{Telling, with_flags, with_new, new_message, tell_uid, tell_fetch, tell_response, tell_responses, AllKnown}
-use Rattle.imap_syntax.specs.declared.response.Response.{Response}
+use Rattle.imap_types.specs.declared.response.Response.{Response}
 use Rattle.std.proofs.lemmas.List.{take_more}
 use Rattle.told_folder.specs.Work.{telling_of, IsIndexOf, GoesOn, GoesOk, IsFlagged}
 use Rattle.told_folder.proofs.KeyedLemmas.{found_put, ascends_put, some_same}

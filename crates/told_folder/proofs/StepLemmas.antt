@@ -4,9 +4,9 @@ use Rattle.std.proofs.Common.{get_or, drop, max, min, refl, sym, ap, ◌∙◌, 
 use Rattle.std.specs.BTreeSet.{BTreeSet, contains}
 use Rattle.std.specs.List.{list_any, filter_map, cons_option}
 use Rattle.std.specs.declared.alloc.AllocError.{AllocError}
-use Rattle.imap_syntax.specs.declared.command.Command.{Command}
-use Rattle.imap_syntax.specs.declared.command.Command.TheVariants as command
-use Rattle.imap_syntax.specs.declared.response.Response.{Response}
+use Rattle.imap_types.specs.declared.command.Command.{Command}
+use Rattle.imap_types.specs.declared.command.Command.TheVariants as command
+use Rattle.imap_types.specs.declared.response.Response.{Response}
 use Rattle.told_folder.specs.Keyed.{last_of}
 use Rattle.told_folder.specs.Select.{is_closed, after_closed, last_told, under}
 use Rattle.told_folder.specs.Tell.{Telling, without_those, tell_responses, AllKnown}

@@ -2,10 +2,10 @@
 use Rattle.std.specs.Prelude.{◌≡◌, ℕ, ℤ, ◌+◌, ◌==◌, ◌&&◌, nat_le, nat_lt, not, Bool, true, false, List, [], ◌∷◌, Option, Some, None, filter, if◌then◌else◌}
 use Rattle.std.specs.Prelude.{length, take}
 use Rattle.std.specs.List.{list_any}
-use Rattle.imap_syntax.specs.declared.response.Response.{Response}
-use Rattle.imap_syntax.specs.declared.response.Response.TheVariants as response
-use Rattle.imap_syntax.specs.declared.response.FetchItems.{FetchItems}
-use Rattle.imap_syntax.specs.declared.uid_set.UidRange.{UidRange}
+use Rattle.imap_types.specs.declared.response.Response.{Response}
+use Rattle.imap_types.specs.declared.response.Response.TheVariants as response
+use Rattle.imap_types.specs.declared.response.FetchItems.{FetchItems}
+use Rattle.imap_types.specs.declared.uid_set.UidRange.{UidRange}
 use Rattle.told_folder.specs.Keyed.{with_key, put_keyed}
 use Rattle.told_folder.specs.Folders.{uid_of}
 use Rattle.told_folder.specs.declared.headers.TheConstants.{MAX_HEADER_OCTETS}

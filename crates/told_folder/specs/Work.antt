@@ -9,8 +9,8 @@ use Rattle.told_folder.specs.declared.message.Message.{Message}
 use Rattle.told_folder.specs.declared.message.Folder.{Folder}
 use Rattle.told_folder.specs.declared.message.Held.{Held}
 use Rattle.told_folder.specs.ToldBy.{told_by, telling_by, TellsKnownOf}
-use Rattle.imap_syntax.specs.declared.command.Command.{Command}
-use Rattle.imap_syntax.specs.declared.response.Response.{Response}
+use Rattle.imap_types.specs.declared.command.Command.{Command}
+use Rattle.imap_types.specs.declared.response.Response.{Response}
 use Rattle.told_folder.specs.declared.telling.Work.{Work}
 use Rattle.std.specs.declared.alloc.AllocError.{AllocError}
 

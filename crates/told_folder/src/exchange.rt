@@ -2,8 +2,8 @@
 ghost use Rattle.std.specs.Prelude.{◌≡◌};
 ghost use Rattle.told_folder.specs.declared.exchange.ToldError.TheVariants.{Memory};
 
-use gate_world::{Bytes, Listed};
-use imap_syntax::{Code, Command, Response, Status};
+use imap_types::{Code, Command, Response, Status};
+use octets::{Bytes, Listed};
 use std::alloc::AllocError;
 
 /// A completed exchange.

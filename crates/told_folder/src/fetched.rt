@@ -13,7 +13,7 @@ use crate::messages::Messages;
 use crate::puts::one_more;
 use crate::telling::{Work, tell_gone};
 use crate::uids::Uids;
-use imap_syntax::{Command, Response};
+use imap_types::{Command, Response};
 use std::alloc::{AllocError, Global};
 use std::collections::BTreeSet;
 

@@ -3,7 +3,7 @@ ghost use Rattle.std.specs.Prelude.{◌≡◌, ◌<◌, ◌≤◌, ℕ, IfOk, le
 ghost use Rattle.told_folder.specs.Tell as told;
 ghost use Rattle.told_folder.specs.Tell.{whole_lines};
 
-use gate_world::Bytes;
+use octets::Bytes;
 use std::alloc::{AllocError, Global};
 
 /// How many octets of a header count.

@@ -9,7 +9,7 @@ ghost use Rattle.told_folder.specs.reading.Parts.{all_of, AllKeyed, AllUnder, Is
 
 use crate::Message;
 use crate::keyed::{find, index_of, place_of};
-use gate_world::Names;
+use octets::Names;
 use std::alloc::{AllocError, Global};
 use std::collections::BTreeMap;
 use std::marker::Model;

@@ -6,7 +6,7 @@ ghost use Rattle.told_folder.specs.Folders.{uid_of};
 
 use crate::keyed::{index_of, place_of};
 use crate::{Held, Message};
-use gate_world::Listed;
+use octets::Listed;
 use std::alloc::{AllocError, Global};
 use std::mem;
 

@@ -11,7 +11,7 @@ use crate::Folder;
 use crate::puts::one_more;
 use crate::telling::{Work, tell_gone};
 use crate::uids::AllUids;
-use imap_syntax::{Code, Response, Status};
+use imap_types::{Code, Response, Status};
 use std::alloc::Global;
 
 fn is_closed(response: &Response) -> bool

@@ -10,7 +10,7 @@ use crate::Folder;
 use crate::fetched::tell_end;
 use crate::select::tell_select;
 use crate::telling::{Work, tell_responses};
-use imap_syntax::{Command, Response};
+use imap_types::{Command, Response};
 use std::alloc::{AllocError, Global};
 
 /// Whether a message of a UID that isn't held is new.

@@ -9,7 +9,7 @@ ghost use Rattle.told_folder.specs.Work.{telling_of, GoesOk};
 use crate::messages::Messages;
 use crate::puts::one_more;
 use crate::telling::Work;
-use imap_syntax::UidRange;
+use imap_types::UidRange;
 use std::alloc::AllocError;
 
 /// The first UID of the range that is held.

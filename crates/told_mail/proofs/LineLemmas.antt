@@ -14,7 +14,7 @@ use Rattle.std.specs.Option.{option_and_then}
 use Rattle.std.specs.Prelude.{slice_get}
 use Rattle.std.specs.declared.cmp.Ordering.{Ordering}
 use Rattle.std.specs.declared.cmp.Ordering.TheVariants.{Less, Equal, Greater}
-use Rattle.imap_syntax.specs.declared.response.Response.{Response}
+use Rattle.imap_types.specs.declared.response.Response.{Response}
 use Rattle.told_mail.specs.Lists as lists
 use Rattle.told_folder.specs.Keyed.{last_of}
 use Rattle.told_mail.specs.Lists.{line_of, line_for, names_told, in_order, is_inbox, inbox_first}

@@ -17,7 +17,7 @@ use Rattle.std.specs.List.Sorted.{IsStrictlySortedBy}
 use Rattle.std.specs.Option.{option_map}
 use Rattle.std.specs.Ordering.{is_eq}
 use Rattle.std.specs.declared.cmp.Ordering.TheVariants.{Less}
-use Rattle.imap_syntax.specs.declared.response.Response.{Response}
+use Rattle.imap_types.specs.declared.response.Response.{Response}
 use Rattle.told_folder.specs.Folders.{folder_number, held_in}
 use Rattle.told_folder.specs.Index.{Inverts}
 use Rattle.told_folder.specs.Places.{IsHeldAt}

@@ -3,11 +3,11 @@ use Rattle.std.proofs.Common.{◌≡◌, ℕ, ◌+◌, ◌<◌, ◌≤◌, zero,
 use Rattle.std.proofs.Common.{filter, refl, sym, ap, ◌∙◌, subst, arith, eqb, eqb-true, ne_eqb, leb, ltb, ltb-true, ltb-false, if◌then◌else◌}
 use Rattle.std.specs.Option.{option_map}
 use Rattle.std.specs.declared.alloc.AllocError.{AllocError}
-use Rattle.imap_syntax.specs.declared.command.Command.{Command}
-use Rattle.imap_syntax.specs.declared.command.Command.TheVariants as command
-use Rattle.imap_syntax.specs.declared.response.Response.{Response}
-use Rattle.imap_syntax.specs.declared.response.Status.{Status}
-use Rattle.imap_syntax.specs.declared.response.Status.TheVariants as status
+use Rattle.imap_types.specs.declared.command.Command.{Command}
+use Rattle.imap_types.specs.declared.command.Command.TheVariants as command
+use Rattle.imap_types.specs.declared.response.Response.{Response}
+use Rattle.imap_types.specs.declared.response.Status.{Status}
+use Rattle.imap_types.specs.declared.response.Status.TheVariants as status
 use Rattle.told_folder.specs.Folders.{folder_number, held_in, folder_in}
 use Rattle.told_folder.specs.ToldBy.{told_by}
 use Rattle.told_folder.specs.declared.exchange.Exchange.{Exchange}

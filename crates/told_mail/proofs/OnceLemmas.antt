@@ -1,7 +1,7 @@
 -- What holds of marks and names, each of which stands at one place, as folders and messages change.
 use Rattle.std.proofs.Common.{◌≡◌, ◌⊎◌, ℕ, ◌<◌, Bool, true, false, List, [], ◌∷◌, Option, Some, None, refl, sym, ap, ◌∙◌, arith, inl, inr, eqb, eqb-true, ne_eqb, if◌then◌else◌}
 use Rattle.std.specs.Option.{option_map}
-use Rattle.imap_syntax.specs.declared.response.Response.{Response}
+use Rattle.imap_types.specs.declared.response.Response.{Response}
 use Rattle.told_folder.specs.Folders.{folder_number, uid_of, held_in, messages_of, mark_in, with_messages}
 use Rattle.told_folder.specs.Keyed.{AllAbove, Ascends, with_key, put_keyed, cut_keyed}
 use Rattle.told_folder.specs.Tell.{without_those}

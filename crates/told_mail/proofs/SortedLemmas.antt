@@ -2,7 +2,7 @@
 use Rattle.std.proofs.Common.{ℕ, List, [], ◌∷◌, sym, ap, ◌∙◌}
 use Rattle.std.proofs.lemmas.Map.Text.{is_eq-slice_cmp}
 use Rattle.std.specs.Ordering.{is_eq}
-use Rattle.imap_syntax.proofs.KeptLemmas.{IsUnder, AreSorted, sorted_insert}
+use Rattle.imap_types.proofs.KeptLemmas.{IsUnder, AreSorted, sorted_insert}
 use Rattle.told_mail.specs.Lists.{in_order}
 use Rattle.told_mail.specs.reading.Names.{AllOther, AreApart}
 

@@ -1,14 +1,14 @@
 -- What a store's octets spell of folders and messages.
 use Rattle.std.proofs.Common.{◌≡◌, ◌≢◌, ℕ, ◌≤◌, Bool, true, false, List, [], ◌∷◌, Option, Some, None, sym, subst, inl, inr}
-use Rattle.imap_syntax.specs.declared.response.Response.TheVariants as response
-use Rattle.imap_syntax.specs.declared.response.FetchItems.{FetchItems}
-use Rattle.imap_syntax.specs.Folders.{IsDelimiter, IsListLine}
-use Rattle.imap_syntax.specs.Items.{Item, IsItems, IsMore, IsItemValue, told, told_from, items_of, no_items, kept}
-use Rattle.imap_syntax.specs.Items.Item.{Uid, Flags, ModSeq, Date, Size, Header, Body, Other}
-use Rattle.imap_syntax.specs.Octets.{is_text}
-use Rattle.imap_syntax.specs.Spells.{IsItemsLine, IsSpelling}
+use Rattle.imap_types.specs.declared.response.Response.TheVariants as response
+use Rattle.imap_types.specs.declared.response.FetchItems.{FetchItems}
+use Rattle.imap_types.specs.Folders.{IsDelimiter, IsListLine}
+use Rattle.imap_types.specs.Items.{Item, IsItems, IsMore, IsItemValue, told, told_from, items_of, no_items, kept}
+use Rattle.imap_types.specs.Items.Item.{Uid, Flags, ModSeq, Date, Size, Header, Body, Other}
+use Rattle.imap_types.specs.Octets.{is_text}
+use Rattle.imap_types.specs.Spells.{IsItemsLine, IsSpelling}
 use Rattle.told_folder.proofs.KeyedLemmas.{some_same, some_is_not_none}
-use Rattle.imap_syntax.proofs.KeptLemmas.{kept_again}
+use Rattle.imap_types.proofs.KeptLemmas.{kept_again}
 
 -- the flags that are told are in kept form, and the UID fits
 pub record AreFine (items : FetchItems) : Type 0 where

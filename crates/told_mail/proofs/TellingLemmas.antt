@@ -1,11 +1,11 @@
 -- What telling keeps of the messages of one folder, beside the other folders.
 use Rattle.std.proofs.Common.{◌≡◌, ◌⊎◌, ℕ, ℤ, ◌+◌, ◌<◌, Bool, true, false, List, [], ◌∷◌, Option, Some, None, refl, sym, ap, ◌∙◌, arith, inl, inr}
 use Rattle.std.proofs.Common.{eqb, leb, not, if◌then◌else◌}
-use Rattle.imap_syntax.specs.declared.command.Command.{Command}
-use Rattle.imap_syntax.specs.declared.command.Command.TheVariants as command
-use Rattle.imap_syntax.specs.declared.response.FetchItems.{FetchItems}
-use Rattle.imap_syntax.specs.declared.response.Response.{Response}
-use Rattle.imap_syntax.specs.declared.response.Response.TheVariants as response
+use Rattle.imap_types.specs.declared.command.Command.{Command}
+use Rattle.imap_types.specs.declared.command.Command.TheVariants as command
+use Rattle.imap_types.specs.declared.response.FetchItems.{FetchItems}
+use Rattle.imap_types.specs.declared.response.Response.{Response}
+use Rattle.imap_types.specs.declared.response.Response.TheVariants as response
 use Rattle.told_folder.specs.Folders.{folder_number, uid_of, held_in, mark_in, with_messages}
 use Rattle.told_folder.specs.Keyed.{Ascends, with_key, put_keyed}
 use Rattle.told_folder.specs.Select.{last_told, validity_in, under}

@@ -2,12 +2,12 @@
 use Rattle.std.proofs.Common.{◌≡◌, ◌≢◌, ℕ, ℤ, ◌+◌, ◌≤◌, ◌<◌, ◌^◌, Bool, true, false, not, List, [], ◌∷◌, ◌++◌, Option, Some, None, refl, ◌∙◌, subst, arith, filter}
 use Rattle.std.proofs.Common.{leb, leb-true, ltb, eqb, is_some, unwrap_or, if◌then◌else◌}
 use Rattle.std.specs.List.{AllByRecursion, filter_map, cons_option, list_any}
-use Rattle.imap_syntax.specs.declared.command.Command.{Command}
-use Rattle.imap_syntax.specs.declared.command.Command.TheVariants as command
-use Rattle.imap_syntax.specs.declared.response.FetchItems.{FetchItems}
-use Rattle.imap_syntax.specs.declared.response.Response.{Response}
-use Rattle.imap_syntax.specs.declared.response.Response.TheVariants as response
-use Rattle.imap_syntax.specs.Items.{kept}
+use Rattle.imap_types.specs.declared.command.Command.{Command}
+use Rattle.imap_types.specs.declared.command.Command.TheVariants as command
+use Rattle.imap_types.specs.declared.response.FetchItems.{FetchItems}
+use Rattle.imap_types.specs.declared.response.Response.{Response}
+use Rattle.imap_types.specs.declared.response.Response.TheVariants as response
+use Rattle.imap_types.specs.Items.{kept}
 use Rattle.told_folder.specs.Folders.{folder_number, uid_of, held_in, messages_of, messages_in, with_messages}
 use Rattle.told_folder.specs.Keyed.{with_key, put_keyed, cut_keyed, last_of}
 use Rattle.told_folder.specs.Select.{after_closed, is_closed, modseq_told, last_told, validity_in, under, with_modseq}
@@ -19,8 +19,8 @@ use Rattle.told_folder.specs.declared.message.Message.{Message}
 use Rattle.told_folder.specs.declared.telling.TheConstants.{MAX_MARK}
 use Rattle.told_mail.specs.declared.mirror.listing.TheConstants.{MAX_FOLDER_NUMBER}
 use Rattle.told_folder.proofs.KeyedLemmas.{some_same}
-use Rattle.imap_syntax.specs.declared.response.Status.{Status}
-use Rattle.imap_syntax.specs.declared.response.Status.TheVariants as status
+use Rattle.imap_types.specs.declared.response.Status.{Status}
+use Rattle.imap_types.specs.declared.response.Status.TheVariants as status
 use Rattle.told_folder.specs.declared.exchange.Exchange.{Exchange}
 use Rattle.told_mail.specs.Exchanges.{with_held, tell_held, tell_named, tell_ok, tell_as, tell, responses_of, target}
 use Rattle.told_mail.specs.Spelled.{FitsSlice, AllSpelled, IsSpelled}

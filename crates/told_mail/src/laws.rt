@@ -7,7 +7,7 @@ ghost use Rattle.told_mail.specs.Mail.{no_mail, IsMail, IsNextMail, IsHeldOrNew,
 ghost use Rattle.told_mail.specs.Spelled.{AllSpelled, FitsSlice};
 
 use crate::{Exchange, Folder, Message};
-use imap_syntax::Command;
+use imap_types::Command;
 
 /// The type of a slice says that it ends at a UID.
 fn fits_slice(command: &Command)

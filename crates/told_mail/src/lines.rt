@@ -10,7 +10,7 @@ ghost use Rattle.told_mail.specs.reading.Lines.{value_of, AreLinesFrom};
 ghost use Rattle.told_mail.specs.reading.Names.{names_in, place_in};
 
 use crate::list::{Line, line_of};
-use imap_syntax::Response;
+use imap_types::Response;
 use std::alloc::{AllocError, Global};
 use std::collections::BTreeMap;
 

@@ -5,8 +5,8 @@ ghost use Rattle.told_mail.specs.Lists as lists;
 ghost use Rattle.told_mail.specs.reading.Lines.{value_of, IsLined};
 
 use crate::Folder;
-use gate_world::{Bytes, Names};
-use imap_syntax::Response;
+use imap_types::Response;
+use octets::{Bytes, Names};
 use std::alloc::{AllocError, Global};
 use told_folder::telling::are_same;
 

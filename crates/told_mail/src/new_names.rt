@@ -4,7 +4,7 @@ ghost use Rattle.told_mail.specs.Lists as lists;
 ghost use Rattle.told_mail.specs.reading.Lines as reading;
 ghost use Rattle.told_mail.specs.reading.Names.{names_in, place_in, AreApart};
 
-use gate_world::Bytes;
+use octets::Bytes;
 use std::alloc::{AllocError, Global};
 use std::collections::BTreeMap;
 

@@ -6,7 +6,7 @@ use Rattle.command_parts.specs.declared.fixed_text.FixedText.{FixedText}
 use Rattle.command_parts.specs.declared.fixed_text.FixedText.TheVariants as word
 use Rattle.command_parts.specs.declared.fixed_text.Choice.{Choice}
 use Rattle.command_parts.specs.declared.fixed_text.Choice.TheVariants as choice
-use Rattle.imap_syntax.specs.Octets.{lower}
+use Rattle.imap_types.specs.Octets.{lower}
 
 -- in lower case
 abbrev pub fixed_text : FixedText → List ℕ

@@ -17,8 +17,8 @@ use Rattle.command_parts.specs.declared.flags.Flags.{Flags}
 use Rattle.command_parts.specs.declared.flags.Flags.TheVariants as flags
 use Rattle.command_parts.specs.declared.date.DatePart.{DatePart}
 use Rattle.command_parts.specs.declared.date.DatePart.TheVariants as part
-use Rattle.imap_syntax.specs.Octets.{is_digit, is_alnum, is_text, is_atom}
-use Rattle.imap_syntax.specs.Texts.{literal_limit}
+use Rattle.imap_types.specs.Octets.{is_digit, is_alnum, is_text, is_atom}
+use Rattle.imap_types.specs.Texts.{literal_limit}
 use Rattle.command_parts.specs.reading.Steps.{◌>>=◌, read_from}
 
 abbrev pub may_follow : Follow → ℕ → Bool

@@ -3,7 +3,7 @@ use Rattle.std.specs.Prelude.{◌≡◌, ℕ, List, map, Result, Ok, Err}
 use Rattle.serde_json.specs.Data.{Data, Members, no_members, string}
 use Rattle.email_bodies.specs.Asking.{BodyAsk}
 use Rattle.email_properties.specs.Wanted.{EmailAsked}
-use Rattle.jmap_methods.specs.declared.method_error.MethodError.{MethodError}
+use Rattle.jmap_arguments.specs.declared.method_error.MethodError.{MethodError}
 use Rattle.mail_maps.specs.Rows.{Rows}
 use Rattle.email_get.specs.EmailParse.{ShownBlob, ShowsBlob, parsed_members, missing_ids}
 use Rattle.email_get.specs.Showing.{ShowsAll}

@@ -4,9 +4,9 @@ use Rattle.serde_json.specs.declared.value.Value.{Value}
 use Rattle.serde_json.specs.Data.{Data}
 use Rattle.serde_json.specs.View.{view}
 use Rattle.email_bodies.specs.Asking.{BodyAsk}
-use Rattle.jmap_methods.specs.declared.using.Using.{Using}
-use Rattle.jmap_methods.specs.declared.method_error.MethodError.{MethodError}
-use Rattle.jmap_methods.specs.declared.method_error.MethodError.TheVariants.{Memory}
+use Rattle.jmap_arguments.specs.declared.using.Using.{Using}
+use Rattle.jmap_arguments.specs.declared.method_error.MethodError.{MethodError}
+use Rattle.jmap_arguments.specs.declared.method_error.MethodError.TheVariants.{Memory}
 use Rattle.result_references.specs.Call.{CallData}
 use Rattle.gate_calls.specs.Calls.{AnswersCall, answered_call}
 use Rattle.gate_calls.specs.Mailings.{MailAndUploads}

@@ -2,10 +2,10 @@
 use Rattle.std.specs.Prelude.{◌≡◌, ℕ, List, Option, Some, None, Result, Ok, Err}
 use Rattle.gate_world.specs.declared.event.Event.{Event}
 use Rattle.blob_store.specs.Uploads.{blob_id}
-use Rattle.http_door.specs.declared.asking.AskError.{AskError}
-use Rattle.http_door.specs.declared.asking.AskError.TheVariants.{Memory}
-use Rattle.http_door.specs.declared.asking.HttpAsking.{HttpAsking}
-use Rattle.http_door.specs.declared.asking.HttpAsking.TheVariants as http
+use Rattle.http_requests.specs.declared.asking.AskError.{AskError}
+use Rattle.http_requests.specs.declared.asking.AskError.TheVariants.{Memory}
+use Rattle.http_requests.specs.declared.asking.HttpAsking.{HttpAsking}
+use Rattle.http_requests.specs.declared.asking.HttpAsking.TheVariants as http
 use Rattle.jmap_core.specs.Request.{request_data, requested}
 use Rattle.jmap_core.specs.declared.request.RequestError.{RequestError}
 use Rattle.jmap_core.specs.declared.request.RequestError.TheVariants as error

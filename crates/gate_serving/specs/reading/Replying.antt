@@ -6,7 +6,7 @@ use Rattle.gate_world.specs.Sending.{Sends}
 use Rattle.gate_world.specs.declared.event.Event.{Event}
 use Rattle.gate_world.specs.declared.event.Event.TheVariants.{Accepted}
 use Rattle.gate_world.specs.declared.outside.Failed.{Failed}
-use Rattle.http_door.specs.declared.asking.AskError.TheVariants as unread
+use Rattle.http_requests.specs.declared.asking.AskError.TheVariants as unread
 use Rattle.email_bodies.specs.Asking.{BodyAsk, AreDue}
 use Rattle.imap_exchange.specs.Answering.{HangsUp}
 use Rattle.gate_machine.specs.Fetching.{CallsAsk}
@@ -14,26 +14,27 @@ use Rattle.gate_machine.specs.Progress.{Progress, Bears, is_up}
 use Rattle.gate_machine.specs.Holding.{HoldsMachine}
 use Rattle.gate_machine.specs.Machine.{MachineState, forgotten}
 use Rattle.gate_machine.specs.declared.machine.Machine.{Machine}
-use Rattle.gate_machine.specs.declared.standing.Standing.TheVariants.{OutOfMemory}
-use Rattle.gate_calls.specs.Mailings.{Mailing, mailing_by}
+use Rattle.gate_machine.specs.declared.standing.MailStatus.TheVariants.{OutOfMemory}
+use Rattle.gate_calls.specs.Mailings.{mail_at}
 use Rattle.gate_serving.specs.declared.door.Door.{Door}
 use Rattle.gate_serving.specs.declared.response.Response.{Response}
-use Rattle.gate_serving.specs.declared.served.Served.{Served}
-use Rattle.gate_serving.specs.declared.served.Served.TheVariants as served
-use Rattle.gate_serving.specs.Answers.{KeepsUpload, MayKeepUpload, TakesMemory, IsResponse, AsksFirst}
+use Rattle.gate_serving.specs.declared.outcomes.ClientOutcome.{ClientOutcome}
+use Rattle.gate_serving.specs.declared.outcomes.ClientOutcome.TheVariants as served
+use Rattle.gate_serving.specs.Answers.{Answer, KeepsUpload, MayKeepUpload, TakesMemory, spelled}
 use Rattle.gate_serving.specs.GateState.{GateState}
 use Rattle.gate_serving.specs.Requests.{Account, Asking, ReadsAsking}
 use Rattle.gate_serving.specs.Segment.{Replies, Segment, reply_blamed, blamed, went}
-use Rattle.gate_serving.specs.Work.{Work}
+use Rattle.gate_serving.specs.RequestWork.{RequestWork}
+use Rattle.gate_serving.specs.reading.OneMail.{IsResponse, AsksFirst}
 use Rattle.gate_serving.specs.reading.Texts.{text_sent}
 
 -- the response that is made over the mail of the work so far; or none, after bodies were asked that were due
 abbrev pub IsMadeOver : Door → Account → List (List ℕ) → Asking → Progress → List BodyAsk → Progress → Result Response AllocError → Type 0
 IsMadeOver door account uploads asking begun asks answered (Ok response) =
-    IsResponse door account (record { mail = mailing_by begun.standing begun.machine.known; uploads = uploads }) asking asks (text_sent response)
+    IsResponse door account (record { mail = mail_at begun; uploads = uploads }) asking asks (text_sent response)
     × (answered.standing ≢ OutOfMemory)
 IsMadeOver door account uploads asking begun asks answered (Err _) =
-    AreDue (AsksFirst (record { mail = mailing_by begun.standing begun.machine.known; uploads = uploads }) asking) asks
+    AreDue (AsksFirst (record { mail = mail_at begun; uploads = uploads }) asking) asks
 
 -- the machine that is left: where there was no response it isn't ready
 abbrev pub machine_left : Result Response AllocError → MachineState → MachineState
@@ -54,24 +55,20 @@ pub record Finishes (door : Door) (account : Account) (uploads : List (List ℕ)
   pub bears : Bears answered.blamed was now
   pub made : IsMadeOver door account uploads asking begun asks answered result
 
--- the response; or there was no memory for one that takes memory
-abbrev pub IsMade : Door → Account → Mailing → Asking → List BodyAsk → GateState → GateState → Progress → Result Response AllocError → Type 0
-IsMade door account mail asking asks before after done (Ok response) =
-    IsResponse door account (record { mail = mail; uploads = after.uploads }) asking asks (text_sent response)
+-- the response, by the work on it; or there was no memory for one that takes memory
+abbrev pub IsMade : Door → Account → Asking → GateState → GateState → List Event → Progress → Result Response AllocError → Type 0
+IsMade door account asking before after events done (Ok response) =
+    (answer : Answer) × RequestWork account after.uploads before.machine asking events (Some answer) done × (text_sent response ≡ spelled door answer)
     × (done.standing ≢ OutOfMemory) × KeepsUpload asking before.uploads after.uploads
-IsMade door account mail asking asks before after done (Err _) =
-    TakesMemory asking × AreDue (AsksFirst (record { mail = mail; uploads = before.uploads }) asking) asks
+IsMade door account asking before after events done (Err _) = TakesMemory asking × RequestWork account before.uploads before.machine asking events None done
 
 pub record AnswersTo (door : Door) (account : Account) (asking : Asking) (before after : GateState) (was now : Faults) (result : Result Response AllocError)
     (events : List Event) : Type 0 where
-  pub mail : Mailing
-  pub asks : List BodyAsk
   pub done : Progress
-  pub work : Work account before.machine asking events mail asks done
   pub machine_is : after.machine ≡ machine_left result done.machine
   pub bears : Bears done.blamed was now
   pub may : MayKeepUpload asking before.uploads after.uploads
-  pub made : IsMade door account mail asking asks before after done result
+  pub made : IsMade door account asking before after events done result
 
 -- the reply to what is asked, after the events by which it was read
 pub record RepliesToAsking (door : Door) (account : Account) (asking : Asking) (before after : GateState) (was now : Faults) (text : List ℕ)
@@ -91,10 +88,10 @@ RepliesBy door account before after was now (Some response) events =
 RepliesBy door account before after was now None events = IsUnread door account.token was now events × (after ≡ before)
 
 -- the reply is sent, where there is one
-abbrev pub SendsReply : Option Response → Served → List Event → Type 0
+abbrev pub SendsReply : Option Response → ClientOutcome → List Event → Type 0
 SendsReply (Some response) how events = (sent : Result (Unit {0}) Failed) × Sends (text_sent response) sent events × (how ≡ went sent)
 SendsReply None how events = (how ≡ served.Part) × (events ≡ [])
 
 -- what a client that was accepted adds after its coming
-pub record Serves (door : Door) (account : Account) (before after : GateState) (was now : Faults) (how : Served) (events : List Event) : Type 0 where
+pub record Serves (door : Door) (account : Account) (before after : GateState) (was now : Faults) (how : ClientOutcome) (events : List Event) : Type 0 where
   pub of : (all : List Event) → all ≡ Accepted ∷ events → (segment : Segment door account before all how after) × Bears (blamed segment) was now

@@ -1,6 +1,6 @@
 -- What is written of a command so far.
 use Rattle.std.specs.Prelude.{◌≡◌, ℕ, List, ◌∷◌, ◌++◌}
-use Rattle.imap_syntax.specs.Commands.{Part, put_before, pieces_of}
+use Rattle.imap_types.specs.Commands.{Part, put_before, pieces_of}
 
 -- What a part adds to the pieces that are done and to the one that is begun: with whatever parts after it, all pieces
 -- are the same.

@@ -1,10 +1,10 @@
 -- What a response does to the exchange that is due.
 use Rattle.std.specs.Prelude.{◌≡◌, ◌≢◌, ◌⊎◌, ℕ, Bool, true, false, List}
-use Rattle.imap_syntax.specs.declared.code.Code.{Code}
-use Rattle.imap_syntax.specs.declared.response.Response.{Response}
-use Rattle.imap_syntax.specs.declared.response.Response.TheVariants.{Tagged, Untagged, Continue}
-use Rattle.imap_syntax.specs.declared.response.Status.{Status}
-use Rattle.imap_syntax.specs.declared.response.Status.TheVariants as status
+use Rattle.imap_types.specs.declared.code.Code.{Code}
+use Rattle.imap_types.specs.declared.response.Response.{Response}
+use Rattle.imap_types.specs.declared.response.Response.TheVariants.{Tagged, Untagged, Continue}
+use Rattle.imap_types.specs.declared.response.Status.{Status}
+use Rattle.imap_types.specs.declared.response.Status.TheVariants as status
 use Rattle.imap_exchange.specs.declared.link_end.LinkEnd.TheVariants as end
 use Rattle.imap_exchange.specs.declared.turn.Turn.{Turn}
 use Rattle.imap_exchange.specs.declared.turn.Turn.TheVariants as turn

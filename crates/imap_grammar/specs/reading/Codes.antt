@@ -1,7 +1,7 @@
 -- Sets of codes.
 use Rattle.std.specs.Prelude.{List, ◌++◌, Option, Some, None}
-use Rattle.imap_syntax.specs.declared.uid_set.UidRange.{UidRange}
-use Rattle.imap_syntax.specs.declared.uid_set.UidSet.{UidSet}
+use Rattle.imap_types.specs.declared.uid_set.UidRange.{UidRange}
+use Rattle.imap_types.specs.declared.uid_set.UidSet.{UidSet}
 
 abbrev pub ranges_of : Option UidSet → Option (List UidRange)
 ranges_of None = None

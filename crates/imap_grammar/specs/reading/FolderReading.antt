@@ -1,10 +1,10 @@
 -- How a LIST and a STATUS are read back, from after the word on.
 use Rattle.std.specs.Prelude.{ℕ, zero, suc, ◌+◌, ◌==◌, if◌then◌else◌, List, length, map, take, drop, get_or, Option, Some, None}
-use Rattle.imap_syntax.specs.declared.response.StatusItems.{StatusItems}
-use Rattle.imap_syntax.specs.declared.response.Response.{Response}
-use Rattle.imap_syntax.specs.declared.response.Response.TheVariants.{List as Listing, StatusItems as Counts}
-use Rattle.imap_syntax.specs.Octets.{is_digit, is_status_word, lower}
-use Rattle.imap_syntax.specs.Folders.{folder_name, told_as, no_counts}
+use Rattle.imap_types.specs.declared.response.StatusItems.{StatusItems}
+use Rattle.imap_types.specs.declared.response.Response.{Response}
+use Rattle.imap_types.specs.declared.response.Response.TheVariants.{List as Listing, StatusItems as Counts}
+use Rattle.imap_types.specs.Octets.{is_digit, is_status_word, lower}
+use Rattle.imap_types.specs.Folders.{folder_name, told_as, no_counts}
 use Rattle.imap_values.specs.Spans.{span, long_value, flags_in}
 use Rattle.imap_values.specs.Strings.{astring_in}
 

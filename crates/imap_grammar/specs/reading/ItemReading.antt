@@ -1,11 +1,11 @@
 -- How the items of a FETCH are read back.
 use Rattle.std.specs.Prelude.{ℕ, zero, suc, ◌+◌, ◌||◌, ◌==◌, if◌then◌else◌, List, [], ◌∷◌, map, take, drop, get_or, codes, bytes_eq, Option, Some, None}
 use Rattle.imap_automaton.specs.ItemRules.{item_start}
-use Rattle.imap_syntax.specs.declared.response.FetchItems.{FetchItems}
+use Rattle.imap_types.specs.declared.response.FetchItems.{FetchItems}
 use Rattle.imap_grammar.specs.declared.items.Told.{Told}
 use Rattle.imap_grammar.specs.declared.items.Told.TheVariants as told
-use Rattle.imap_syntax.specs.Octets.{is_digit, is_atom, lower}
-use Rattle.imap_syntax.specs.Items.{header_limit, body_limit}
+use Rattle.imap_types.specs.Octets.{is_digit, is_atom, lower}
+use Rattle.imap_types.specs.Items.{header_limit, body_limit}
 use Rattle.imap_values.specs.Spans.{span, number_in, long_value, flags_in}
 use Rattle.imap_values.specs.Strings.{astring_in}
 use Rattle.imap_values.specs.Dates.{date_in}

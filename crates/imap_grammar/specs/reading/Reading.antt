@@ -6,14 +6,14 @@ pub use Rattle.imap_values.specs.Spans.{in_name, cap, number_from, long_value, n
 unfoldable pub use Rattle.imap_values.specs.Spans.{span, count_from, names_in, flags_in, all_digits, is_sequence}
 unfoldable pub use Rattle.imap_values.specs.Sets.{words_in, range_read, ranges_read, vanished_in}
 use Rattle.imap_grammar.specs.reading.FolderReading.{list_in, status_in}
-use Rattle.imap_syntax.specs.declared.response.Status.{Status}
-use Rattle.imap_syntax.specs.declared.response.Status.TheVariants as status
-use Rattle.imap_syntax.specs.declared.response.Response.{Response}
-use Rattle.imap_syntax.specs.declared.response.Response.TheVariants.{Tagged, Untagged, Continue, Capability, Enabled, Flags, Exists, Expunge, Fetch}
-use Rattle.imap_syntax.specs.declared.response.Response.TheVariants.{Other}
-use Rattle.imap_syntax.specs.Octets.{is_word, lower}
-use Rattle.imap_syntax.specs.Items.{no_items}
-use Rattle.imap_syntax.specs.reading.CodeReading.{code_in}
+use Rattle.imap_types.specs.declared.response.Status.{Status}
+use Rattle.imap_types.specs.declared.response.Status.TheVariants as status
+use Rattle.imap_types.specs.declared.response.Response.{Response}
+use Rattle.imap_types.specs.declared.response.Response.TheVariants.{Tagged, Untagged, Continue, Capability, Enabled, Flags, Exists, Expunge, Fetch}
+use Rattle.imap_types.specs.declared.response.Response.TheVariants.{Other}
+use Rattle.imap_types.specs.Octets.{is_word, lower}
+use Rattle.imap_types.specs.Items.{no_items}
+use Rattle.imap_types.specs.reading.CodeReading.{code_in}
 unfoldable pub use Rattle.imap_grammar.specs.reading.ItemReading.{value_in, item_in, items_in}
 
 -- ---- lines

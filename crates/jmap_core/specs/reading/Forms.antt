@@ -3,7 +3,7 @@ use Rattle.std.specs.Prelude.{ℕ, List, [], ◌∷◌, if◌then◌else◌, byt
 use Rattle.jmap_core.specs.Request.{Form as FormData, core_capability, mail_capability}
 use Rattle.result_references.specs.Call.{call_data}
 use Rattle.jmap_core.specs.declared.request_body.Form.{Form}
-use Rattle.jmap_methods.specs.declared.using.Using.{Using}
+use Rattle.jmap_arguments.specs.declared.using.Using.{Using}
 
 abbrev pub form_data : Form → FormData
 form_data form = record { uses = map (λ t. t.now) form.names.items; calls = map call_data form.calls.items; created = form.created }

@@ -1,7 +1,7 @@
 -- How the code finds the last address in angle brackets: from the end of a text to its front.
 use Rattle.std.specs.Prelude.{◌≡◌, ℕ, Bool, true, false, ◌&&◌, ◌==◌, if◌then◌else◌, List, [], ◌∷◌, drop}
 use Rattle.loose_addresses.specs.declared.angles.Scan.{Scan}
-use Rattle.loose_addresses.specs.LooseLists.{NoAngle}
+use Rattle.loose_addresses.specs.Angles.{NoAngle}
 
 -- whether the first angle bracket of the text is ">"
 abbrev pub closes : List ℕ → Bool

@@ -1,8 +1,10 @@
 -- How the code cuts elements.
-use Rattle.std.specs.Prelude.{◌≡◌, ℕ, true, List, [], ◌∷◌, ◌++◌, length, Option, Some, None}
-use Rattle.text_words.specs.Sequence.{Starts}
+use Rattle.std.specs.Prelude.{◌≡◌, ℕ, true, List, [], ◌∷◌, ◌++◌, length, drop, Option, Some, None}
+use Rattle.std.proofs.Common.{Bor}
 use Rattle.header_addresses.specs.declared.address.Address.{Address}
-use Rattle.loose_addresses.specs.LooseLists.{is_separator, IsLump, AreLoose}
+use Rattle.loose_addresses.specs.Angles.{HaveNone, IsLastOf}
+use Rattle.loose_addresses.specs.LooseLists.{AreLoose}
+use Rattle.loose_addresses.specs.Lumps.{is_separator, IsLump, AreLumpsBefore}
 
 -- the text begins with a lump of n octets
 pub record LumpOf (n : ℕ) (t : List ℕ) : Type 0 where
@@ -12,15 +14,10 @@ pub record LumpOf (n : ℕ) (t : List ℕ) : Type 0 where
   pub is : IsLump (Some unit) unit rest
   pub counted : n ≡ length unit
 
--- the text is these lumps, and rest follows them
-abbrev pub AreElementLumps : List (List ℕ) → List ℕ → List ℕ → Type 0
-AreElementLumps [] rest t = t ≡ rest
-AreElementLumps (u ∷ us) rest t = Starts IsLump (Some u) (AreElementLumps us rest) t
-
 -- the text begins with the octets of an element's lumps, and rest follows them
 pub record IsElementBefore (element rest t : List ℕ) : Type 0 where
   pub lumps : List (List ℕ)
-  pub are : AreElementLumps lumps rest t
+  pub are : AreLumpsBefore lumps rest t
   pub whole : t ≡ element ++ rest
 
 -- nothing follows an element, or a separator
@@ -37,3 +34,19 @@ pub data BeginsWithElement (element : List ℕ) : Option (List ℕ) → List ℕ
 abbrev pub AreLeft : List Address → Option (List ℕ) → Type 0
 AreLeft list None = list ≡ []
 AreLeft list (Some t) = AreLoose list t
+
+-- lumps end at the place n of the text
+pub record EndsLumps (n : ℕ) (t : List ℕ) : Type 0 where
+  pub lumps : List (List ℕ)
+  pub are : AreLumpsBefore lumps (drop n t) t
+
+-- what was found in lumps: what stands before the last "<x>" that counts, and x
+abbrev pub IsFound : Option (Bor (List ℕ) × Bor (List ℕ)) → List (List ℕ) → Type 0
+IsFound None lumps = HaveNone lumps
+IsFound (Some r) lumps = IsLastOf r.0.now r.1.now lumps
+
+-- the same in the lumps up to the place n
+pub record FoundBefore (n : ℕ) (found : Option (Bor (List ℕ) × Bor (List ℕ))) (t : List ℕ) : Type 0 where
+  pub lumps : List (List ℕ)
+  pub are : AreLumpsBefore lumps (drop n t) t
+  pub is : IsFound found lumps

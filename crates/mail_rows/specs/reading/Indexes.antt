@@ -12,7 +12,7 @@ use Rattle.mail_maps.specs.Visible.{Placed}
 use Rattle.mail_rows.specs.NumberedRows.{NumberedRows, AreBelow}
 use Rattle.mail_rows.specs.Joining.{members_of}
 use Rattle.mail_rows.specs.Taking.{AreEnvelopes, with_row, with_rows}
-use Rattle.mail_rows.specs.declared.remaining.Gone.{Gone}
+use Rattle.mail_rows.specs.declared.remaining.RemovedEmail.{RemovedEmail}
 
 -- the number of the last row with the mark
 abbrev pub number_after : Option ℕ → Rows → ℕ → Option ℕ
@@ -29,11 +29,11 @@ pub record AreIndexes (rows : Rows) (next : ℕ) (marks : BTreeMap ℕ ℕ) (boo
 
 -- ---- what the indexes have after Emails go
 
-abbrev pub number_left : List Gone → ℕ → Option ℕ → Option ℕ
+abbrev pub number_left : List RemovedEmail → ℕ → Option ℕ → Option ℕ
 number_left [] q o = o
 number_left (g ∷ gs) q o = number_left gs q (if g.mark == q then None else o)
 
-abbrev pub members_left : List Gone → Members → Members
+abbrev pub members_left : List RemovedEmail → Members → Members
 members_left [] ms = ms
 members_left (g ∷ gs) ms = members_left gs (remove_entry (is_at (nat_cmp g.number)) ms)
 

@@ -5,10 +5,10 @@ use Rattle.change_list.specs.Kept.{Kept, IsOf}
 use Rattle.change_list.specs.TouchedIds.{AreTouched}
 use Rattle.change_list.specs.Touches.{AreTouches}
 use Rattle.change_list.specs.declared.entries.Entry.{Entry}
-use Rattle.jmap_methods.specs.declared.method_error.MethodError.{MethodError}
-use Rattle.jmap_methods.specs.declared.method_error.MethodError.TheVariants.{CannotCalculateChanges, TooManyChanges}
-use Rattle.jmap_methods.specs.declared.state.State.{State}
-use Rattle.read_methods.specs.Changes.{IsPlaceOf, NamesNone}
+use Rattle.jmap_arguments.specs.declared.method_error.MethodError.{MethodError}
+use Rattle.jmap_arguments.specs.declared.method_error.MethodError.TheVariants.{CannotCalculateChanges, TooManyChanges}
+use Rattle.jmap_arguments.specs.declared.state.State.{State}
+use Rattle.served_types.specs.States.{IsPlaceOf, NamesNone}
 use Rattle.query_changes.specs.Changes.{count_told, is_no_more_than, query_changes_data}
 
 -- the place that is named, and what was touched after it in each history that the touches are the last of, up to its last state

@@ -1,7 +1,7 @@
 -- What conditions read.
 use Rattle.std.specs.Prelude.{Bool, true, false}
-use Rattle.mail_conditions.specs.declared.email_condition.RecordCondition.{RecordCondition}
-use Rattle.mail_conditions.specs.declared.email_condition.RecordCondition.TheVariants as record_condition
+use Rattle.query_conditions.specs.declared.email_condition.RecordCondition.{RecordCondition}
+use Rattle.query_conditions.specs.declared.email_condition.RecordCondition.TheVariants as record_condition
 use Rattle.query_arguments.specs.declared.email_condition.EmailCondition.{EmailCondition}
 use Rattle.query_arguments.specs.declared.email_condition.EmailCondition.TheVariants.{Record, Header, Thread}
 

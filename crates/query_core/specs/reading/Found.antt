@@ -6,8 +6,8 @@ use Rattle.std.specs.List.{AllByRecursion}
 use Rattle.std.specs.Ordering.{nat_cmp}
 use Rattle.std.specs.declared.alloc.Global.{Global}
 use Rattle.mail_maps.specs.Serve.{Email}
-use Rattle.mail_conditions.specs.ThreadKeywords.{AreThreadsOf}
-use Rattle.mail_conditions.specs.declared.threads.KeywordThreads.{KeywordThreads}
+use Rattle.query_conditions.specs.ThreadKeywords.{AreThreadsOf}
+use Rattle.query_conditions.specs.declared.threads.KeywordThreads.{KeywordThreads}
 use Rattle.query_arguments.specs.declared.email_condition.EmailCondition.{EmailCondition}
 use Rattle.query_arguments.specs.declared.email_condition.EmailCondition.TheVariants.{Record, Header, Thread}
 use Rattle.query_lists.specs.Filters.{FilterTree, conditions, joined_by, FilterTrees, no_filters, filters}

@@ -1,8 +1,8 @@
 -- What is answered of a list that was found.
 use Rattle.std.specs.Prelude.{ℕ, List, Bool, Result, ok_or, option_map}
 use Rattle.serde_json.specs.Data.{Data}
-use Rattle.jmap_methods.specs.declared.method_error.MethodError.{MethodError}
-use Rattle.jmap_methods.specs.declared.method_error.MethodError.TheVariants.{AnchorNotFound}
+use Rattle.jmap_arguments.specs.declared.method_error.MethodError.{MethodError}
+use Rattle.jmap_arguments.specs.declared.method_error.MethodError.TheVariants.{AnchorNotFound}
 use Rattle.query_arguments.specs.declared.asked.AskedPart.{AskedPart}
 use Rattle.query_core.specs.Answers.{part_of, query_data}
 

@@ -2,8 +2,8 @@
 use Rattle.std.specs.Prelude.{◌≡◌, ℕ, List, Bool, IsPermutation}
 use Rattle.std.specs.List.Sorted.{IsStrictlySortedBy}
 use Rattle.mail_maps.specs.Serve.{Email}
-use Rattle.mail_orders.specs.Emails.{email_cmp}
-use Rattle.mail_orders.specs.declared.comparators.EmailComparator.{EmailComparator}
+use Rattle.query_orders.specs.Emails.{email_cmp}
+use Rattle.query_orders.specs.declared.comparators.EmailComparator.{EmailComparator}
 use Rattle.query_lists.specs.Ordered.{row_cmp}
 use Rattle.query_core.specs.Lists.{collapsed_if}
 

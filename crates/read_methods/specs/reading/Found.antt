@@ -6,9 +6,10 @@ use Rattle.change_list.specs.Kept.{Kept, IsOf}
 use Rattle.change_list.specs.Touches.{AreTouches}
 use Rattle.change_list.specs.declared.answer.Changes.{Changes}
 use Rattle.change_list.specs.declared.entries.Entry.{Entry}
-use Rattle.jmap_methods.specs.declared.method_error.MethodError.{MethodError}
-use Rattle.jmap_methods.specs.declared.method_error.MethodError.TheVariants.{CannotCalculateChanges}
-use Rattle.read_methods.specs.Changes.{ChangesAsked, changes_asked, IsPlaceOf, NamesNone, changes_data, Further}
+use Rattle.jmap_arguments.specs.declared.method_error.MethodError.{MethodError}
+use Rattle.jmap_arguments.specs.declared.method_error.MethodError.TheVariants.{CannotCalculateChanges}
+use Rattle.read_methods.specs.Changes.{ChangesAsked, changes_asked, changes_data, Further}
+use Rattle.served_types.specs.States.{IsPlaceOf, NamesNone}
 
 -- the place that is named, and what changed after it in each history that the touches are the last of
 pub record FindsChanges (epoch : ℕ) (k : Kept) (asked : ChangesAsked) (c : Changes) : Type 0 where

@@ -7,9 +7,9 @@ use Rattle.serde_json.specs.Find.{pointer, as_array}
 use Rattle.serde_json.specs.Written.{compact_text}
 use Rattle.result_references.specs.Call.{CallData}
 use Rattle.result_references.specs.References.{Source, referring, source_of, value_at, resolved_object}
-use Rattle.jmap_methods.specs.declared.method_error.MethodError.{MethodError}
-use Rattle.jmap_methods.specs.declared.method_error.MethodError.TheVariants.{Memory}
-use Rattle.result_references.specs.declared.octets.TheConstants.{MAX_RESOLVED_OCTETS}
+use Rattle.jmap_arguments.specs.declared.method_error.MethodError.{MethodError}
+use Rattle.jmap_arguments.specs.declared.method_error.MethodError.TheVariants.{Memory}
+use Rattle.result_references.specs.declared.counted_octets.TheConstants.{MAX_RESOLVED_OCTETS}
 
 -- The count is the total, or nothing exactly where that is above the limit.
 abbrev pub Counts : Option ℕ → ℕ → Type 0

@@ -1,8 +1,8 @@
 -- The pieces so far, and the next one.
 use Rattle.std.proofs.Common.{◌≡◌, ◌≤◌, ◌∙◌, ◌++◌, List, ℕ, length, take, drop, refl, ap, sym, subst, append_assoc}
 use Rattle.std.proofs.lemmas.List.{take-append-drop, take-append-le}
-use Rattle.imap_syntax.specs.Spells.{IsSpelling}
-use Rattle.imap_syntax.specs.declared.response.Response.{Response}
+use Rattle.imap_types.specs.Spells.{IsSpelling}
+use Rattle.imap_types.specs.declared.response.Response.{Response}
 use Rattle.scan_speed.proofs.first.Goals as goal
 
 joined : (bytes so_far rest front back : List ℕ) (k : ℕ) → bytes ≡ so_far ++ rest → front ≡ take k rest → back ≡ drop k rest → bytes ≡ (so_far ++ front) ++ back

@@ -1,11 +1,11 @@
 -- What a fetch tells of a message, and of which messages.
 use Rattle.std.specs.Prelude.{ℕ, ◌==◌, nat_lt, nat_le, ◌||◌, Bool, true, List, [], ◌∷◌, Some, None, filter, map, take, if◌then◌else◌}
-use Rattle.imap_syntax.specs.declared.response.Response.{Response}
-use Rattle.imap_syntax.specs.declared.response.Response.TheVariants as response
-use Rattle.imap_syntax.specs.declared.response.FetchItems.{FetchItems}
-use Rattle.imap_syntax.specs.declared.code.Code.TheVariants as code
-use Rattle.imap_syntax.specs.declared.response.Status.TheVariants as status
-use Rattle.imap_syntax.specs.Items.{no_items, body_limit}
+use Rattle.imap_types.specs.declared.response.Response.{Response}
+use Rattle.imap_types.specs.declared.response.Response.TheVariants as response
+use Rattle.imap_types.specs.declared.response.FetchItems.{FetchItems}
+use Rattle.imap_types.specs.declared.code.Code.TheVariants as code
+use Rattle.imap_types.specs.declared.response.Status.TheVariants as status
+use Rattle.imap_types.specs.Items.{no_items, body_limit}
 use Rattle.honest_store.specs.StoreMail.{StoreMessage}
 use Rattle.honest_store.specs.Headers.{header_told}
 use Rattle.honest_store.specs.Sessions.{StoreAnswer}

@@ -1,7 +1,7 @@
 -- What a call gives: an answer, and the session after it.
 use Rattle.std.specs.Prelude.{◌≡◌, ℕ, Option}
-use Rattle.imap_syntax.specs.declared.command.Command.{Command}
-use Rattle.imap_syntax.specs.declared.command.Command.TheVariants as command
+use Rattle.imap_types.specs.declared.command.Command.{Command}
+use Rattle.imap_types.specs.declared.command.Command.TheVariants as command
 use Rattle.honest_store.specs.StoreMail.{StoreMail}
 use Rattle.honest_store.specs.Sessions.{StoreSession, StoreAnswer}
 use Rattle.small_answers.specs.Answers.{Reply, ok_answer}

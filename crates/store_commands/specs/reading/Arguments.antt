@@ -1,8 +1,8 @@
 -- The arguments of commands, up to the command's end.
 use Rattle.std.specs.Prelude.{ℕ, true, false, Bool, ◌==◌, if◌then◌else◌, List, get_or, Some, None, Result, Ok}
-use Rattle.imap_syntax.specs.declared.command.Command.{Command}
-use Rattle.imap_syntax.specs.declared.command.Command.TheVariants.{Login, Select, FetchFlags, FetchSlice, FetchNew, FetchBody, Store, Move, Expunge, Append}
-use Rattle.imap_syntax.specs.declared.command.Command.TheVariants.{Create, Delete, Rename, Subscribe}
+use Rattle.imap_types.specs.declared.command.Command.{Command}
+use Rattle.imap_types.specs.declared.command.Command.TheVariants.{Login, Select, FetchFlags, FetchSlice, FetchNew, FetchBody, Store, Move, Expunge, Append}
+use Rattle.imap_types.specs.declared.command.Command.TheVariants.{Create, Delete, Rename, Subscribe}
 use Rattle.command_parts.specs.declared.no_command.NoCommand.{NoCommand}
 use Rattle.command_parts.specs.declared.follow.Follow.TheVariants as follow
 use Rattle.command_parts.specs.declared.fixed_text.FixedText.{FixedText}

@@ -1,6 +1,6 @@
 -- The command that octets ask, by what was read of them.
-use Rattle.imap_syntax.specs.declared.command.Command.{Command}
-use Rattle.imap_syntax.specs.declared.command.Command.TheVariants as command
+use Rattle.imap_types.specs.declared.command.Command.{Command}
+use Rattle.imap_types.specs.declared.command.Command.TheVariants as command
 use Rattle.store_commands.specs.declared.request.Request.{Request}
 use Rattle.store_commands.specs.declared.request.Request.TheVariants as request
 use Rattle.command_parts.specs.reading.Strings.{credential_of}

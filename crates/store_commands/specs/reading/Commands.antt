@@ -1,7 +1,7 @@
 -- A command with its tag, and what is answered where there is none.
 use Rattle.std.specs.Prelude.{ℕ, ◌-◌, true, false, List, length, Result, Ok, Err}
-use Rattle.imap_syntax.specs.declared.command.Command.{Command}
-use Rattle.imap_syntax.specs.declared.command.Command.TheVariants.{Capability, Enable, List as ListFolders, Unselect}
+use Rattle.imap_types.specs.declared.command.Command.{Command}
+use Rattle.imap_types.specs.declared.command.Command.TheVariants.{Capability, Enable, List as ListFolders, Unselect}
 use Rattle.command_parts.specs.declared.no_command.NoCommand.{NoCommand}
 use Rattle.command_parts.specs.declared.no_command.NoCommand.TheVariants as none
 use Rattle.store_commands.specs.declared.command_read.CommandRead.{CommandRead}

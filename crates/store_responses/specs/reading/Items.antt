@@ -1,6 +1,6 @@
 -- Items that are written one after another, with a space between two.
 use Rattle.std.specs.Prelude.{◌≡◌, ℕ, Bool, true, false, ◌&&◌, List, [], ◌∷◌, ◌++◌, if◌then◌else◌}
-use Rattle.imap_syntax.specs.Lines.{spaced, joined}
+use Rattle.imap_types.specs.Lines.{spaced, joined}
 
 -- the items, where none was written before, and where some was
 abbrev pub written : Bool → List (List ℕ) → List ℕ

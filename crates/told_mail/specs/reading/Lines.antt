@@ -4,7 +4,7 @@ use Rattle.std.specs.Prelude.{◌∷◌, ◌++◌, Option, Some, None, take, dro
 use Rattle.std.specs.BTreeMap.{BTreeMap}
 use Rattle.std.specs.Option.{option_and_then}
 use Rattle.std.specs.declared.alloc.Global.{Global}
-use Rattle.imap_syntax.specs.declared.response.Response.{Response}
+use Rattle.imap_types.specs.declared.response.Response.{Response}
 use Rattle.told_folder.specs.declared.message.Held.{Held}
 use Rattle.told_mail.specs.Lists as lists
 use Rattle.told_mail.specs.Lists.{line_of, line_for, names_told, with_line, is_inbox}

@@ -10,7 +10,7 @@ ghost use Rattle.told_mail.specs.Told.{counted_up};
 use super::Mirror;
 use crate::names::{change_name, cut_name, put_name};
 use crate::{Folder, Held, Message};
-use gate_world::Listed;
+use octets::Listed;
 use std::alloc::AllocError;
 use told_folder::keyed::index_of;
 use told_folder::puts::{cut_at, one_more, put_in};

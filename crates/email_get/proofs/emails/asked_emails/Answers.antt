@@ -1,5 +1,5 @@
 use Rattle.std.proofs.Common.{map, option_map}
-use Rattle.jmap_methods.specs.Ids.{email_letter}
+use Rattle.jmap_arguments.specs.Ids.{email_letter}
 use Rattle.email_get.proofs.NumberLemmas.{asked_have_rows}
 use Rattle.email_get.proofs.emails.asked_emails.Goals as goal
 

@@ -1,6 +1,6 @@
 use Rattle.std.proofs.Common.{List, ℕ, Option, Some, None, sym, ◌∙◌, refl}
 use Rattle.email_properties.specs.Wanted.{email_asked}
-use Rattle.jmap_methods.specs.declared.method_error.MethodError.TheVariants.{Memory}
+use Rattle.jmap_arguments.specs.declared.method_error.MethodError.TheVariants.{Memory}
 use Rattle.email_get.specs.Asked.{place_of, error_by}
 use Rattle.email_get.specs.EmailGet.{AsksBody, NotNeeded, Comes, Lacks}
 use Rattle.email_get.proofs.AskLemmas.{unasked, came, failed}

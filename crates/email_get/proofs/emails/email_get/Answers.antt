@@ -4,8 +4,8 @@ use Rattle.serde_json.specs.Data.{Data}
 use Rattle.serde_json.specs.View.{view}
 use Rattle.email_bodies.specs.Asking.{BodyAsk}
 use Rattle.email_properties.specs.Wanted.{email_asked}
-use Rattle.jmap_methods.specs.declared.method_error.MethodError.{MethodError}
-use Rattle.jmap_methods.specs.declared.method_error.MethodError.TheVariants.{Memory}
+use Rattle.jmap_arguments.specs.declared.method_error.MethodError.{MethodError}
+use Rattle.jmap_arguments.specs.declared.method_error.MethodError.TheVariants.{Memory}
 use Rattle.mail_state.specs.History.{MailHistory}
 use Rattle.mail_state.specs.State.{ServedState, IsStateOf}
 use Rattle.email_get.specs.Asked.{FailsAfter}

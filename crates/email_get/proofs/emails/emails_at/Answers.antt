@@ -3,7 +3,7 @@ use Rattle.std.proofs.lemmas.List.{drop_all, drop_more}
 use Rattle.serde_json.specs.View.{view}
 use Rattle.email_bodies.specs.Asking.{BodyAsk}
 use Rattle.email_properties.specs.Wanted.{email_asked}
-use Rattle.jmap_methods.specs.declared.method_error.MethodError.TheVariants.{Memory}
+use Rattle.jmap_arguments.specs.declared.method_error.MethodError.TheVariants.{Memory}
 use Rattle.email_get.specs.EmailGet.{ShowsRow, ShowsEmail}
 use Rattle.email_get.specs.Showing.{ShowsAll}
 use Rattle.email_bodies.proofs.Joins.{vain_at_once}

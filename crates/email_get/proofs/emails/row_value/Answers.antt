@@ -3,7 +3,7 @@ use Rattle.serde_json.specs.View.{view}
 use Rattle.email_bodies.specs.Asking.{BodyAsk}
 use Rattle.email_objects.specs.EmailObjects.{IsEmailObject}
 use Rattle.email_properties.specs.Wanted.{email_asked}
-use Rattle.jmap_methods.specs.declared.method_error.MethodError.TheVariants.{Memory}
+use Rattle.jmap_arguments.specs.declared.method_error.MethodError.TheVariants.{Memory}
 use Rattle.email_get.specs.Asked.{FailsAfter}
 use Rattle.email_get.specs.EmailGet.{AsksBody, ShowsRow, AsObject, NoBody}
 use Rattle.email_get.proofs.AskLemmas.{lacks_memory, same_error, vain_after, given_after, refused_after}

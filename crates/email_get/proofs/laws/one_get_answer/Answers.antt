@@ -1,4 +1,4 @@
-use Rattle.read_methods.specs.Replies.{type_state}
+use Rattle.served_types.specs.States.{type_state}
 use Rattle.email_get.proofs.OneAnswer as lemmas
 use Rattle.email_get.proofs.laws.one_get_answer.Goals as goal
 

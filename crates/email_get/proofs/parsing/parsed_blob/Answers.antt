@@ -4,7 +4,7 @@ use Rattle.serde_json.specs.declared.value.Value.{Value}
 use Rattle.email_bodies.specs.Asking.{BodyAsk}
 use Rattle.email_bodies.specs.declared.error.BodyError.TheVariants as body
 use Rattle.email_properties.specs.Wanted.{email_asked}
-use Rattle.jmap_methods.specs.declared.method_error.MethodError.TheVariants.{Memory}
+use Rattle.jmap_arguments.specs.declared.method_error.MethodError.TheVariants.{Memory}
 use Rattle.message_blobs.specs.BlobIds.{root_view}
 use Rattle.email_get.specs.Asked.{FailsAfter, error_by}
 use Rattle.email_get.specs.Blobs.{FindsOctets}

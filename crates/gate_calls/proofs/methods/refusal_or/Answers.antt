@@ -1,7 +1,7 @@
 use Rattle.std.proofs.Common.{Result, subst}
-use Rattle.jmap_methods.specs.Outcome.{Agrees}
-use Rattle.jmap_methods.specs.declared.method_error.MethodError.{MethodError}
-use Rattle.jmap_methods.specs.declared.method_error.MethodError.TheVariants.{Memory}
+use Rattle.jmap_arguments.specs.Outcome.{Agrees}
+use Rattle.jmap_arguments.specs.declared.method_error.MethodError.{MethodError}
+use Rattle.jmap_arguments.specs.declared.method_error.MethodError.TheVariants.{Memory}
 use Rattle.gate_calls.proofs.Meaning.{not_refused, is_refused}
 use Rattle.gate_calls.proofs.methods.refusal_or.Goals as goal
 

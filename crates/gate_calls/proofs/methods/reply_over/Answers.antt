@@ -1,6 +1,6 @@
 use Rattle.std.proofs.Common.{◌≡◌, Ok}
 use Rattle.serde_json.specs.View.{view}
-use Rattle.jmap_methods.specs.Echo.{echoed}
+use Rattle.jmap_arguments.specs.Echo.{echoed}
 use Rattle.mail_state.specs.History.{MailHistory}
 use Rattle.mail_state.specs.State.{IsStateOf}
 use Rattle.query_changes.specs.Replies.{RepliesEmailQueryChanges, RepliesMailboxQueryChanges}

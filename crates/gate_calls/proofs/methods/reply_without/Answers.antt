@@ -2,7 +2,7 @@ use Rattle.std.proofs.Common.{◌≡◌, Err}
 use Rattle.serde_json.specs.View.{view}
 use Rattle.email_get.specs.EmailGet.{get_emails_refused}
 use Rattle.email_get.specs.EmailParse.{parse_refused}
-use Rattle.jmap_methods.specs.Echo.{echoed}
+use Rattle.jmap_arguments.specs.Echo.{echoed}
 use Rattle.gate_calls.specs.declared.method.Method.TheVariants.{CoreEcho, MailboxGet, MailboxChanges, MailboxQuery, MailboxQueryChanges, ThreadGet}
 use Rattle.gate_calls.specs.declared.method.Method.TheVariants.{ThreadChanges, EmailGet, EmailChanges, EmailQuery, EmailQueryChanges, EmailParse}
 use Rattle.query_arguments.specs.Asked.{email_query_refused, email_query_changes_refused, mailbox_query_refused, mailbox_query_changes_refused}

@@ -5,5 +5,5 @@ pub returns : goal.returns
 returns c =
     record {
       machine = λ door account before after events went run knows. run_knows c.machines_know_what_was_told.ensures.next c.machines_know_what_was_told.ensures.calls run knows;
-      mail = λ account before asking events mail asks after work knows. work_places c.machines_know_what_was_told.ensures.next work knows;
+      mail = λ account uploads before asking events came after work knows. work_places c.machines_know_what_was_told.ensures.next work knows;
     }

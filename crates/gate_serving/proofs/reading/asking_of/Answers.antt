@@ -1,5 +1,5 @@
 use Rattle.std.proofs.Common.{List, ℕ, sym, subst}
-use Rattle.http_door.specs.declared.asking.HttpAsking.{HttpAsking}
+use Rattle.http_requests.specs.declared.asking.HttpAsking.{HttpAsking}
 use Rattle.gate_serving.specs.reading.Askings.{AsksInBody, AsksOf}
 use Rattle.gate_serving.proofs.Asked.{calls_over_http}
 use Rattle.gate_serving.proofs.reading.asking_of.Goals as goal

@@ -1,6 +1,6 @@
 use Rattle.std.proofs.Common.{ℕ, List, Ok, Err, subst}
 use Rattle.gate_world.proofs.Joins.{widen}
-use Rattle.http_door.specs.Asking.{AsksOverHttp}
+use Rattle.http_requests.specs.Asking.{AsksOverHttp}
 use Rattle.gate_serving.proofs.Asked.{read_over_http, unread_over_http}
 use Rattle.gate_serving.proofs.reading.read_http.Goals as goal
 

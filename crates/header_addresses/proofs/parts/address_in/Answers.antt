@@ -1,7 +1,6 @@
-use Rattle.std.proofs.Common.{Vec, Global, List, ap, ◌∙◌, sym, subst}
+use Rattle.std.proofs.Common.{Vec, Global, ap, ◌∙◌, sym}
 use Rattle.header_words.proofs.ShapeLemmas.{take_none, take_some}
 use Rattle.header_tokens.specs.TokenView.{tokens_view}
-use Rattle.header_addresses.specs.Mailboxes.{Mailbox}
 use Rattle.header_addresses.specs.declared.elements.Element.{Element as Code}
 use Rattle.header_addresses.specs.reading.ElementView.{mailbox_view, elements_view}
 use Rattle.header_addresses.specs.reading.GroupBuilding.{IsList, IsNoList}

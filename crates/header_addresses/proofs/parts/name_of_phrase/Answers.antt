@@ -1,4 +1,4 @@
-use Rattle.std.proofs.Common.{Vec, Global, ℕ, List, Option, subst}
+use Rattle.std.proofs.Common.{Vec, Global, List, subst}
 use Rattle.std.proofs.lemmas.Result.{IfOk-weaker}
 use Rattle.header_words.proofs.ShapeLemmas.{take_some}
 use Rattle.header_tokens.specs.declared.token.Alphabet.TheVariants as alphabet

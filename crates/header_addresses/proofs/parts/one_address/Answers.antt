@@ -1,11 +1,10 @@
-use Rattle.std.proofs.Common.{Vec, Global, ℕ, List, Option, subst}
+use Rattle.std.proofs.Common.{Vec, Global, List, subst}
 use Rattle.std.proofs.lemmas.Result.{IfOk-weaker}
 use Rattle.header_words.proofs.ShapeLemmas.{take_some}
 use Rattle.header_tokens.specs.declared.token.Alphabet.TheVariants as alphabet
 use Rattle.header_tokens.specs.declared.token.Token.{Token}
 use Rattle.header_tokens.specs.Tokens.{AreTokens}
 use Rattle.header_tokens.specs.TokenView.{tokens_view}
-use Rattle.header_addresses.specs.declared.address.Address.{Address}
 use Rattle.header_addresses.specs.reading.GroupBuilding.{OneIn}
 use Rattle.header_addresses.proofs.PartLemmas.{one_told}
 use Rattle.header_addresses.proofs.parts.one_address.Goals as goal

@@ -1,4 +1,4 @@
-use Rattle.std.proofs.Common.{sym, ap, ◌∙◌, subst, ◌≢◌, ℕ, List, ◌∷◌}
+use Rattle.std.proofs.Common.{subst, ◌≢◌, ℕ, List, ◌∷◌}
 use Rattle.header_tokens.proofs.ClosingLemmas.{angle_none, angle_here, angle_within}
 use Rattle.header_tokens.proofs.closings.angle_at.Goals as goal
 

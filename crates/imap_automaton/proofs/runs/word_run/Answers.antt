@@ -9,7 +9,7 @@ use Rattle.imap_keywords.proofs.KeyLemmas.{self_same, goes_to, goes_in_word}
 use Rattle.pushdown.proofs.Leading.{runs_none, runs_more}
 use Rattle.imap_automaton.proofs.RunLemmas.{word_stays}
 use Rattle.imap_automaton.proofs.runs.word_run.Goals as goal
-use Rattle.imap_syntax.specs.Octets.{lower}
+use Rattle.imap_types.specs.Octets.{lower}
 
 pub loop-count-init : goal.loop-count-init
 loop-count-init c =

@@ -1,5 +1,5 @@
 use Rattle.std.proofs.Common.{◌++◌, ◌∷◌, [], ◌∙◌, subst}
-use Rattle.imap_syntax.specs.Commands.{Literal}
+use Rattle.imap_types.specs.Commands.{Literal}
 use Rattle.imap_commands.specs.reading.Written.{AddsPart}
 use Rattle.imap_commands.proofs.Pieces.{append_pieces}
 use Rattle.imap_commands.proofs.commands.append.Goals as goal

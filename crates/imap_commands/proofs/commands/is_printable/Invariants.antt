@@ -1,6 +1,6 @@
 use Rattle.std.proofs.Common.{◌≡◌, drop}
 use Rattle.std.specs.List.{list_all}
-use Rattle.imap_syntax.specs.Commands as texts
+use Rattle.imap_types.specs.Commands as texts
 use Rattle.imap_commands.proofs.commands.is_printable.Given as goal
 
 abbrev pub invariant-loop-octet : goal.invariant-loop-octet

@@ -1,5 +1,5 @@
 use Rattle.std.proofs.Common.{◌++◌, ◌∷◌, [], subst, ◌∙◌}
-use Rattle.imap_syntax.specs.Commands.{credential}
+use Rattle.imap_types.specs.Commands.{credential}
 use Rattle.imap_commands.specs.reading.Written.{AddsPart}
 use Rattle.imap_commands.proofs.Pieces.{login_pieces}
 use Rattle.imap_commands.proofs.commands.login.Goals as goal

@@ -1,5 +1,5 @@
 use Rattle.std.proofs.Common.{◌≡◌, ◌++◌, ◌∷◌, [], drop}
-use Rattle.imap_syntax.specs.Commands as texts
+use Rattle.imap_types.specs.Commands as texts
 use Rattle.imap_commands.proofs.commands.push_quoted.Given as goal
 
 abbrev pub invariant-loop-octet : goal.invariant-loop-octet

@@ -1,5 +1,5 @@
 use Rattle.std.proofs.Common.{◌∙◌, ◌+◌, List, ℕ, drop, ap, sym, Some, arith}
-use Rattle.imap_syntax.proofs.CutLemmas.{cut_index, cut_never}
+use Rattle.imap_types.proofs.CutLemmas.{cut_index, cut_never}
 use Rattle.imap_grammar.proofs.codes.cut.Goals as goal
 
 pub returns-then-c-octet : goal.returns-then-c-octet

@@ -1,6 +1,6 @@
 use Rattle.std.proofs.Common.{◌≡◌, ◌∙◌, ◌-◌, List, ap, sym, Option, Some, None, arith}
-use Rattle.imap_syntax.specs.declared.uid_set.UidRange.{UidRange}
-use Rattle.imap_syntax.specs.reading.CodeReading.{range_in, one_in_set, more_in_set, ranges_in, set_in}
+use Rattle.imap_types.specs.declared.uid_set.UidRange.{UidRange}
+use Rattle.imap_types.specs.reading.CodeReading.{range_in, one_in_set, more_in_set, ranges_in, set_in}
 use Rattle.imap_grammar.specs.reading.Codes.{put_ranges}
 use Rattle.imap_grammar.proofs.CodeReadings.{last_range, next_range, put_more, no_more}
 use Rattle.imap_grammar.proofs.codes.set_in.Goals as goal

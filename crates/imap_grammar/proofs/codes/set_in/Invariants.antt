@@ -1,5 +1,5 @@
 use Rattle.std.proofs.Common.{◌≡◌, length}
-use Rattle.imap_syntax.specs.reading.CodeReading as reading
+use Rattle.imap_types.specs.reading.CodeReading as reading
 use Rattle.imap_grammar.specs.reading.Codes.{put_ranges}
 use Rattle.imap_grammar.proofs.codes.set_in.Given as goal
 

@@ -1,6 +1,6 @@
 use Rattle.std.proofs.Common.{◌≡◌, ◌∙◌, subst, sym}
-use Rattle.imap_syntax.specs.declared.response.Response.{Response}
-use Rattle.imap_syntax.specs.Spells.{IsSpelling}
+use Rattle.imap_types.specs.declared.response.Response.{Response}
+use Rattle.imap_types.specs.Spells.{IsSpelling}
 use Rattle.imap_grammar.specs.reading.Reading.{response_in}
 use Rattle.imap_grammar.proofs.Readings.{if_ok, spelling_read}
 use Rattle.imap_grammar.proofs.decoder.decode.Goals as goal

@@ -1,7 +1,7 @@
 use Rattle.std.proofs.Common.{◌≡◌, ◌∙◌, ◌-◌, ℕ, List, true, false, drop, get_or, ap, sym}
 use Rattle.std.specs.Prelude.{◌==◌}
 use Rattle.std.proofs.lemmas.Bool.{eq-eqb, ne_eqb}
-use Rattle.imap_syntax.specs.declared.response.StatusItems.{StatusItems}
+use Rattle.imap_types.specs.declared.response.StatusItems.{StatusItems}
 use Rattle.imap_grammar.specs.reading.FolderReading.{count_in, status_counts}
 use Rattle.imap_grammar.proofs.FolderReadings.{counts_next, counts_last}
 use Rattle.imap_grammar.proofs.folders.counts_in.Goals as goal

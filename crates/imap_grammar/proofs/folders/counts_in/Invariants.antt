@@ -1,5 +1,5 @@
 use Rattle.std.proofs.Common.{◌≡◌, length}
-use Rattle.imap_syntax.specs.Folders.{no_counts}
+use Rattle.imap_types.specs.Folders.{no_counts}
 use Rattle.imap_grammar.specs.reading.FolderReading as reading
 use Rattle.imap_grammar.proofs.folders.counts_in.Given as goal
 

@@ -1,5 +1,5 @@
 use Rattle.std.proofs.Common.{◌≡◌, ◌+◌, drop}
-use Rattle.imap_syntax.specs.Octets.{is_status_word}
+use Rattle.imap_types.specs.Octets.{is_status_word}
 use Rattle.imap_values.specs.Spans as spans
 use Rattle.imap_grammar.proofs.folders.status_word_len.Given as goal
 

@@ -1,7 +1,7 @@
 use Rattle.std.proofs.Common.{◌≡◌, ◌∙◌, ◌-◌, ℕ, List, true, false, drop, get_or, ap, sym}
 use Rattle.std.specs.Prelude.{◌==◌}
 use Rattle.std.proofs.lemmas.Bool.{eq-eqb, ne_eqb}
-use Rattle.imap_syntax.specs.declared.response.FetchItems.{FetchItems}
+use Rattle.imap_types.specs.declared.response.FetchItems.{FetchItems}
 use Rattle.imap_grammar.specs.reading.ItemReading.{item_in, items_in}
 use Rattle.imap_grammar.proofs.ItemReadings.{items_next, items_last}
 use Rattle.imap_grammar.proofs.items.items_in.Goals as goal

@@ -1,5 +1,5 @@
 use Rattle.std.proofs.Common.{◌≡◌}
-use Rattle.imap_syntax.specs.Items.{no_items}
+use Rattle.imap_types.specs.Items.{no_items}
 use Rattle.imap_grammar.specs.reading.ItemReading as reading
 use Rattle.imap_grammar.proofs.items.items_in.Given as goal
 

@@ -3,8 +3,8 @@ use Rattle.std.specs.Prelude.{◌==◌}
 use Rattle.std.proofs.lemmas.Bool.{ne_eqb}
 use Rattle.imap_values.specs.Spans.{span, in_name}
 use Rattle.imap_values.proofs.FlagLemmas.{flags_one}
-use Rattle.imap_syntax.specs.Items.{add_name}
-use Rattle.imap_syntax.specs.Octets.{lower}
+use Rattle.imap_types.specs.Items.{add_name}
+use Rattle.imap_types.specs.Octets.{lower}
 use Rattle.imap_values.proofs.flags.flags_in.Goals as goal
 
 pub returns-then-after-ne32-clause-flags : goal.returns-then-after-ne32-clause-flags

@@ -1,5 +1,5 @@
 use Rattle.std.proofs.Common.{◌≡◌, map, take}
-use Rattle.imap_syntax.specs.Octets as classes
+use Rattle.imap_types.specs.Octets as classes
 use Rattle.imap_values.proofs.flags.lowered.Given as goal
 
 abbrev pub invariant-loop-c : goal.invariant-loop-c

@@ -3,8 +3,8 @@ use Rattle.std.specs.Prelude.{◌==◌}
 use Rattle.std.proofs.lemmas.Bool.{eq-eqb, ne_eqb}
 use Rattle.imap_values.specs.Spans.{span, in_name, names_in}
 use Rattle.imap_values.proofs.FlagLemmas.{names_next, names_last}
-use Rattle.imap_syntax.specs.Items.{add_name}
-use Rattle.imap_syntax.specs.Octets.{lower}
+use Rattle.imap_types.specs.Items.{add_name}
+use Rattle.imap_types.specs.Octets.{lower}
 use Rattle.imap_values.proofs.flags.names_in.Goals as goal
 
 pub returns-then-octet-ne32-clause-names : goal.returns-then-octet-ne32-clause-names

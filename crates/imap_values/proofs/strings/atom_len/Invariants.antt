@@ -1,5 +1,5 @@
 use Rattle.std.proofs.Common.{◌≡◌, ◌+◌, drop}
-use Rattle.imap_syntax.specs.Octets.{is_atom}
+use Rattle.imap_types.specs.Octets.{is_atom}
 use Rattle.imap_values.specs.Spans as spans
 use Rattle.imap_values.proofs.strings.atom_len.Given as goal
 

@@ -1,5 +1,5 @@
 use Rattle.std.proofs.Common.{List, ℕ, drop, sym, ◌∙◌, subst, arith}
-use Rattle.loose_addresses.specs.LooseLists.{NoAngle}
+use Rattle.loose_addresses.specs.Angles.{NoAngle}
 use Rattle.loose_addresses.specs.reading.AngleSteps.{Tells}
 use Rattle.loose_addresses.proofs.AngleLemmas.{none_at_end, tells_at_end, drop_back, none_more}
 use Rattle.loose_addresses.proofs.angles.last_open.Goals as goal

@@ -1,5 +1,5 @@
 use Rattle.std.proofs.Common.{◌≤◌, length, drop}
-use Rattle.loose_addresses.specs.LooseLists.{NoAngle}
+use Rattle.loose_addresses.specs.Angles.{NoAngle}
 use Rattle.loose_addresses.specs.reading.AngleSteps.{Tells}
 use Rattle.loose_addresses.proofs.angles.last_open.Given as goal
 

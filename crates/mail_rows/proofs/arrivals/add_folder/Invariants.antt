@@ -1,6 +1,6 @@
 use Rattle.std.proofs.Common.{◌≡◌, ◌++◌, map, filter, drop}
 use Rattle.mail_maps.specs.Visible.{Placed, placed_in}
-use Rattle.mail_rows.specs.reading.Stays.{is_unmarked}
+use Rattle.mail_rows.specs.reading.RowPass.{is_unmarked}
 use Rattle.mail_rows.proofs.arrivals.add_folder.Given as goal
 
 abbrev pub invariant-loop-message : goal.invariant-loop-message

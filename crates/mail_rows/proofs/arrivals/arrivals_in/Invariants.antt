@@ -1,5 +1,5 @@
 use Rattle.std.proofs.Common.{◌≡◌, ◌++◌, drop}
-use Rattle.mail_rows.specs.reading.Stays.{unmarked}
+use Rattle.mail_rows.specs.reading.RowPass.{unmarked}
 use Rattle.mail_rows.proofs.arrivals.arrivals_in.Given as goal
 
 abbrev pub invariant-loop-held : goal.invariant-loop-held

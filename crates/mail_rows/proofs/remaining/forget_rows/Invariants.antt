@@ -1,6 +1,6 @@
 use Rattle.std.proofs.Common.{◌≡◌, ℕ, drop, nat_cmp}
 use Rattle.std.specs.BTreeMap.{get}
-use Rattle.mail_rows.specs.reading.Stays.{row_left}
+use Rattle.mail_rows.specs.reading.RowPass.{row_left}
 use Rattle.mail_rows.proofs.remaining.forget_rows.Given as goal
 
 abbrev pub invariant-loop-email : goal.invariant-loop-email

@@ -1,5 +1,5 @@
 use Rattle.std.proofs.Common.{◌∙◌, ap}
-use Rattle.mail_rows.specs.reading.Stays.{PassSoFar, pass_of}
+use Rattle.mail_rows.specs.reading.RowPass.{PassSoFar, pass_of}
 use Rattle.mail_rows.proofs.PassLemmas.{pass_more, pass_ended, all_gone, all_changed, all_updates}
 use Rattle.mail_rows.proofs.remaining.found_in.Goals as goal
 

@@ -1,5 +1,5 @@
 use Rattle.std.proofs.Common.{◌≡◌}
-use Rattle.mail_rows.specs.reading.Stays.{pass_of, gather_all, none_passed}
+use Rattle.mail_rows.specs.reading.RowPass.{pass_of, gather_all, none_passed}
 use Rattle.mail_rows.proofs.remaining.found_in.Given as goal
 
 abbrev pub invariant-loop-number : goal.invariant-loop-number

@@ -1,7 +1,7 @@
 use Rattle.std.proofs.Common.{◌∙◌, ap, nat_cmp, rules, BTreeMap, ℕ}
 use Rattle.std.specs.BTreeMap.{get}
 use Rattle.mail_maps.specs.declared.row.EmailRow.{EmailRow}
-use Rattle.mail_rows.specs.reading.Stays.{with_update}
+use Rattle.mail_rows.specs.reading.RowPass.{with_update}
 use Rattle.mail_rows.proofs.UpdateLemmas.{row_written, row_absent}
 use Rattle.mail_rows.proofs.remaining.update_row.Goals as goal
 

@@ -2,7 +2,7 @@ use Rattle.std.proofs.Common.{◌∙◌, List, ap, sym, nat_cmp}
 use Rattle.std.specs.BTreeMap.{get}
 use Rattle.std.specs.Vec.Iter.{into_iter_items}
 use Rattle.mail_rows.specs.declared.remaining.Update.{Update}
-use Rattle.mail_rows.specs.reading.Stays.{row_updated}
+use Rattle.mail_rows.specs.reading.RowPass.{row_updated}
 use Rattle.mail_rows.proofs.UpdateLemmas.{update_taken, updates_end}
 use Rattle.mail_rows.proofs.remaining.update_rows.Goals as goal
 

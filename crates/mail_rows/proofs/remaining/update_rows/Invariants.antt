@@ -1,7 +1,7 @@
 use Rattle.std.proofs.Common.{◌≡◌, ℕ, nat_cmp}
 use Rattle.std.specs.BTreeMap.{get}
 use Rattle.std.specs.Vec.Iter.{into_iter_items}
-use Rattle.mail_rows.specs.reading.Stays.{row_updated}
+use Rattle.mail_rows.specs.reading.RowPass.{row_updated}
 use Rattle.mail_rows.proofs.remaining.update_rows.Given as goal
 
 abbrev pub invariant-loop-update : goal.invariant-loop-update

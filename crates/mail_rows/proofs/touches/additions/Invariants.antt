@@ -1,5 +1,5 @@
 use Rattle.std.proofs.Common.{◌≡◌, ◌++◌, ◌-◌, map}
-use Rattle.mail_rows.specs.reading.Stays.{touch_of_addition}
+use Rattle.mail_rows.specs.reading.RowPass.{touch_of_addition}
 use Rattle.mail_rows.specs.reading.Indexes.{numbers_from}
 use Rattle.mail_rows.proofs.touches.additions.Given as goal
 

@@ -16,9 +16,17 @@ returns c =
     let b = c.next_piece.ensures.piece in
     record {
       media = (mime_lexemes first, has_front t first more b, c.in_ok-media_of.ensures);
-      boundary = has_parameter (codes "boundary") t first more c.in_ok-parameter.field-0 b c.in_ok-parameter.ensures;
-      charset_octets = c.in_ok-charset.charset;
-      has_charset = has_parameter (codes "charset") t first more c.in_ok-charset.charset b c.in_ok-charset.ensures;
+      boundary = record {
+        octets = c.in_ok-boundary.boundary;
+        has = has_parameter (codes "boundary") t first more c.in_ok-boundary.boundary b c.in_ok-boundary.ensures;
+        value_is = c.in_ok-without_line_ends.ensures;
+      };
+      charset_octets = c.in_ok-charset_line.charset_line;
+      has_charset = record {
+        octets = c.in_ok-charset.charset;
+        has = has_parameter (codes "charset") t first more c.in_ok-charset.charset b c.in_ok-charset.ensures;
+        value_is = c.in_ok-charset_line.ensures;
+      };
       charset = c.in_ok-charset_text.ensures;
-      name = has_parameter (codes "name") t first more c.in_ok-parameter-2.field-0 b c.in_ok-parameter-2.ensures;
+      name = has_parameter (codes "name") t first more c.in_ok-parameter.field-0 b c.in_ok-parameter.ensures;
     }

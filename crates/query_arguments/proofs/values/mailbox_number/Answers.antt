@@ -1,5 +1,5 @@
 use Rattle.std.proofs.Common.{arith, refl}
-use Rattle.jmap_methods.specs.Ids.{mailbox_letter}
+use Rattle.jmap_arguments.specs.Ids.{mailbox_letter}
 use Rattle.query_arguments.proofs.IdLemmas.{none_read, read_back}
 use Rattle.query_arguments.proofs.values.mailbox_number.Goals as goal
 

@@ -1,7 +1,7 @@
 use Rattle.std.proofs.Common.{◌≡◌, drop}
 use Rattle.std.specs.List.{list_any}
-use Rattle.mail_orders.specs.Emails.{sort_reads_thread}
-use Rattle.mail_orders.specs.declared.comparators.EmailComparator.{EmailComparator}
+use Rattle.query_orders.specs.Emails.{sort_reads_thread}
+use Rattle.query_orders.specs.declared.comparators.EmailComparator.{EmailComparator}
 use Rattle.query_core.proofs.calculable.sort_reads_threads.Given as goal
 
 abbrev pub invariant-loop-comparator : goal.invariant-loop-comparator

@@ -1,7 +1,7 @@
 use Rattle.std.proofs.Common.{ℕ, List, subst, take_all}
 use Rattle.mail_maps.specs.Serve.{Email}
-use Rattle.mail_conditions.specs.Entries.{email_at, emails_at}
-use Rattle.mail_conditions.specs.declared.entry.EmailEntry.{EmailEntry}
+use Rattle.query_conditions.specs.Entries.{email_at, emails_at}
+use Rattle.query_conditions.specs.declared.entry.EmailEntry.{EmailEntry}
 use Rattle.query_core.specs.Lists.{EmailMatches}
 use Rattle.query_core.specs.reading.Kept.{Keeps}
 use Rattle.query_core.proofs.KeptLemmas.{keeps_none, kept_next}

@@ -1,5 +1,5 @@
 use Rattle.std.proofs.Common.{take}
-use Rattle.mail_conditions.specs.Entries.{emails_at}
+use Rattle.query_conditions.specs.Entries.{emails_at}
 use Rattle.query_core.specs.Lists.{EmailMatches}
 use Rattle.query_core.specs.reading.Found.{KnowsThreads}
 use Rattle.query_core.specs.reading.Kept.{Keeps}

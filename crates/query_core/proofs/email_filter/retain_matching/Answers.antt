@@ -1,8 +1,8 @@
 use Rattle.std.proofs.Common.{ℕ, rules}
 use Rattle.mail_maps.specs.Serve.{Email}
-use Rattle.mail_conditions.specs.Entries.{email_at}
-use Rattle.mail_conditions.specs.Records.{RecordMatches}
-use Rattle.mail_conditions.specs.declared.entry.EmailEntry.{EmailEntry}
+use Rattle.query_conditions.specs.Entries.{email_at}
+use Rattle.query_conditions.specs.Records.{RecordMatches}
+use Rattle.query_conditions.specs.declared.entry.EmailEntry.{EmailEntry}
 use Rattle.query_core.proofs.NarrowLemmas.{keeps_retained}
 use Rattle.query_core.proofs.email_filter.retain_matching.Goals as goal
 

@@ -1,11 +1,11 @@
 use Rattle.std.proofs.Common.{ℕ, List, IfOk, ap, sym, subst, ◌∙◌}
 use Rattle.std.proofs.lemmas.Result.{IfOk-weaker}
 use Rattle.mail_maps.specs.Serve.{Email}
-use Rattle.mail_conditions.specs.Entries.{emails_at}
-use Rattle.mail_conditions.specs.Records.{field_text}
-use Rattle.mail_conditions.specs.Words.{HasWords}
-use Rattle.mail_conditions.specs.declared.entry.EmailEntry.{EmailEntry}
-use Rattle.mail_conditions.specs.declared.email_condition.RecordCondition.{RecordCondition}
+use Rattle.query_conditions.specs.Entries.{emails_at}
+use Rattle.query_conditions.specs.Records.{field_text}
+use Rattle.query_conditions.specs.Words.{HasWords}
+use Rattle.query_conditions.specs.declared.entry.EmailEntry.{EmailEntry}
+use Rattle.query_conditions.specs.declared.email_condition.RecordCondition.{RecordCondition}
 use Rattle.query_arguments.specs.declared.email_condition.EmailCondition.{EmailCondition}
 use Rattle.query_arguments.specs.declared.email_condition.EmailCondition.TheVariants.{Record}
 use Rattle.query_core.specs.Lists.{EmailMatches}

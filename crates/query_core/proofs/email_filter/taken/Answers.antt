@@ -1,7 +1,7 @@
 use Rattle.std.proofs.Common.{ℕ, List, ap, subst}
 use Rattle.std.proofs.lemmas.Result.{IfOk-weaker}
 use Rattle.mail_maps.specs.Serve.{Email}
-use Rattle.mail_conditions.specs.Entries.{emails_at}
+use Rattle.query_conditions.specs.Entries.{emails_at}
 use Rattle.query_arguments.specs.FilterTrees.{filter_tree}
 use Rattle.query_lists.specs.Filters.{PassesFilter}
 use Rattle.query_core.specs.Lists.{EmailMatches}

@@ -1,5 +1,5 @@
 use Rattle.std.proofs.Common.{take}
-use Rattle.mail_conditions.specs.Entries.{emails_at}
+use Rattle.query_conditions.specs.Entries.{emails_at}
 use Rattle.query_arguments.specs.FilterTrees.{filter_tree}
 use Rattle.query_lists.specs.Filters.{PassesFilter}
 use Rattle.query_core.specs.Lists.{EmailMatches}

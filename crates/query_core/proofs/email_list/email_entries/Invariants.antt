@@ -1,7 +1,7 @@
 use Rattle.std.proofs.Common.{◌≡◌, ◌++◌}
 use Rattle.served_maps.specs.Past.{served}
 use Rattle.mail_maps.specs.Serve.{email_of}
-use Rattle.mail_conditions.specs.Entries.{emails_at}
+use Rattle.query_conditions.specs.Entries.{emails_at}
 use Rattle.query_core.proofs.email_list.email_entries.Given as goal
 
 -- those so far, and those that are left

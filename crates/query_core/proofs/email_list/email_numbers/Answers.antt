@@ -3,11 +3,11 @@ use Rattle.std.proofs.lemmas.List.Sorted.{Contains-permutation, IsPermutation-sy
 use Rattle.std.proofs.lemmas.Result.{IfOk-weaker}
 use Rattle.served_maps.specs.Past.{served}
 use Rattle.mail_maps.specs.Serve.{Email, email_of}
-use Rattle.mail_conditions.specs.Entries.{emails_at}
-use Rattle.mail_conditions.specs.declared.entry.EmailEntry.{EmailEntry}
-use Rattle.mail_orders.specs.Emails.{email_cmp}
-use Rattle.mail_orders.specs.declared.comparators.EmailComparator.{EmailComparator}
-use Rattle.mail_orders.proofs.RowLemmas.{same_order}
+use Rattle.query_conditions.specs.Entries.{emails_at}
+use Rattle.query_conditions.specs.declared.entry.EmailEntry.{EmailEntry}
+use Rattle.query_orders.specs.Emails.{email_cmp}
+use Rattle.query_orders.specs.declared.comparators.EmailComparator.{EmailComparator}
+use Rattle.query_orders.proofs.RowLemmas.{same_order}
 use Rattle.query_arguments.specs.Asked.{list_seen}
 use Rattle.query_core.specs.Lists.{IsEmailList}
 use Rattle.query_core.specs.reading.Ordered.{AreNumbersAsked}

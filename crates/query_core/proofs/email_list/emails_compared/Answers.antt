@@ -2,8 +2,8 @@ use Rattle.std.proofs.Common.{ℕ, List, sym, ap, ◌∙◌}
 use Rattle.std.proofs.lemmas.Result.{IfOk-weaker}
 use Rattle.served_maps.specs.Past.{served}
 use Rattle.mail_maps.specs.Serve.{Email, email_of}
-use Rattle.mail_conditions.specs.Entries.{emails_at}
-use Rattle.mail_orders.specs.Emails.{email_cmp}
+use Rattle.query_conditions.specs.Entries.{emails_at}
+use Rattle.query_orders.specs.Emails.{email_cmp}
 use Rattle.query_core.proofs.EmailLemmas.{order_same}
 use Rattle.query_core.proofs.email_list.emails_compared.Goals as goal
 

@@ -3,9 +3,9 @@ use Rattle.std.proofs.lemmas.Bool.{eq-eqb, eqb-true}
 use Rattle.std.proofs.lemmas.Result.{IfOk-weaker}
 use Rattle.served_maps.specs.Past.{served}
 use Rattle.mail_maps.specs.Serve.{Email, email_of}
-use Rattle.mail_conditions.specs.Entries.{emails_at}
-use Rattle.mail_conditions.specs.declared.email_condition.RecordCondition.TheVariants.{InMailbox}
-use Rattle.mail_conditions.specs.declared.entry.EmailEntry.{EmailEntry}
+use Rattle.query_conditions.specs.Entries.{emails_at}
+use Rattle.query_conditions.specs.declared.email_condition.RecordCondition.TheVariants.{InMailbox}
+use Rattle.query_conditions.specs.declared.entry.EmailEntry.{EmailEntry}
 use Rattle.query_arguments.specs.FilterTrees.{filter_tree}
 use Rattle.query_arguments.specs.declared.email_condition.EmailCondition.{EmailCondition}
 use Rattle.query_arguments.specs.declared.email_condition.EmailCondition.TheVariants.{Record}

@@ -3,8 +3,8 @@ use Rattle.std.proofs.lemmas.List.{map-append}
 use Rattle.served_maps.specs.Past.{served}
 use Rattle.mail_maps.specs.Serve.{Email, email_of}
 use Rattle.mail_maps.specs.declared.row.EmailRow.{EmailRow}
-use Rattle.mail_conditions.specs.Entries.{email_at, emails_at}
-use Rattle.mail_conditions.specs.declared.entry.EmailEntry.{EmailEntry}
+use Rattle.query_conditions.specs.Entries.{email_at, emails_at}
+use Rattle.query_conditions.specs.declared.entry.EmailEntry.{EmailEntry}
 use Rattle.query_core.proofs.EntryLemmas.{entries_in_order}
 use Rattle.query_core.proofs.KeptLemmas.{KeepsOnward, onward_begins, onward_ends, onward_kept, onward_left}
 use Rattle.query_core.proofs.email_list.in_mailbox.Goals as goal

@@ -1,5 +1,5 @@
 use Rattle.std.proofs.Common.{◌≡◌, ℕ}
-use Rattle.mail_conditions.specs.Entries.{emails_at}
+use Rattle.query_conditions.specs.Entries.{emails_at}
 use Rattle.mail_maps.specs.Serve.{Email, email_of}
 use Rattle.query_core.proofs.KeptLemmas.{KeepsOnward}
 use Rattle.query_core.proofs.email_list.in_mailbox.Given as goal

@@ -1,5 +1,5 @@
 use Rattle.std.proofs.Common.{ap, ◌∙◌}
-use Rattle.mail_conditions.specs.declared.email_condition.RecordCondition.{RecordCondition}
+use Rattle.query_conditions.specs.declared.email_condition.RecordCondition.{RecordCondition}
 use Rattle.query_arguments.specs.FilterTrees.{filter_tree}
 use Rattle.query_arguments.specs.declared.email_condition.EmailCondition.TheVariants.{Record}
 use Rattle.query_core.proofs.FilterLemmas.{mailbox_asked}

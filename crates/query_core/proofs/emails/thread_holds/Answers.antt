@@ -1,4 +1,4 @@
-use Rattle.mail_conditions.specs.Entries.{emails_at}
+use Rattle.query_conditions.specs.Entries.{emails_at}
 use Rattle.query_core.proofs.FoundLemmas.{found_are, found_some}
 use Rattle.query_core.proofs.emails.thread_holds.Goals as goal
 

@@ -1,7 +1,7 @@
 use Rattle.std.proofs.Common.{rules, ◌↔◌, ◌≡◌, IsTrue, true, List, ℕ, subst}
 use Rattle.text_words.specs.Octets.{is_same_text}
 use Rattle.mail_header.specs.Fields.{names_and_raws}
-use Rattle.mail_conditions.specs.Words.{HasWords}
+use Rattle.query_conditions.specs.Words.{HasWords}
 use Rattle.query_core.proofs.HeaderLemmas.{has_at}
 use Rattle.query_core.proofs.header_condition.field_has_words.Goals as goal
 

@@ -1,9 +1,9 @@
 use Rattle.std.proofs.Common.{List, ℕ, Vec, Global, sym, subst, ◌∙◌}
 use Rattle.std.specs.BTreeMap.{insert_entry}
 use Rattle.std.specs.Map.{lookup}
-use Rattle.mail_conditions.specs.Entries.{emails_at}
-use Rattle.mail_conditions.specs.ThreadKeywords.{AreThreadsOf}
-use Rattle.mail_conditions.specs.declared.threads.KeywordThreads.{KeywordThreads}
+use Rattle.query_conditions.specs.Entries.{emails_at}
+use Rattle.query_conditions.specs.ThreadKeywords.{AreThreadsOf}
+use Rattle.query_conditions.specs.declared.threads.KeywordThreads.{KeywordThreads}
 use Rattle.query_core.proofs.FoundLemmas.{Has, at, by_items, put_has, put_others, put_sound, there_has}
 use Rattle.query_core.proofs.keyword_threads.find.Goals as goal
 

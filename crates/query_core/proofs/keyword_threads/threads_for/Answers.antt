@@ -1,7 +1,7 @@
 use Rattle.std.proofs.Common.{◌++◌, List, ℕ, Bor, map, ap, subst, ◌∙◌}
 use Rattle.std.specs.List.{AllByRecursion}
 use Rattle.std.proofs.lemmas.Result.{IfOk-weaker}
-use Rattle.mail_conditions.specs.Entries.{emails_at}
+use Rattle.query_conditions.specs.Entries.{emails_at}
 use Rattle.query_arguments.specs.FilterTrees.{filter_tree}
 use Rattle.query_core.specs.reading.Found.{HasThreads, keywords_asked}
 use Rattle.query_core.proofs.FoundLemmas.{knows_filter}

@@ -1,6 +1,6 @@
 use Rattle.std.proofs.Common.{List, ℕ, Bor, map, take_all, subst}
 use Rattle.std.specs.List.{AllByRecursion}
-use Rattle.mail_conditions.specs.Entries.{emails_at}
+use Rattle.query_conditions.specs.Entries.{emails_at}
 use Rattle.query_core.specs.reading.Found.{HasThreads}
 use Rattle.query_core.proofs.FoundLemmas.{have_more}
 use Rattle.query_core.proofs.keyword_threads.threads_of_each.Goals as goal

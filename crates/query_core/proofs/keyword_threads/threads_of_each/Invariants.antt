@@ -1,6 +1,6 @@
 use Rattle.std.proofs.Common.{List, ℕ, Bor, map, take}
 use Rattle.std.specs.List.{AllByRecursion}
-use Rattle.mail_conditions.specs.Entries.{emails_at}
+use Rattle.query_conditions.specs.Entries.{emails_at}
 use Rattle.query_core.specs.reading.Found.{AreSound, HasThreads}
 use Rattle.query_core.proofs.keyword_threads.threads_of_each.Given as goal
 

@@ -1,6 +1,6 @@
 use Rattle.std.proofs.Common.{true}
-use Rattle.jmap_methods.specs.Ids.{email_letter, mailbox_letter}
-use Rattle.read_methods.specs.Replies.{type_state}
+use Rattle.jmap_arguments.specs.Ids.{email_letter, mailbox_letter}
+use Rattle.served_types.specs.States.{type_state}
 use Rattle.query_arguments.specs.Asked.{email_query_asked, mailbox_query_asked}
 use Rattle.query_core.specs.Lists as lists
 use Rattle.query_core.specs.Lists.{IsEmailList, IsMailboxList}

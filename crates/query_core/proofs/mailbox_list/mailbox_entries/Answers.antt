@@ -3,8 +3,8 @@ use Rattle.std.proofs.lemmas.List.{map-append}
 use Rattle.served_maps.specs.Past.{served}
 use Rattle.mail_maps.specs.Serve.{ServedMailbox, mailbox_of}
 use Rattle.mail_maps.specs.declared.row.MailboxRow.{MailboxRow}
-use Rattle.mail_orders.specs.Entries.{mailboxes_at}
-use Rattle.mail_orders.specs.declared.entry.MailboxEntry.{MailboxEntry}
+use Rattle.query_orders.specs.Entries.{mailboxes_at}
+use Rattle.query_orders.specs.declared.entry.MailboxEntry.{MailboxEntry}
 use Rattle.query_core.proofs.EntryLemmas.{entries_all, entries_in_order, entries_more}
 use Rattle.query_core.proofs.mailbox_list.mailbox_entries.Goals as goal
 

@@ -1,7 +1,7 @@
 use Rattle.std.proofs.Common.{◌≡◌, ◌++◌}
 use Rattle.served_maps.specs.Past.{served}
 use Rattle.mail_maps.specs.Serve.{mailbox_of}
-use Rattle.mail_orders.specs.Entries.{mailboxes_at}
+use Rattle.query_orders.specs.Entries.{mailboxes_at}
 use Rattle.query_core.proofs.mailbox_list.mailbox_entries.Given as goal
 
 -- those so far, and those that are left

@@ -3,12 +3,12 @@ use Rattle.std.specs.List.Sorted.{IsStrictlySortedBy}
 use Rattle.std.proofs.lemmas.Result.{IfOk-weaker}
 use Rattle.served_maps.specs.Past.{served}
 use Rattle.mail_maps.specs.Serve.{ServedMailbox, mailbox_of}
-use Rattle.mail_conditions.specs.Mailboxes.{MailboxMatches}
-use Rattle.mail_orders.specs.Entries.{mailboxes_at}
-use Rattle.mail_orders.specs.Mailboxes.{mailbox_cmp}
-use Rattle.mail_orders.specs.declared.comparators.MailboxComparator.{MailboxComparator}
-use Rattle.mail_orders.specs.declared.entry.MailboxEntry.{MailboxEntry}
-use Rattle.mail_orders.proofs.RowLemmas.{same_values}
+use Rattle.query_conditions.specs.Mailboxes.{MailboxMatches}
+use Rattle.query_orders.specs.Entries.{mailboxes_at}
+use Rattle.query_orders.specs.Mailboxes.{mailbox_cmp}
+use Rattle.query_orders.specs.declared.comparators.MailboxComparator.{MailboxComparator}
+use Rattle.query_orders.specs.declared.entry.MailboxEntry.{MailboxEntry}
+use Rattle.query_orders.proofs.RowLemmas.{same_values}
 use Rattle.query_arguments.specs.Asked.{list_seen}
 use Rattle.query_lists.specs.Filters.{PassesFilter}
 use Rattle.query_lists.specs.Ordered.{AscendByNumber, row_cmp, numbers_of}

@@ -1,5 +1,5 @@
 use Rattle.std.proofs.Common.{◌≡◌, ◌++◌, drop}
-use Rattle.mail_orders.specs.Entries.{mailboxes_at}
+use Rattle.query_orders.specs.Entries.{mailboxes_at}
 use Rattle.query_lists.specs.Ordered.{numbers_of}
 use Rattle.query_core.proofs.mailbox_list.numbers_of.Given as goal
 

@@ -1,8 +1,8 @@
 use Rattle.std.proofs.Common.{ℕ, List, subst, take_all}
 use Rattle.mail_maps.specs.Serve.{ServedMailbox, mailbox_of}
-use Rattle.mail_conditions.specs.Mailboxes.{MailboxMatches}
-use Rattle.mail_orders.specs.Entries.{mailboxes_at}
-use Rattle.mail_orders.specs.declared.entry.MailboxEntry.{MailboxEntry}
+use Rattle.query_conditions.specs.Mailboxes.{MailboxMatches}
+use Rattle.query_orders.specs.Entries.{mailboxes_at}
+use Rattle.query_orders.specs.declared.entry.MailboxEntry.{MailboxEntry}
 use Rattle.query_arguments.specs.FilterTrees.{filter_tree}
 use Rattle.query_lists.specs.Filters.{PassesFilter}
 use Rattle.query_core.specs.reading.Kept.{Keeps}

@@ -1,8 +1,8 @@
 use Rattle.std.proofs.Common.{take}
-use Rattle.mail_orders.specs.Entries.{mailboxes_at}
+use Rattle.query_orders.specs.Entries.{mailboxes_at}
 use Rattle.query_arguments.specs.FilterTrees.{filter_tree}
 use Rattle.query_lists.specs.Filters.{PassesFilter}
-use Rattle.mail_conditions.specs.Mailboxes.{MailboxMatches}
+use Rattle.query_conditions.specs.Mailboxes.{MailboxMatches}
 use Rattle.query_core.specs.reading.Kept.{Keeps}
 use Rattle.query_core.proofs.mailbox_list.taken.Given as goal
 

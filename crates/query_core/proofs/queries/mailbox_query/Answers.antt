@@ -1,9 +1,9 @@
 use Rattle.std.proofs.Common.{true, refl, ◌∙◌}
 use Rattle.std.proofs.lemmas.Result.{err_from_is_err_and}
 use Rattle.serde_json.specs.View.{view}
-use Rattle.jmap_methods.specs.Ids.{mailbox_letter}
+use Rattle.jmap_arguments.specs.Ids.{mailbox_letter}
 use Rattle.mail_maps.specs.Serve.{mailbox_of}
-use Rattle.read_methods.specs.Replies.{type_state}
+use Rattle.served_types.specs.States.{type_state}
 use Rattle.query_arguments.specs.Asked.{mailbox_query_asked, query_seen}
 use Rattle.query_core.specs.Lists.{IsMailboxList}
 use Rattle.query_core.specs.reading.ListAnswers.{list_answer}

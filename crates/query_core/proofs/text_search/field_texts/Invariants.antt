@@ -1,7 +1,7 @@
 use Rattle.std.proofs.Common.{◌≡◌, ◌++◌, ℕ, List, Bor, drop, map}
-use Rattle.mail_conditions.specs.Entries.{email_at}
-use Rattle.mail_conditions.specs.Records.{field_text}
-use Rattle.mail_conditions.specs.declared.entry.EmailEntry.{EmailEntry}
+use Rattle.query_conditions.specs.Entries.{email_at}
+use Rattle.query_conditions.specs.Records.{field_text}
+use Rattle.query_conditions.specs.declared.entry.EmailEntry.{EmailEntry}
 use Rattle.query_core.proofs.text_search.field_texts.Given as goal
 
 -- those so far, and those of the rest

@@ -1,8 +1,8 @@
 use Rattle.std.proofs.Common.{◌≡◌, ℕ, List, Bor, map, ap, ◌∙◌}
 use Rattle.mail_maps.specs.Serve.{Email}
-use Rattle.mail_conditions.specs.Entries.{email_at}
-use Rattle.mail_conditions.specs.Records.{field_text}
-use Rattle.mail_conditions.specs.declared.entry.EmailEntry.{EmailEntry}
+use Rattle.query_conditions.specs.Entries.{email_at}
+use Rattle.query_conditions.specs.Records.{field_text}
+use Rattle.query_conditions.specs.declared.entry.EmailEntry.{EmailEntry}
 use Rattle.query_core.proofs.text_search.having_words.Goals as goal
 
 pub returns : goal.returns

@@ -1,8 +1,8 @@
 use Rattle.std.proofs.Common.{ℕ, List, [], Bor, IsTrue, ◌↔◌, length, subst, arith, ◌<◌, take_all}
 use Rattle.mail_maps.specs.Serve.{Email}
-use Rattle.mail_conditions.specs.Entries.{email_at, emails_at}
-use Rattle.mail_conditions.specs.Words.{HasWords}
-use Rattle.mail_conditions.specs.declared.entry.EmailEntry.{EmailEntry}
+use Rattle.query_conditions.specs.Entries.{email_at, emails_at}
+use Rattle.query_conditions.specs.Words.{HasWords}
+use Rattle.query_conditions.specs.declared.entry.EmailEntry.{EmailEntry}
 use Rattle.query_core.specs.reading.Kept.{Keeps}
 use Rattle.query_core.proofs.KeptLemmas.{keeps_none, kept_next}
 use Rattle.query_core.proofs.TextLemmas.{same_at}

@@ -1,8 +1,8 @@
 use Rattle.std.proofs.Common.{◌≡◌, ℕ, List, Bor, map, take}
 use Rattle.mail_maps.specs.Serve.{Email}
-use Rattle.mail_conditions.specs.Entries.{email_at, emails_at}
-use Rattle.mail_conditions.specs.Words.{HasWords}
-use Rattle.mail_conditions.specs.declared.entry.EmailEntry.{EmailEntry}
+use Rattle.query_conditions.specs.Entries.{email_at, emails_at}
+use Rattle.query_conditions.specs.Words.{HasWords}
+use Rattle.query_conditions.specs.declared.entry.EmailEntry.{EmailEntry}
 use Rattle.query_core.specs.reading.Kept.{Keeps}
 use Rattle.query_core.proofs.text_search.with_words.Given as goal
 

@@ -1,5 +1,5 @@
 use Rattle.serde_json.specs.View.{view}
-use Rattle.jmap_methods.specs.Ids.{thread_letter}
+use Rattle.jmap_arguments.specs.Ids.{thread_letter}
 use Rattle.mail_maps.specs.Serve.{thread_of}
 use Rattle.mail_state.specs.State.{IsStateOf}
 use Rattle.read_methods.specs.Changes.{no_further}

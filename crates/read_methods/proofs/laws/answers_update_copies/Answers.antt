@@ -1,5 +1,5 @@
 use Rattle.std.proofs.Common.{Ok}
-use Rattle.jmap_methods.specs.Ids.{mailbox_letter, thread_letter, email_letter}
+use Rattle.jmap_arguments.specs.Ids.{mailbox_letter, thread_letter, email_letter}
 use Rattle.read_methods.specs.Changes.{no_further, updated_properties}
 use Rattle.read_methods.proofs.ChangeLemmas.{brings_if}
 use Rattle.read_methods.proofs.laws.answers_update_copies.Goals as goal

@@ -2,9 +2,9 @@ use Rattle.std.proofs.Common.{map, option_map, sym, ap, ◌∙◌}
 use Rattle.std.specs.Map.{keys_of}
 use Rattle.std.proofs.lemmas.Result.{err_from_is_err_and}
 use Rattle.serde_json.specs.View.{view}
-use Rattle.jmap_methods.specs.Ids.{mailbox_letter}
-use Rattle.jmap_methods.specs.State.{state_text}
-use Rattle.jmap_methods.proofs.GetLemmas.{at_numbers}
+use Rattle.jmap_arguments.specs.Ids.{mailbox_letter}
+use Rattle.jmap_arguments.specs.State.{state_text}
+use Rattle.jmap_arguments.proofs.GetLemmas.{at_numbers}
 use Rattle.served_maps.specs.Past.{served}
 use Rattle.mail_maps.specs.Serve.{mailbox_of}
 use Rattle.read_methods.specs.Mailboxes.{mailbox_data, mailbox_objects, mailboxes_asked}

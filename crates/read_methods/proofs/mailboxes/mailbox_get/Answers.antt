@@ -1,7 +1,7 @@
 use Rattle.serde_json.specs.View.{view}
-use Rattle.jmap_methods.specs.Ids.{mailbox_letter}
-use Rattle.jmap_methods.specs.State.{state_text}
-use Rattle.jmap_methods.proofs.GetLemmas.{whole_answered, whole_from}
+use Rattle.jmap_arguments.specs.Ids.{mailbox_letter}
+use Rattle.jmap_arguments.specs.State.{state_text}
+use Rattle.jmap_arguments.proofs.GetLemmas.{whole_answered, whole_from}
 use Rattle.served_maps.specs.Past.{served}
 use Rattle.mail_maps.specs.Serve.{mailbox_of}
 use Rattle.read_methods.specs.Mailboxes.{mailboxes_asked, mailbox_objects, mailboxes_answer}

@@ -2,9 +2,9 @@ use Rattle.std.proofs.Common.{map, option_map, refl, sym, ap, ◌∙◌}
 use Rattle.std.specs.Map.{keys_of}
 use Rattle.std.proofs.lemmas.Result.{err_from_is_err_and}
 use Rattle.serde_json.specs.View.{view}
-use Rattle.jmap_methods.specs.Ids.{thread_letter}
-use Rattle.jmap_methods.specs.State.{state_text}
-use Rattle.jmap_methods.proofs.GetLemmas.{at_numbers}
+use Rattle.jmap_arguments.specs.Ids.{thread_letter}
+use Rattle.jmap_arguments.specs.State.{state_text}
+use Rattle.jmap_arguments.proofs.GetLemmas.{at_numbers}
 use Rattle.served_maps.specs.Past.{served}
 use Rattle.mail_maps.specs.Serve.{thread_of}
 use Rattle.read_methods.specs.Threads.{thread_data, thread_objects, threads_asked}

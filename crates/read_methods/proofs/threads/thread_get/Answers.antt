@@ -1,7 +1,7 @@
 use Rattle.serde_json.specs.View.{view}
-use Rattle.jmap_methods.specs.Ids.{thread_letter}
-use Rattle.jmap_methods.specs.State.{state_text}
-use Rattle.jmap_methods.proofs.GetLemmas.{whole_answered, whole_from}
+use Rattle.jmap_arguments.specs.Ids.{thread_letter}
+use Rattle.jmap_arguments.specs.State.{state_text}
+use Rattle.jmap_arguments.proofs.GetLemmas.{whole_answered, whole_from}
 use Rattle.served_maps.specs.Past.{served}
 use Rattle.mail_maps.specs.Serve.{thread_of}
 use Rattle.read_methods.specs.Threads.{threads_asked, thread_objects, threads_answer}

@@ -2,7 +2,7 @@ use Rattle.std.proofs.Common.{ℕ, Option, nat_cmp}
 use Rattle.std.specs.BTreeMap.{is_at}
 use Rattle.std.specs.Map.{lookup}
 use Rattle.serde_json.specs.Data.{Data}
-use Rattle.jmap_methods.proofs.GetLemmas.{none_listed, one_listed}
+use Rattle.jmap_arguments.proofs.GetLemmas.{none_listed, one_listed}
 use Rattle.served_maps.specs.Past.{served}
 use Rattle.mail_maps.specs.Serve.{thread_of}
 use Rattle.read_methods.specs.Threads.{thread_objects}

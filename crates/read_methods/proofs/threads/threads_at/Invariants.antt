@@ -1,6 +1,6 @@
 use Rattle.std.proofs.Common.{◌≡◌, ◌++◌, drop, map}
 use Rattle.serde_json.specs.View.{view}
-use Rattle.jmap_methods.proofs.GetLemmas.{at_numbers}
+use Rattle.jmap_arguments.proofs.GetLemmas.{at_numbers}
 use Rattle.served_maps.specs.Past.{served}
 use Rattle.mail_maps.specs.Serve.{thread_of}
 use Rattle.read_methods.specs.Threads.{thread_objects}

@@ -2,7 +2,7 @@ use Rattle.std.proofs.Common.{◌≡◌, ◌+◌, ◌≤◌, map}
 use Rattle.serde_json.specs.View.{members_view}
 use Rattle.result_references.specs.Call.{call_data}
 use Rattle.result_references.specs.reading.Counting.{resolved_octets}
-use Rattle.result_references.specs.declared.octets.TheConstants.{MAX_RESOLVED_OCTETS}
+use Rattle.result_references.specs.declared.counted_octets.TheConstants.{MAX_RESOLVED_OCTETS}
 use Rattle.result_references.proofs.limit.resolved_octets.Given as goal
 
 -- the octets of all are the total and those of the rest

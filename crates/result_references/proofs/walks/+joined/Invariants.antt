@@ -1,7 +1,7 @@
 use Rattle.std.proofs.Common.{◌≡◌, ◌+◌, ◌*◌, ◌≤◌, drop, length}
 use Rattle.serde_json.specs.View.{items_view}
 use Rattle.result_references.specs.reading.Counting.{joined_in, joined_at}
-use Rattle.result_references.specs.declared.octets.TheConstants.{MAX_RESOLVED_OCTETS}
+use Rattle.result_references.specs.declared.counted_octets.TheConstants.{MAX_RESOLVED_OCTETS}
 use Rattle.result_references.specs.reading.Reaching.{segments_in}
 use Rattle.result_references.proofs.walks.+joined.Given as goal
 

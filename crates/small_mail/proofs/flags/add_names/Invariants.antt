@@ -1,5 +1,5 @@
 use Rattle.std.proofs.Common.{◌≡◌, drop, map}
-use Rattle.imap_syntax.specs.Items as items
+use Rattle.imap_types.specs.Items as items
 use Rattle.small_mail.proofs.flags.add_names.Given as goal
 
 abbrev pub invariant-loop-name : goal.invariant-loop-name

@@ -1,5 +1,5 @@
 use Rattle.std.proofs.Common.{◌≡◌, ◌∙◌, ◌++◌, [], ℕ, List, map, Vec, Global, IfOk, ap, sym, subst}
-use Rattle.imap_syntax.specs.Items.{kept, kept_from}
+use Rattle.imap_types.specs.Items.{kept, kept_from}
 use Rattle.small_mail.proofs.KeptNames.{kept_from-append}
 use Rattle.small_mail.proofs.flags.kept.Goals as goal
 

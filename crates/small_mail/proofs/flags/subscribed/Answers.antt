@@ -1,6 +1,6 @@
 use Rattle.std.proofs.Common.{◌≡◌, ◌∙◌, ◌++◌, ◌∷◌, [], ℕ, Bool, not, List, bytes_eq, filter, codes, IfOk, ap, sym, subst}
 use Rattle.std.specs.List.{list_any}
-use Rattle.imap_syntax.specs.Items.{kept}
+use Rattle.imap_types.specs.Items.{kept}
 use Rattle.honest_store.specs.Attributes as attributes
 use Rattle.small_mail.proofs.KeptNames.{or_none}
 use Rattle.small_mail.proofs.flags.subscribed.Goals as goal

@@ -2,10 +2,10 @@ use Rattle.std.proofs.Common.{◌≡◌, ◌∙◌, [], ℕ, ℤ, List, Some, ap
 use Rattle.std.proofs.lemmas.Int.{to_z-of_z}
 use mir.Val.{SFits, of_z, to_z}
 use Rattle.std.proofs.lemmas.List.{append-nil}
-use Rattle.imap_syntax.specs.declared.code.Code.TheVariants as code
-use Rattle.imap_syntax.specs.declared.response.Response.{Response}
-use Rattle.imap_syntax.specs.declared.response.Status.TheVariants as status
-use Rattle.imap_syntax.specs.Items.{kept}
+use Rattle.imap_types.specs.declared.code.Code.TheVariants as code
+use Rattle.imap_types.specs.declared.response.Response.{Response}
+use Rattle.imap_types.specs.declared.response.Status.TheVariants as status
+use Rattle.imap_types.specs.Items.{kept}
 use Rattle.honest_store.specs.StoreMail.{StoreFolder, StoreMail}
 use Rattle.honest_store.specs.WellFormed.{nearest_date}
 use Rattle.small_answers.specs.Changes.{mail_with, message_of}

@@ -1,8 +1,8 @@
 use Rattle.std.proofs.Common.{◌≡◌, ◌∙◌, ◌∷◌, [], ℕ, Some, false, ap, sym}
 use Rattle.std.specs.List.{slice_get}
-use Rattle.imap_syntax.specs.declared.code.Code.TheVariants as code
-use Rattle.imap_syntax.specs.declared.response.Response.TheVariants as response
-use Rattle.imap_syntax.specs.declared.response.Status.TheVariants as status
+use Rattle.imap_types.specs.declared.code.Code.TheVariants as code
+use Rattle.imap_types.specs.declared.response.Response.TheVariants as response
+use Rattle.imap_types.specs.declared.response.Status.TheVariants as status
 use Rattle.honest_store.specs.StoreMail.{StoreFolder, StoreMail, StoreMessage}
 use Rattle.small_answers.specs.ToldResponses.{ok_response, set_of}
 use Rattle.small_store.specs.reading.Steps.{session_of}

@@ -1,5 +1,5 @@
 use Rattle.std.proofs.Common.{◌≡◌, ◌++◌, map, filter, drop, nat_lt, true}
-use Rattle.imap_syntax.specs.declared.response.Response.TheVariants as response
+use Rattle.imap_types.specs.declared.response.Response.TheVariants as response
 use Rattle.honest_store.specs.StoreMail.{ExpungedUid}
 use Rattle.small_answers.specs.ToldResponses.{set_of}
 use Rattle.small_store.proofs.selecting.push_expunged.Given as goal

@@ -1,5 +1,5 @@
 use Rattle.std.proofs.Common.{◌≡◌, ◌++◌, ◌∷◌, [], drop}
-use Rattle.imap_syntax.specs.Strings.{escaped, quoted}
+use Rattle.imap_types.specs.Strings.{escaped, quoted}
 use Rattle.store_responses.proofs.strings.push_quoted.Given as goal
 
 abbrev pub invariant-loop-octet : goal.invariant-loop-octet

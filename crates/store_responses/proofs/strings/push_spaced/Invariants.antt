@@ -1,5 +1,5 @@
 use Rattle.std.proofs.Common.{◌≡◌, ◌++◌, drop}
-use Rattle.imap_syntax.specs.Lines.{spaced}
+use Rattle.imap_types.specs.Lines.{spaced}
 use Rattle.store_responses.proofs.strings.push_spaced.Given as goal
 
 abbrev pub invariant-loop-word : goal.invariant-loop-word

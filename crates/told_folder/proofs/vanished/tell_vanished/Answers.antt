@@ -1,6 +1,6 @@
 use Rattle.std.proofs.Common.{◌<◌, ◌≤◌, List, length, get_or, arith}
 use Rattle.std.proofs.lemmas.Result.{err_from_is_err_and}
-use Rattle.imap_syntax.specs.declared.uid_set.UidRange.{UidRange}
+use Rattle.imap_types.specs.declared.uid_set.UidRange.{UidRange}
 use Rattle.told_folder.proofs.KeyedLemmas.{get_or-defaults}
 use Rattle.told_folder.proofs.LostLemmas.{lost_none, lost_more, lost_all, losing_fails}
 use Rattle.told_folder.proofs.PartLemmas.{take_whole}

@@ -10,7 +10,7 @@ loop-key-init g c = record { asked = NoKey; same = refl }
 
 pub loop-key-preserved : goal.loop-key-preserved
 loop-key-preserved g c = record {
-  asked = subst (λ (keys : List ℕ). Asked g.L.Stream.ClientStream.shows c.args.now (held c.args.self.now.waiting) keys (held c.ask.new.self))
+  asked = subst (λ (keys : List ℕ). Asked g.L.Stream.ClientStream.shows g.L.Stream.ClientStream.closes c.args.now (held c.args.self.now.waiting) keys (held c.ask.new.self))
       (sym (take_more c.args.keys.now c.loop-key.key-index 0 (omega arith))) (OneKey c.loop-key.invariant.asked c.ask.ensures);
   same = ap (λ (a : Acceptor g.row.L.Denot g.row.C.Denot g.row.L-Stream.Denot). record a { waiting = c.ask.new.self }) c.loop-key.invariant.same;
 }

@@ -1,4 +1,5 @@
 use Rattle.std.proofs.Common.{inl, inr, refl}
+use Rattle.std.proofs.lemmas.Bool.{false≢true}
 use Rattle.client_front.specs.Accepting.{state}
 use Rattle.client_front.specs.Finishing.{NoLook, OneLook}
 use Rattle.client_front.proofs.acceptor.Acceptor+L+C+L+Stream.end.Goals as goal
@@ -10,7 +11,7 @@ pub returns-then-is_empty : goal.returns-then-is_empty
 returns-then-is_empty g c = inl (c.looks.looked, c.looks.invariant, c.if-is_empty.ensures.0 refl)
 
 pub returns-in_default : goal.returns-in_default
-returns-in_default g c = inr (inl (c.looks.looked, state c.looks.self, c.looks.invariant, c.in_default.ensures.fails))
+returns-in_default g c = inr (inl (c.looks.looked, state c.looks.self, c.looks.invariant, λ none. false≢true (c.if-is_empty.ensures.1 none), c.in_default.ensures.fails))
 
 pub looks-preserved : goal.looks-preserved
-looks-preserved g c = OneLook c.looks.invariant c.in-Some.ensures.looks
+looks-preserved g c = OneLook c.looks.invariant (λ none. false≢true (c.if-is_empty.ensures.1 none)) c.in-Some.ensures.looks

@@ -16,10 +16,10 @@ returns-clause-looks g c = record {
   come = c.admit_all.ensures;
   after = held c.ask_all.new.self.waiting;
   asked = subst
-      (λ (keys : List ℕ). Asked g.L.Stream.ClientStream.shows c.in_ok-now.now (held c.admit_all.new.self.waiting) keys (held c.ask_all.new.self.waiting))
+      (λ (keys : List ℕ). Asked g.L.Stream.ClientStream.shows g.L.Stream.ClientStream.closes c.in_ok-now.now (held c.admit_all.new.self.waiting) keys (held c.ask_all.new.self.waiting))
       c.split_at.ensures.front c.ask_all.ensures.asked;
   expired = c.expire.ensures;
-  went_on = look-went-on g.L.Stream.ClientStream.gives c.admit_all.new.self c.ask_all.new.self c.in_ok-now.now c.go_on.new.self.clients.items
+  went_on = look-went-on g.L.Stream.ClientStream.gives g.L.Stream.ClientStream.closes c.admit_all.new.self c.ask_all.new.self c.in_ok-now.now c.go_on.new.self.clients.items
       c.ask_all.ensures.same c.go_on.ensures;
   after_all = look-ends c.admit_all.new.self c.ask_all.new.self c.expire.new.self c.go_on.new.self c.ask_all.ensures.same;
 }

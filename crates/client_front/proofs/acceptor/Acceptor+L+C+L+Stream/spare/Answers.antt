@@ -8,7 +8,7 @@ spared-init g c = NoneSpared
 
 pub returns-then-not-make_room : goal.returns-then-not-make_room
 returns-then-not-make_room g c =
-    inr (c.spared.spared, state c.spared.self, omega arith, c.spared.invariant, (held c.make_room.new.self, c.if-not-make_room.ensures, refl))
+    inr (c.spared.spared, state c.spared.self, omega arith, c.spared.invariant, (held c.make_room.new.self, c.if-not-make_room.ensures.made, refl))
 
 pub spared-preserved : goal.spared-preserved
-spared-preserved g c = OneSpared c.spared.invariant (held c.make_room.new.self, c.if-not-make_room.ensures, refl)
+spared-preserved g c = OneSpared c.spared.invariant (held c.make_room.new.self, c.if-not-make_room.ensures.made, refl)

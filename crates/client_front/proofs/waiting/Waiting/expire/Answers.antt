@@ -9,4 +9,4 @@ pub late-preserved : goal.late-preserved
 late-preserved g c = OneLate c.late.invariant c.end_wait.ensures
 
 pub late-smaller : goal.late-smaller
-late-smaller g c = fewer-awaited g.S.ClientStream.shows c.args.now (held c.late.self) (held c.end_wait.new.self) c.end_wait.ensures
+late-smaller g c = fewer-awaited g.S.ClientStream.shows g.S.ClientStream.closes c.args.now (held c.late.self) (held c.end_wait.new.self) c.end_wait.ensures

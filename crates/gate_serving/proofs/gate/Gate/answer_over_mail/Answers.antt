@@ -15,12 +15,12 @@ returns-in-Stands-clause-run g c =
     (c.as_bytes-user.ensures.value ∙ c.as_str.ensures) c.begin.ensures.hidden c.requires c.answer_told.ensures.uploads (begins s.machine held.machine)
     (λ p came. finishes p _ came) held)
 
-pub returns-in-Fell-clause-run : goal.returns-in-Fell-clause-run
-returns-in-Fell-clause-run g c =
-    join _ c.in-Fell.ensures.run c.answer_untold.ensures.run (λ xs ys begins finishes s held.
+pub returns-in-Unserved-clause-run : goal.returns-in-Unserved-clause-run
+returns-in-Unserved-clause-run g c =
+    join _ c.in-Unserved.ensures.run c.answer_untold.ensures.run (λ xs ys begins finishes s held.
     answers_on c.answer_untold.new.self c.args.self.now (g.W.Taped.hidden c.args.world.now) (asking_data c.args.asking.now) c.answer_untold.result s
     (c.as_bytes-user.ensures.value ∙ c.as_str.ensures) c.begin.ensures.hidden c.requires c.answer_untold.ensures.uploads (begins s.machine held.machine)
-    (λ p came. finishes p _ c.in-Fell.why came c.error_of.ensures) held)
+    (λ p came. finishes p _ c.in-Unserved.why came c.error_of.ensures) held)
 
 pub returns-in-OutOfMemory-clause-run : goal.returns-in-OutOfMemory-clause-run
 returns-in-OutOfMemory-clause-run g c =

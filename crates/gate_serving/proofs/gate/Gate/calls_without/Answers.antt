@@ -1,7 +1,7 @@
 use Rattle.std.proofs.Common.{Err, refl, ap}
 use Rattle.gate_world.specs.Causes.{Hidden}
 use Rattle.jmap_core.specs.Request.{request_data}
-use Rattle.jmap_methods.specs.declared.method_error.MethodError.TheVariants.{ServerUnavailable}
+use Rattle.jmap_arguments.specs.declared.method_error.MethodError.TheVariants.{ServerUnavailable}
 use Rattle.gate_serving.specs.Gates.{account_by}
 use Rattle.gate_serving.proofs.Answering.{nothing_changed}
 use Rattle.gate_serving.proofs.Made.{calls_without}

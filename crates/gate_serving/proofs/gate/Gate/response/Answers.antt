@@ -3,10 +3,11 @@ use Rattle.serde_json.specs.Written.{compact_text}
 use Rattle.http_service.specs.Refusals.{refusal_status}
 use Rattle.jmap_core.specs.Problem.{text_of_problem, status_of as problem_status}
 use Rattle.jmap_core.specs.Session.{session_data}
-use Rattle.gate_serving.specs.Answers.{IsResponse, empty_answer, json_answer, problem_answer, upload_data}
+use Rattle.gate_serving.specs.Answers.{empty_answer, json_answer, problem_answer, upload_data}
 use Rattle.gate_serving.specs.Requests.{Asking, Problem, Session, Upload, Refused}
 use Rattle.gate_serving.specs.reading.Askings.{asking_data}
-use Rattle.jmap_methods.specs.declared.method_error.MethodError.TheVariants.{ServerUnavailable}
+use Rattle.gate_serving.specs.reading.OneMail.{IsResponse}
+use Rattle.jmap_arguments.specs.declared.method_error.MethodError.TheVariants.{ServerUnavailable}
 use Rattle.gate_serving.specs.Gates.{account_by}
 use Rattle.gate_serving.specs.reading.Texts.{text_sent}
 use Rattle.gate_serving.proofs.Answering.{made_for}

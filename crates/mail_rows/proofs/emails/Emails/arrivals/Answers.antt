@@ -1,7 +1,7 @@
 use Rattle.std.proofs.Common.{◌∙◌, ap}
 use Rattle.mail_rows.specs.NumberedRows.{NumberedRows}
 use Rattle.mail_rows.specs.Taking.{newcomers}
-use Rattle.mail_rows.specs.reading.Stays.{unmarked}
+use Rattle.mail_rows.specs.reading.RowPass.{unmarked}
 use Rattle.mail_rows.proofs.TakingLemmas.{unmarked_are}
 use Rattle.mail_rows.proofs.emails.Emails.arrivals.Goals as goal
 

@@ -1,6 +1,6 @@
 use Rattle.std.proofs.Common.{List, ℕ, IsTrue, ◌↔◌, IfOk, sym, subst}
 use Rattle.std.proofs.lemmas.Result.{IfOk-weaker}
-use Rattle.mail_conditions.specs.Entries.{email_at, emails_at}
+use Rattle.query_conditions.specs.Entries.{email_at, emails_at}
 use Rattle.query_arguments.specs.declared.email_condition.EmailCondition.{EmailCondition}
 use Rattle.query_core.specs.Headers.{HeaderMatches}
 use Rattle.query_core.specs.Lists.{EmailMatches}

@@ -1,6 +1,6 @@
 use Rattle.std.proofs.Common.{◌≡◌, ◌∙◌, ℕ, List, ap, arith, length, map, set, sym}
 use Rattle.std.proofs.lemmas.Option.{slice_get_within}
-use Rattle.imap_syntax.specs.Folders.{folder_name}
+use Rattle.imap_types.specs.Folders.{folder_name}
 use Rattle.honest_store.specs.StoreMail.{StoreFolder, StoreMail}
 use Rattle.honest_store.specs.Attributes.{subscribed}
 use Rattle.honest_store.specs.FolderChanges.{with_subscription}

@@ -3,7 +3,7 @@ use Rattle.std.specs.Prelude.{IfOk}
 use mir.Val.{SFits, of_z, to_z}
 use Rattle.std.proofs.lemmas.Int.{to_z-of_z}
 use Rattle.std.proofs.lemmas.Result.{IfOk-weaker}
-use Rattle.imap_syntax.specs.declared.command.Command.TheVariants as command
+use Rattle.imap_types.specs.declared.command.Command.TheVariants as command
 use Rattle.honest_store.specs.StoreMail.{StoreFolder, folder_called}
 use Rattle.honest_store.specs.MessageCommands.{sent_message}
 use Rattle.honest_store.specs.Sessions.{StoreAnswer, StoreSession}

@@ -1,6 +1,6 @@
 use Rattle.std.proofs.Common.{◌≡◌, ◌∙◌, ap, bytes_eq, false, subst, sym}
 use Rattle.std.specs.Prelude.{MatchBool}
-use Rattle.imap_syntax.specs.declared.command.Command.TheVariants as command
+use Rattle.imap_types.specs.declared.command.Command.TheVariants as command
 use Rattle.honest_store.specs.FolderChanges.{inbox_name}
 use Rattle.honest_store.specs.Sessions.{StoreSession}
 use Rattle.small_answers.specs.Causes.{RefusalCause}

@@ -1,9 +1,0 @@
--- What a response is made of.
-use Rattle.std.specs.Prelude.{◌++◌, ℕ, List}
-use Rattle.http_door.specs.Responses.{refusal_text}
-use Rattle.http_door.specs.declared.response.Parts.{Parts}
-use Rattle.http_door.specs.declared.response.Parts.TheVariants.{Whole, Head}
-
-abbrev pub text_of : Parts → List ℕ
-text_of (Whole head body) = head ++ body
-text_of (Head refusal) = refusal_text refusal

@@ -1,5 +1,0 @@
-use Rattle.mail_orders.proofs.KeyLemmas.{same_truth}
-use Rattle.mail_orders.proofs.emails.all_have.Goals as goal
-
-pub returns : goal.returns
-returns c = λ emails keyword are. same_truth _ _ (c.thread_matches.ensures emails keyword are)

@@ -1,7 +1,0 @@
-use Rattle.std.proofs.Common.{◌≡◌, ◌++◌, drop, map}
-use Rattle.mail_conditions.specs.declared.entry.EmailEntry.{EmailEntry}
-use Rattle.mail_orders.proofs.emails.numbers_of.Given as goal
-
--- those so far, and those of the rest
-abbrev pub invariant-loop-row : goal.invariant-loop-row
-invariant-loop-row l = l.numbers.items ++ map (λ (e : EmailEntry). e.number) (drop l.row-index l.rows) ≡ map (λ (e : EmailEntry). e.number) l.rows

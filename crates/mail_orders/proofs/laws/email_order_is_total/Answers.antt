@@ -1,5 +1,0 @@
-use Rattle.mail_orders.proofs.OrderLaws.{email_total}
-use Rattle.mail_orders.proofs.laws.email_order_is_total.Goals as goal
-
-pub returns : goal.returns
-returns c = email_total

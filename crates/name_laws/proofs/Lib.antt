@@ -1,0 +1,4 @@
+pub mod CleanTexts
+pub mod AddressNames
+pub mod LooseNames
+pub mod PartNames

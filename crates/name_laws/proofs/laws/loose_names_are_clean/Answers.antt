@@ -1,0 +1,8 @@
+use Rattle.name_laws.proofs.LooseNames as lemmas
+use Rattle.name_laws.proofs.laws.loose_names_are_clean.Goals as goal
+
+pub returns-clause-addresses : goal.returns-clause-addresses
+returns-clause-addresses c = λ list raw h. lemmas.clean_loose_addresses raw list h
+
+pub returns-clause-groups : goal.returns-clause-groups
+returns-clause-groups c = λ list raw h. lemmas.clean_loose_groups raw list h

@@ -1,0 +1,3 @@
+-- States has how a state is named, Roles the names of roles.
+pub mod States
+pub mod Roles
