@@ -11,6 +11,7 @@ use Rattle.client_streams.specs.declared.finished.Finished.{Finished}
 use Rattle.client_front.specs.declared.scan.Coming.{Coming}
 use Rattle.client_front.specs.declared.scan.Coming.TheVariants.{Never}
 use Rattle.client_front.specs.declared.serving.Serving.{Serving}
+use Rattle.client_front.specs.declared.sockets.TheConstants.{WAIT_KEYS}
 use Rattle.client_front.specs.declared.sockets.Next.{Next}
 use Rattle.client_front.specs.declared.sockets.Next.TheVariants.{Client, Nobody, Refused}
 use Rattle.client_front.specs.declared.waiting.TheConstants.{MAX_HELD_CLIENTS}
@@ -42,11 +43,11 @@ pub record World (L C S : Type 0) : Type 1 where
   pub closes : S → Type 0
   pub gives : S → ℕ → Option (List ℕ) → S → Type 0
   pub reads : C → Option ℕ → C → Type 0
-  pub waits : L → ℕ → Option (List ℕ) → L → Type 0
+  pub waits : L → ℕ → ℕ → Option (List ℕ) → L → Type 0
   pub comes : L → ℕ → Next S → L → Type 0
 
 abbrev pub world : {L C S : Type 0} → (S → ℕ → Option (List ℕ) → Type 0) → (S → Type 0) → (S → ℕ → Option (List ℕ) → S → Type 0)
-    → (C → Option ℕ → C → Type 0) → (L → ℕ → Option (List ℕ) → L → Type 0) → (L → ℕ → Next S → L → Type 0) → World L C S
+    → (C → Option ℕ → C → Type 0) → (L → ℕ → ℕ → Option (List ℕ) → L → Type 0) → (L → ℕ → Next S → L → Type 0) → World L C S
 world shows closes gives reads waits comes = record { shows = shows; closes = closes; gives = gives; reads = reads; waits = waits; comes = comes }
 
 abbrev pub next_key : ℕ → ℕ
@@ -102,12 +103,12 @@ pub data Asked {S : Type 0} (shows : S → ℕ → Option (List ℕ) → Type 0)
   OneKey : {keys : List ℕ} {key : ℕ} {mid new : Held S} → Asked shows closes now old keys mid → IsAsked shows closes now key mid new
       → Asked shows closes now old (keys ++ key ∷ []) new
 
--- A wait of `LOOK_AGAIN_MILLISECONDS` at most, and a look of the clock after it: those that have come are held, those that have sent
+-- A wait of `LOOK_AGAIN_MILLISECONDS` at most, for `WAIT_KEYS` keys at most, and a look of the clock after it: those that have come are held, those that have sent
 -- something are looked at, those that are late are looked at, and those whose response is whole go on.
 pub record Looks {L C S : Type 0} (world : World L C S) (old new : State L C S) : Type 0 where
   pub keys : List ℕ
   pub listener : L
-  pub waited : world.waits old.listener LOOK_AGAIN_MILLISECONDS (Some keys) listener
+  pub waited : world.waits old.listener WAIT_KEYS LOOK_AGAIN_MILLISECONDS (Some keys) listener
   pub now : ℕ
   pub clock : C
   pub is_now : world.reads old.clock (Some now) clock
@@ -122,8 +123,8 @@ pub record Looks {L C S : Type 0} (world : World L C S) (old new : State L C S) 
 -- the wait failed, or the look of the clock after it
 abbrev pub LookFails : {L C S : Type 0} → World L C S → State L C S → State L C S → Type 0
 LookFails world old new =
-    (world.waits old.listener LOOK_AGAIN_MILLISECONDS None new.listener × (new ≡ record old { listener = new.listener }))
-    ⊎ ((keys : List ℕ) × world.waits old.listener LOOK_AGAIN_MILLISECONDS (Some keys) new.listener × world.reads old.clock None new.clock
+    (world.waits old.listener WAIT_KEYS LOOK_AGAIN_MILLISECONDS None new.listener × (new ≡ record old { listener = new.listener }))
+    ⊎ ((keys : List ℕ) × world.waits old.listener WAIT_KEYS LOOK_AGAIN_MILLISECONDS (Some keys) new.listener × world.reads old.clock None new.clock
     × (new ≡ record old { listener = new.listener; clock = new.clock }))
 
 -- the client that asked first, of which a look shows this, waits no longer

@@ -46,8 +46,8 @@ impl<L: ClientListener + Drop, C: Ticks + Drop> ClientFront<L, C> {
     /// the time that was left, the clock failed, or none is served.
     pub fn recv(&mut self, into: &mut [u8]) -> Option<usize>
         ensures bound { IfSome result (λ n. n ≤ length into.new) }
-        ensures in_time { IfSome result (λ n. BothSo (ReceivesInTime L.Stream.receives C.reads (take n into.new) self.old.acceptor.clock self.new.acceptor.clock) self.old.current self.new.current) }
-        ensures nothing { IfNone result (NoneOrBothSo (ReceivesNothing L.Stream.receives C.reads self.old.acceptor.clock self.new.acceptor.clock) self.old.current self.new.current) }
+        ensures in_time { IfSome result (λ n. BothSo (ReceivesInTime L.Stream.receives C.reads (length into.old) (take n into.new) self.old.acceptor.clock self.new.acceptor.clock) self.old.current self.new.current) }
+        ensures nothing { IfNone result (NoneOrBothSo (ReceivesNothing L.Stream.receives C.reads (length into.old) self.old.acceptor.clock self.new.acceptor.clock) self.old.current self.new.current) }
         ensures waiting { self.new.acceptor ≡ record self.old.acceptor { clock = self.new.acceptor.clock } }
     {
         match &mut self.current {
@@ -60,8 +60,8 @@ impl<L: ClientListener + Drop, C: Ticks + Drop> ClientFront<L, C> {
     /// taking them, it took none in the time that was left, the clock failed, or none is served.
     pub fn send(&mut self, from: &[u8]) -> Option<usize>
         ensures bound { IfSome result (λ n. (0 < n) × (n ≤ length from.now)) }
-        ensures in_time { IfSome result (λ n. BothSo (SendsInTime L.Stream.sends C.reads (take n from.now) self.old.acceptor.clock self.new.acceptor.clock) self.old.current self.new.current) }
-        ensures nothing { IfNone result (NoneOrBothSo (SendsNothing L.Stream.sends C.reads self.old.acceptor.clock self.new.acceptor.clock) self.old.current self.new.current) }
+        ensures in_time { IfSome result (λ n. BothSo (SendsInTime L.Stream.sends C.reads from.now n self.old.acceptor.clock self.new.acceptor.clock) self.old.current self.new.current) }
+        ensures nothing { IfNone result (NoneOrBothSo (SendsNothing L.Stream.sends C.reads from.now self.old.acceptor.clock self.new.acceptor.clock) self.old.current self.new.current) }
         ensures waiting { self.new.acceptor ≡ record self.old.acceptor { clock = self.new.acceptor.clock } }
     {
         match &mut self.current {

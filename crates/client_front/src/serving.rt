@@ -32,8 +32,8 @@ impl<S: ClientStream> Serving<S> {
     /// Octets of the request, while it is not late.
     pub(crate) fn receive<C: Ticks>(&mut self, clock: &mut C, into: &mut [u8]) -> Option<usize>
         ensures bound { IfSome result (λ n. n ≤ length into.new) }
-        ensures in_time { IfSome result (λ n. ReceivesInTime S.receives C.reads (take n into.new) clock.old clock.new self.old self.new) }
-        ensures nothing { IfNone result (ReceivesNothing S.receives C.reads clock.old clock.new self.old self.new) }
+        ensures in_time { IfSome result (λ n. ReceivesInTime S.receives C.reads (length into.old) (take n into.new) clock.old clock.new self.old self.new) }
+        ensures nothing { IfNone result (ReceivesNothing S.receives C.reads (length into.old) clock.old clock.new self.old self.new) }
     {
         let limit = left(self.progress.due(), clock.milliseconds()?)?;
         let count = self.stream.receive(into, limit)?;
@@ -45,8 +45,8 @@ impl<S: ClientStream> Serving<S> {
     /// Gives the client octets, while it is not late in taking them.
     pub(crate) fn send<C: Ticks>(&mut self, clock: &mut C, from: &[u8]) -> Option<usize>
         ensures bound { IfSome result (λ n. (0 < n) × (n ≤ length from.now)) }
-        ensures in_time { IfSome result (λ n. SendsInTime S.sends C.reads (take n from.now) clock.old clock.new self.old self.new) }
-        ensures nothing { IfNone result (SendsNothing S.sends C.reads clock.old clock.new self.old self.new) }
+        ensures in_time { IfSome result (λ n. SendsInTime S.sends C.reads from.now n clock.old clock.new self.old self.new) }
+        ensures nothing { IfNone result (SendsNothing S.sends C.reads from.now clock.old clock.new self.old self.new) }
     {
         let limit = self.taking.limit()?;
         let since = clock.milliseconds()?;

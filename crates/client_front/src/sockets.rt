@@ -28,8 +28,8 @@ pub trait ClientListener {
     /// What may have come that is watched under this key.
     ghost comes: { Self → ℕ → Next Self.Stream → Self → Type 0 };
 
-    /// The keys that a wait of at most so long may give; None where it fails.
-    ghost waits: { Self → ℕ → Option (List ℕ) → Self → Type 0 };
+    /// The keys that a wait may give, for at most so many and at most so long; None where it fails.
+    ghost waits: { Self → ℕ → ℕ → Option (List ℕ) → Self → Type 0 };
 
     /// The next client that has come, watched from now on under the key. It does not wait.
     fn next_client(&mut self, key: u64) -> Next<Self::Stream>
@@ -39,5 +39,5 @@ pub trait ClientListener {
     /// puts the keys of the latter at the front of the room: how many. None where the listener failed.
     fn wait(&mut self, limit: u64, room: &mut [u64]) -> Option<usize>
         ensures bound { IfSome result (λ n. n ≤ length room.new) }
-        ensures waited { waits self.old limit (option_map (λ n. take n room.new) result) self.new };
+        ensures waited { waits self.old (length room.old) limit (option_map (λ n. take n room.new) result) self.new };
 }

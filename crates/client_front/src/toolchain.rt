@@ -75,7 +75,7 @@ impl ClientListener for TcpClients {
 
     ghost comes = { λ _ _ _ _. ⊤ };
 
-    ghost waits = { λ _ _ _ _. ⊤ };
+    ghost waits = { λ _ _ _ _ _. ⊤ };
 
     fn next_client(&mut self, key: u64) -> Next<TcpClient> {
         for _ in 0..MAX_FAILED_CLIENTS {

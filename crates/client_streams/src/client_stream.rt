@@ -7,10 +7,11 @@ pub trait ClientStream: Drop {
     /// What a look for at most so many octets may show: these, none of them yet, or None where the client ended or failed.
     ghost shows: { Self → ℕ → Option (List ℕ) → Type 0 };
 
-    /// The octets that a wait of at most so long may give, and those that the client may have taken after one.
-    ghost receives: { Self → ℕ → Option (List ℕ) → Self → Type 0 };
+    /// The octets that a wait may give, for at most so many and at most so long. Or how many of these octets the client may have taken
+    /// after one, from their front.
+    ghost receives: { Self → ℕ → ℕ → Option (List ℕ) → Self → Type 0 };
 
-    ghost sends: { Self → ℕ → Option (List ℕ) → Self → Type 0 };
+    ghost sends: { Self → List ℕ → ℕ → Option ℕ → Self → Type 0 };
 
     /// What a look for at most so many octets may give without a wait: these, none of them yet, or None where the client ended or
     /// failed.
@@ -33,7 +34,7 @@ pub trait ClientStream: Drop {
     /// client ended its input. None where none came in time or the stream failed.
     fn receive(&mut self, into: &mut [u8], limit: u64) -> Option<usize>
         ensures bound { IfSome result (λ n. n ≤ length into.new) }
-        ensures received { receives self.old limit (option_map (λ n. take n into.new) result) self.new };
+        ensures received { receives self.old (length into.old) limit (option_map (λ n. take n into.new) result) self.new };
 
     /// Puts the octets that have come at the front of `into`, as many as there is room for, which is for one at least: how many,
     /// 0 where none has come yet. None where the client ended its input, or the stream failed. It does not wait.
@@ -45,7 +46,7 @@ pub trait ClientStream: Drop {
     /// 1. None where it took none in time or the stream failed.
     fn send(&mut self, from: &[u8], limit: u64) -> Option<usize>
         ensures bound { IfSome result (λ n. (0 < n) × (n ≤ length from.now)) }
-        ensures taken { sends self.old limit (option_map (λ n. take n from.now) result) self.new };
+        ensures taken { sends self.old from.now limit result self.new };
 
     /// Tells the client that nothing more is sent.
     fn end_writing(&mut self)

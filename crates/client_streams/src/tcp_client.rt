@@ -26,9 +26,9 @@ impl ClientStream for TcpClient {
 
     ghost shows = { λ _ _ _. ⊤ };
 
-    ghost receives = { λ _ _ _ _. ⊤ };
+    ghost receives = { λ _ _ _ _ _. ⊤ };
 
-    ghost sends = { λ _ _ _ _. ⊤ };
+    ghost sends = { λ _ _ _ _ _. ⊤ };
 
     ghost gives = { λ _ _ _ _. ⊤ };
 

@@ -20,16 +20,16 @@ pub trait Clients: Drop {
     /// What a call of `accept` comes to, between the clients before it and after it.
     ghost accepts: { Self → Result Bool failed → Self → Type 0 };
 
-    /// What a call of `recv` that gives these octets comes to, and a call of `send` that takes these, between the clients
-    /// before it and after it.
-    ghost receives: { Self → List ℕ → Self → Type 0 };
+    /// What a call of `recv` for at most so many octets that gives these comes to, and a call of `send` of these octets of which so many
+    /// are taken, between the clients before it and after it.
+    ghost receives: { Self → ℕ → List ℕ → Self → Type 0 };
 
-    ghost sends: { Self → List ℕ → Self → Type 0 };
+    ghost sends: { Self → List ℕ → ℕ → Self → Type 0 };
 
-    /// What a call of `recv` that fails comes to, and one of `send`.
-    ghost receives_nothing: { Self → Self → Type 0 };
+    /// What a call of `recv` for at most so many octets that fails comes to, and one of `send` of these.
+    ghost receives_nothing: { Self → ℕ → Self → Type 0 };
 
-    ghost sends_nothing: { Self → Self → Type 0 };
+    ghost sends_nothing: { Self → List ℕ → Self → Type 0 };
 
     /// What a call of `finish` changes, and one of `end`.
     ghost finishes: { Self → Self → Type 0 };
@@ -47,8 +47,8 @@ pub trait Clients: Drop {
     fn recv(&mut self, into: &mut [u8]) -> Result<usize, Failed>
         ensures bound { IfOk result (λ n. n ≤ length into.new) }
         ensures octets { ReadConsumes (gives self.old) (gives self.new) result into.new }
-        ensures receives { IfOk result (λ n. receives self.old (take n into.new) self.new) }
-        ensures nothing { OnErr result (receives_nothing self.old self.new) }
+        ensures receives { IfOk result (λ n. receives self.old (length into.old) (take n into.new) self.new) }
+        ensures nothing { OnErr result (receives_nothing self.old (length into.old) self.new) }
         ensures takes { takes self.new ≡ takes self.old }
         ensures ok { OnOk result (client_faults self.new ≡ client_faults self.old) }
         ensures err { OnErr result (client_faults self.new ≡ one_more (client_faults self.old)) }
@@ -58,8 +58,8 @@ pub trait Clients: Drop {
     fn send(&mut self, from: &[u8]) -> Result<usize, Failed>
         ensures bound { IfOk result (λ n. (0 < n) × (n ≤ length from.now)) }
         ensures octets { WriteAppends (takes self.old) (takes self.new) result from.now }
-        ensures sends { IfOk result (λ n. sends self.old (take n from.now) self.new) }
-        ensures nothing { OnErr result (sends_nothing self.old self.new) }
+        ensures sends { IfOk result (λ n. sends self.old from.now n self.new) }
+        ensures nothing { OnErr result (sends_nothing self.old from.now self.new) }
         ensures gives { gives self.new ≡ gives self.old }
         ensures ok { OnOk result (client_faults self.new ≡ client_faults self.old) }
         ensures err { OnErr result (client_faults self.new ≡ one_more (client_faults self.old)) }

@@ -35,7 +35,7 @@ impl Dialer for HostRuntime {
 
     type Stream = TcpStream;
 
-    ghost looks_up = { λ _ _ _. ⊤ };
+    ghost looks_up = { λ _ _ _ _. ⊤ };
 
     ghost dials = { λ _ _ _ _. ⊤ };
 

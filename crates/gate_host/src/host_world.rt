@@ -112,8 +112,8 @@ impl<H: Host, C: Clients> Front for HostWorld<H, C> {
     fn recv(&mut self, into: &mut [u8]) -> Result<usize, Failed>
         ensures bound { IfOk result (λ n. n ≤ length into.new) }
         ensures octets { ReadConsumes (C.gives self.old.front) (C.gives self.new.front) result into.new }
-        ensures receives { IfOk result (λ n. C.receives self.old.front (take n into.new) self.new.front) }
-        ensures nothing { OnErr result (C.receives_nothing self.old.front self.new.front) }
+        ensures receives { IfOk result (λ n. C.receives self.old.front (length into.old) (take n into.new) self.new.front) }
+        ensures nothing { OnErr result (C.receives_nothing self.old.front (length into.old) self.new.front) }
         ensures takes { C.takes self.new.front ≡ C.takes self.old.front }
         ensures elsewhere { (self.new.link ≡ self.old.link) × (self.new.console ≡ self.old.console) × (self.new.host ≡ self.old.host) }
         ensures secrets { (self.new.password ≡ self.old.password) × (self.new.token ≡ self.old.token) }
@@ -127,8 +127,8 @@ impl<H: Host, C: Clients> Front for HostWorld<H, C> {
     fn send(&mut self, from: &[u8]) -> Result<usize, Failed>
         ensures bound { IfOk result (λ n. (0 < n) × (n ≤ length from.now)) }
         ensures octets { WriteAppends (C.takes self.old.front) (C.takes self.new.front) result from.now }
-        ensures sends { IfOk result (λ n. C.sends self.old.front (take n from.now) self.new.front) }
-        ensures nothing { OnErr result (C.sends_nothing self.old.front self.new.front) }
+        ensures sends { IfOk result (λ n. C.sends self.old.front from.now n self.new.front) }
+        ensures nothing { OnErr result (C.sends_nothing self.old.front from.now self.new.front) }
         ensures gives { C.gives self.new.front ≡ C.gives self.old.front }
         ensures elsewhere { (self.new.link ≡ self.old.link) × (self.new.console ≡ self.old.console) × (self.new.host ≡ self.old.host) }
         ensures secrets { (self.new.password ≡ self.old.password) × (self.new.token ≡ self.old.token) }

@@ -65,13 +65,13 @@ impl<L: ClientListener + Drop, C: Ticks + Drop> Clients for ListenerFront<L, C> 
 
     // The octets are just those that came for the client that is served, or that it took, in time. The listener and those who wait stay as they
     // are.
-    ghost receives = { λ old octets new. BothSo (λ before after. BothSo (ReceivesInTime L.Stream.receives C.reads octets before.acceptor.clock after.acceptor.clock) before.current after.current × (after.acceptor ≡ record before.acceptor { clock = after.acceptor.clock })) old.clients new.clients };
+    ghost receives = { λ old room octets new. BothSo (λ before after. BothSo (ReceivesInTime L.Stream.receives C.reads room octets before.acceptor.clock after.acceptor.clock) before.current after.current × (after.acceptor ≡ record before.acceptor { clock = after.acceptor.clock })) old.clients new.clients };
 
-    ghost sends = { λ old octets new. BothSo (λ before after. BothSo (SendsInTime L.Stream.sends C.reads octets before.acceptor.clock after.acceptor.clock) before.current after.current × (after.acceptor ≡ record before.acceptor { clock = after.acceptor.clock })) old.clients new.clients };
+    ghost sends = { λ old from count new. BothSo (λ before after. BothSo (SendsInTime L.Stream.sends C.reads from count before.acceptor.clock after.acceptor.clock) before.current after.current × (after.acceptor ≡ record before.acceptor { clock = after.acceptor.clock })) old.clients new.clients };
 
-    ghost receives_nothing = { λ old new. NoneOrBothSo (λ before after. NoneOrBothSo (ReceivesNothing L.Stream.receives C.reads before.acceptor.clock after.acceptor.clock) before.current after.current × (after.acceptor ≡ record before.acceptor { clock = after.acceptor.clock })) old.clients new.clients };
+    ghost receives_nothing = { λ old room new. NoneOrBothSo (λ before after. NoneOrBothSo (ReceivesNothing L.Stream.receives C.reads room before.acceptor.clock after.acceptor.clock) before.current after.current × (after.acceptor ≡ record before.acceptor { clock = after.acceptor.clock })) old.clients new.clients };
 
-    ghost sends_nothing = { λ old new. NoneOrBothSo (λ before after. NoneOrBothSo (SendsNothing L.Stream.sends C.reads before.acceptor.clock after.acceptor.clock) before.current after.current × (after.acceptor ≡ record before.acceptor { clock = after.acceptor.clock })) old.clients new.clients };
+    ghost sends_nothing = { λ old from new. NoneOrBothSo (λ before after. NoneOrBothSo (SendsNothing L.Stream.sends C.reads from before.acceptor.clock after.acceptor.clock) before.current after.current × (after.acceptor ≡ record before.acceptor { clock = after.acceptor.clock })) old.clients new.clients };
 
     // Who waits, the listener and the next key stay as they are, and nobody is served.
     ghost finishes = { λ old new. NoneOrBothSo (λ before after. Finishes L.Stream.ends L.Stream.closes L.Stream.gives C.reads before.current (state before.acceptor) (state after.acceptor) × IsNone after.current) old.clients new.clients };

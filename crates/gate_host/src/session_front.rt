@@ -50,15 +50,16 @@ impl<L: SessionListener + Drop> SessionFront<L> {
         Failed
     }
 
-    /// Lets go of the client that there may be, and waits for the next one.
+    /// Closes the client that there may be, and waits for the next one.
     pub fn next_client(&mut self) -> Result<(), Failed>
+        ensures closed { ClosedBy L.closes self.old.listener self.old.current }
         ensures given { GivenBy (λ listener. L.accepts listener SESSION_READ_SECONDS SESSION_WRITE_SECONDS) self.old.listener self.new.current }
         ensures ok { OnOk result (IsSome self.new.current) }
         ensures same { OnOk result (self.new ≡ record self.old { current = self.new.current }) }
         ensures err { OnErr result (self.new ≡ record self.old { current = None; faults = one_more self.old.faults }) }
         ensures later { self.old.faults ≤ self.new.faults }
     {
-        self.current = None;
+        self.close_client();
         self.current = match &self.listener {
             None => None,
             Some(listener) => listener.accept(SESSION_READ_SECONDS, SESSION_WRITE_SECONDS),
@@ -124,7 +125,7 @@ impl<L: SessionListener + Drop> SessionFront<L> {
 }
 
 impl<L: SessionListener + Drop> Clients for SessionFront<L> {
-    ghost use Rattle.std.specs.Prelude.{◌≡◌, None, true, IsSome, MatchResult};
+    ghost use Rattle.std.specs.Prelude.{◌≡◌, None, true, IsSome, MatchResult, take};
     ghost use Rattle.std.specs.Io.KnownBytes.{Appends, Consumes};
     ghost use Rattle.gate_host.specs.Faults.{one_more};
     ghost use Rattle.gate_host.specs.Sessions.{ClosedBy, GivenBy};
@@ -139,22 +140,23 @@ impl<L: SessionListener + Drop> Clients for SessionFront<L> {
     ghost takes = { λ _. None };
 
     ghost accepts = { λ old result new.
-        GivenBy (λ listener. L.accepts listener SESSION_READ_SECONDS SESSION_WRITE_SECONDS) old.listener new.current
+        ClosedBy L.closes old.listener old.current
+        × GivenBy (λ listener. L.accepts listener SESSION_READ_SECONDS SESSION_WRITE_SECONDS) old.listener new.current
         × MatchResult result
         (λ came. (came ≡ true) × IsSome new.current × (new ≡ record old { current = new.current }))
         (λ _. new ≡ record old { current = None; faults = one_more old.faults }) };
 
-    ghost receives = { λ old octets new.
+    ghost receives = { λ old room octets new.
         Consumes (known_of L.Stream.remaining old.current) (known_of L.Stream.remaining new.current) octets
         × IsSome new.current × (new ≡ record old { current = new.current }) };
 
-    ghost sends = { λ old octets new.
-        Appends (known_of L.Stream.contents old.current) (known_of L.Stream.contents new.current) octets
+    ghost sends = { λ old from count new.
+        Appends (known_of L.Stream.contents old.current) (known_of L.Stream.contents new.current) (take count from)
         × IsSome new.current × (new ≡ record old { current = new.current }) };
 
-    ghost receives_nothing = { λ old new. new ≡ record old { current = new.current; faults = one_more old.faults } };
+    ghost receives_nothing = { λ old room new. new ≡ record old { current = new.current; faults = one_more old.faults } };
 
-    ghost sends_nothing = { λ old new. new ≡ record old { current = new.current; faults = one_more old.faults } };
+    ghost sends_nothing = { λ old from new. new ≡ record old { current = new.current; faults = one_more old.faults } };
 
     ghost ends = { λ old new. new ≡ old };
 

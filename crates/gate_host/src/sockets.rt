@@ -13,8 +13,8 @@ pub trait Dialer {
     /// A stream to a store. Its reads and writes may fail, and a read gives 0 where the store has closed it.
     type Stream: Read + Write + Drop;
 
-    /// The addresses that a look-up of this name may give, in order; None where it fails.
-    ghost looks_up: { Self → List ℕ → Option (List SocketAddr) → Type 0 };
+    /// The addresses that a look-up of this name may give, so many at most, in order; None where it fails.
+    ghost looks_up: { Self → List ℕ → ℕ → Option (List SocketAddr) → Type 0 };
 
     /// The stream that a dial of this address may give, where the dial, each read and each write may wait this many
     /// seconds; None where it fails.
@@ -23,7 +23,7 @@ pub trait Dialer {
     /// Puts the addresses of a store, `host:port`, at the front of the room, in order; how many, or none where it has none.
     fn addresses(&self, store: &str, room: &mut [SocketAddr]) -> Option<usize>
         ensures bound { IfSome result (λ n. n ≤ length room.new) }
-        ensures found { looks_up self.now store.now (option_map (λ n. take n room.new) result) };
+        ensures found { looks_up self.now store.now (length room.old) (option_map (λ n. take n room.new) result) };
 
     /// A new stream to the address. The dial, each read and each write wait at most n seconds. None where it fails.
     fn dial(&self, address: SocketAddr, limit_seconds: u64) -> Option<Self::Stream>

@@ -84,7 +84,7 @@ impl<I: Read + Drop, O: Write + Drop> StandardFront<I, O> {
 }
 
 impl<I: Read + Drop, O: Write + Drop> Clients for StandardFront<I, O> {
-    ghost use Rattle.std.specs.Prelude.{◌≡◌, Ok, true, not};
+    ghost use Rattle.std.specs.Prelude.{◌≡◌, Ok, true, not, take};
     ghost use Rattle.gate_host.specs.Faults.{one_more};
     ghost use Rattle.std.specs.Io.KnownBytes.{Appends, Consumes};
 
@@ -97,13 +97,13 @@ impl<I: Read + Drop, O: Write + Drop> Clients for StandardFront<I, O> {
     // One client comes, the first time alone, and accepting never fails.
     ghost accepts = { λ old result new. (result ≡ Ok (not old.has_come)) × (new ≡ record old { has_come = true }) };
 
-    ghost receives = { λ old octets new. Consumes (I.remaining old.input) (I.remaining new.input) octets };
+    ghost receives = { λ old room octets new. Consumes (I.remaining old.input) (I.remaining new.input) octets };
 
-    ghost sends = { λ old octets new. Appends (O.contents old.output) (O.contents new.output) octets };
+    ghost sends = { λ old from count new. Appends (O.contents old.output) (O.contents new.output) (take count from) };
 
-    ghost receives_nothing = { λ old new. new ≡ record old { input = new.input; faults = one_more old.faults } };
+    ghost receives_nothing = { λ old room new. new ≡ record old { input = new.input; faults = one_more old.faults } };
 
-    ghost sends_nothing = { λ old new. new ≡ record old { output = new.output; faults = one_more old.faults } };
+    ghost sends_nothing = { λ old from new. new ≡ record old { output = new.output; faults = one_more old.faults } };
 
     ghost finishes = { λ old new. new ≡ old };
 

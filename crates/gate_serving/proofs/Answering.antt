@@ -54,7 +54,7 @@ use Rattle.gate_serving.specs.Segment.{blame_front}
 use Rattle.gate_serving.specs.Run.{AddsSegment}
 use Rattle.gate_serving.specs.RequestWork.{RequestWork, NoMail, WithMail}
 use Rattle.gate_serving.specs.reading.OneMail.{AsksFirst, IsAnswer, IsResponse}
-use Rattle.gate_serving.specs.reading.Replying.{Finishes, IsMade, AnswersTo, machine_left, RepliesToAsking, IsUnread, RepliesBy, SendsReply, Serves}
+use Rattle.gate_serving.specs.reading.Replying.{Finishes, IsMade, AnswersTo, MakesAtOnce, machine_left, RepliesToAsking, IsUnread, RepliesBy, SendsReply, Serves}
 use Rattle.gate_serving.specs.Gates.{GateHolds, RestStays, account_by}
 use Rattle.gate_serving.specs.reading.Texts.{text_sent}
 use Rattle.gate_serving.proofs.Doing.{all_asked, does_over_mail, does_without, lacks_over_mail, lacks_without}
@@ -181,7 +181,7 @@ made_over {asking = asking} {begun = begun} before after gone (Err e) needs same
 
 -- the way to the mail, and then the answer over it
 pub answers_over : {machine : Machine} {client : ClientState} {how : MailStatus} {was then now : Faults} {xs ys : List Event} (gate before : Gate) (secrets : Hidden)
-    (asking : Asking) (result : Result Response AllocError) (s : GateState) (begun : BeginsTo before.user secrets.password s.machine machine client how was then xs)
+    (asking : Asking) (result : Result Response AllocError) (s : GateState) (begun : BeginsTo before.account.user secrets.password s.machine machine client how was then xs)
     → Finishes before.door (account_by before secrets) before.uploads asking begun.after gate.machine was now result ys → GateHolds s before
     → asks_for_mail asking ≡ true → gate.uploads ≡ before.uploads
     → (t : GateState) × GateHolds t gate × AnswersTo before.door (account_by before secrets) asking s t was now result (xs ++ ys)
@@ -218,12 +218,12 @@ finishes_nothing {uploads = uploads} {asking = asking} {client = client} {p = p}
 
 -- the way to the mail, and then what finishes the answer, whoever's the user's text and the secrets were called
 pub answers_on : {machine : Machine} {client : ClientState} {how : MailStatus} {was then now : Faults} {xs ys : List Event} {user : List ℕ} {h : Hidden} (gate before : Gate)
-    (secrets : Hidden) (asking : Asking) (result : Result Response AllocError) (s : GateState) → user ≡ before.user → h ≡ secrets → asks_for_mail asking ≡ true
+    (secrets : Hidden) (asking : Asking) (result : Result Response AllocError) (s : GateState) → user ≡ before.account.user → h ≡ secrets → asks_for_mail asking ≡ true
     → gate.uploads ≡ before.uploads → BeginsTo user secrets.password s.machine machine client how was then xs
     → ((p : Progress) → CameTo machine client how was then p → Finishes before.door (account_by before h) before.uploads asking p gate.machine was now result ys)
     → GateHolds s before → (t : GateState) × GateHolds t gate × AnswersTo before.door (account_by before secrets) asking s t was now result (xs ++ ys)
 answers_on {machine} {client} {how} {was} {then} {now} {xs} {ys} gate before secrets asking result s user_is h_is needs same begins finishes holds =
-    let begun : BeginsTo before.user secrets.password s.machine machine client how was then xs =
+    let begun : BeginsTo before.account.user secrets.password s.machine machine client how was then xs =
     subst (λ (u : List ℕ). BeginsTo u secrets.password s.machine machine client how was then xs) user_is begins in
     answers_over gate before secrets asking result s begun
     (subst (λ (x : Hidden). Finishes before.door (account_by before x) before.uploads asking begun.after gate.machine was now result ys) h_is
@@ -377,13 +377,13 @@ no_asks account e uploads (Refused refusal) asks answer is = is.0
 
 -- the response without mail, once the link life is over
 pub finished_untold : {door : Door} {account : Account} {uploads : List (List ℕ)} {asking : Asking} {machine kept : Machine} {client : ClientState} {how : MailFailure} {p : Progress}
-    {was then now : Faults} {ys : List Event} {over : CallContext} (error : MethodError) (result : Result Response AllocError) → asks_for_mail asking ≡ true
+    {was then now : Faults} {ys : List Event} {over : CallContext} (error : MethodError) (result : Result Response AllocError)
     → CameTo machine client (Unserved how) was then p → error ≡ error_of how → HangsUp client.alive ys → NoFault then now
     → ((r : Response) → result ≡ Ok r → (asks : List BodyAsk) × ((o : MailAndUploads) → AreOf o over → IsResponse door account o asking asks (text_sent r)))
     → AreOf (record { mail = Err error; uploads = uploads }) over → HoldsMachine (machine_left result p.machine) kept
     → Finishes door account uploads asking p kept was now result ys
 finished_untold {uploads = uploads} {asking = asking} {client = client} {p = p} {was = was} {then = then} {now = now} {ys = ys} error
-    (Err e) needs came is hangs same made of held =
+    (Err e) came is hangs same made of held =
     record {
       asks = [];
       answered = p;
@@ -397,7 +397,7 @@ finished_untold {uploads = uploads} {asking = asking} {client = client} {p = p} 
       made = none_due (AsksFirst (record { mail = mail_at p; uploads = uploads }) asking);
     }
 finished_untold {door} {account} {uploads} {asking} {client = client} {how = how} {p = p} {was = was} {then = then} {now = now} {ys = ys} error
-    (Ok r) needs came is hangs same made of held =
+    (Ok r) came is hangs same made of held =
     let so = made r refl in
     let response : IsResponse door account (record { mail = Err error; uploads = uploads }) asking so.0 (text_sent r) = so.1 (record { mail = Err error; uploads = uploads }) of in
     let none : so.0 ≡ [] = no_asks account error uploads asking so.0 response.answer response.is_answer in
@@ -444,8 +444,7 @@ kept_left {m} taken kept (Err e) held kept_is none = holds_none (forgotten m) ke
 pub answers_at_once : (gate before : Gate) (secrets : Hidden) (asking : Asking) (result : Result Response AllocError) (f : Faults) (s : GateState) → GateHolds s before
     → asks_for_mail asking ≡ false → RestStays before gate → HoldsMachine (machine_left result s.machine) gate.machine
     → MayKeepUpload asking before.uploads gate.uploads
-    → IfOk result (λ r. KeepsUpload asking before.uploads gate.uploads × ((h : Hidden) → (asks : List BodyAsk)
-    × IsResponse gate.door (account_by gate h) (record { mail = Err ServerUnavailable; uploads = gate.uploads }) asking asks (text_sent r)))
+    → IfOk result (MakesAtOnce asking before gate)
     → OnErr result (TakesMemory asking)
     → (t : GateState) × GateHolds t gate × AnswersTo before.door (account_by before secrets) asking s t f f result []
 answers_at_once gate before secrets asking (Err e) f s holds needless rest held may made takes = (
@@ -485,8 +484,7 @@ answers_at_once gate before secrets asking (Ok r) f s holds needless rest held m
 pub at_once : (gate mid before : Gate) (secrets : Hidden) (asking : Asking) (result made : Result Response AllocError) (f : Faults) → asks_for_mail asking ≡ false
     → RestStays before mid → mid.machine ≡ before.machine → result ≡ made → OnOk result (gate ≡ mid) → OnErr result (gate ≡ record mid { machine = unready mid.machine })
     → MayKeepUpload asking before.uploads mid.uploads
-    → IfOk made (λ r. KeepsUpload asking before.uploads mid.uploads × ((h : Hidden) → (asks : List BodyAsk)
-    × IsResponse mid.door (account_by mid h) (record { mail = Err ServerUnavailable; uploads = mid.uploads }) asking asks (text_sent r)))
+    → IfOk made (MakesAtOnce asking before mid)
     → OnErr made (TakesMemory asking)
     → (s : GateState) → GateHolds s before → (t : GateState) × GateHolds t gate × AnswersTo before.door (account_by before secrets) asking s t f f result []
 at_once gate mid before secrets asking (Ok r) made f needless rest same is gate_is gone may made_so takes s holds =
@@ -495,15 +493,12 @@ at_once gate mid before secrets asking (Ok r) made f needless rest same is gate_
     (subst (λ (g : Gate). RestStays before g) mid_is rest)
     (subst (λ (g : Gate). HoldsMachine s.machine g.machine) mid_is (subst (λ (m : Machine). HoldsMachine s.machine m) (sym same) holds.machine))
     (subst (λ (g : Gate). MayKeepUpload asking before.uploads g.uploads) mid_is may)
-    (subst (λ (g : Gate). KeepsUpload asking before.uploads g.uploads × ((h : Hidden) → (asks : List BodyAsk)
-    × IsResponse g.door (account_by g h) (record { mail = Err ServerUnavailable; uploads = g.uploads }) asking asks (text_sent r))) mid_is
-    (subst (λ (x : Result Response AllocError). IfOk x (λ r. KeepsUpload asking before.uploads mid.uploads × ((h : Hidden) → (asks : List BodyAsk)
-    × IsResponse mid.door (account_by mid h) (record { mail = Err ServerUnavailable; uploads = mid.uploads }) asking asks (text_sent r)))) (sym is) made_so))
+    (subst (λ (g : Gate). MakesAtOnce asking before g r) mid_is (subst (λ (x : Result Response AllocError). IfOk x (MakesAtOnce asking before mid)) (sym is) made_so))
     tt
 at_once gate mid before secrets asking (Err e) made f needless rest same is gate_is gone may made_so takes s holds =
     let mid_is : record mid { machine = unready mid.machine } ≡ gate = sym gone in
     answers_at_once gate before secrets asking (Err e) f s holds needless
-    (subst (λ (g : Gate). RestStays before g) mid_is (record { door = rest.door; user = rest.user; base = rest.base }))
+    (subst (λ (g : Gate). RestStays before g) mid_is (record { door = rest.door; account = rest.account }))
     (subst (λ (g : Gate). HoldsMachine (forgotten s.machine) g.machine) mid_is (holds_none s.machine (unready mid.machine) refl))
     (subst (λ (g : Gate). MayKeepUpload asking before.uploads g.uploads) mid_is may)
     tt
@@ -511,17 +506,15 @@ at_once gate mid before secrets asking (Err e) made f needless rest same is gate
 
 -- ---- the answer
 
--- what needs no mail is answered so
-pub made_for : (gate : Gate) (asking asked : Asking) (answer : Answer) (result : Result Response AllocError) → asked ≡ asking
+-- what needs no mail is answered so, by a gate that keeps what is uploaded
+pub made_for : (before gate : Gate) (asking asked : Asking) (answer : Answer) (result : Result Response AllocError) → asked ≡ asking
+    → KeepsUpload asking before.uploads gate.uploads
     → ((s : Hidden) → IsAnswer (account_by gate s) (record { mail = Err ServerUnavailable; uploads = gate.uploads }) asking [] answer)
-    → IfOk result (λ r. text_sent r ≡ spelled gate.door answer)
-    → IfOk result (λ r. (s : Hidden) → (asks : List BodyAsk)
-    × IsResponse gate.door (account_by gate s) (record { mail = Err ServerUnavailable; uploads = gate.uploads }) asked asks (text_sent r))
-made_for gate asking asked answer (Ok r) is is_answer text_is = λ s.
-    let made : IsResponse gate.door (account_by gate s) (record { mail = Err ServerUnavailable; uploads = gate.uploads }) asking [] (text_sent r) =
-    record { answer = answer; is_answer = is_answer s; text_is = text_is } in
-    ([], subst (λ (a : Asking). IsResponse gate.door (account_by gate s) (record { mail = Err ServerUnavailable; uploads = gate.uploads }) a [] (text_sent r)) (sym is) made)
-made_for gate asking asked answer (Err e) is is_answer text_is = tt
+    → IfOk result (λ r. text_sent r ≡ spelled gate.door answer) → IfOk result (MakesAtOnce asked before gate)
+made_for before gate asking asked answer (Ok r) is keeps is_answer text_is =
+    let made : MakesAtOnce asking before gate r = (keeps, (λ s. ([], record { answer = answer; is_answer = is_answer s; text_is = text_is }))) in
+    subst (λ (a : Asking). MakesAtOnce a before gate r) (sym is) made
+made_for before gate asking asked answer (Err e) is keeps is_answer text_is = tt
 
 -- ---- the reply to what is asked
 

@@ -13,12 +13,32 @@ use Rattle.jmap_core.specs.declared.request.LimitName.TheVariants.{MaxSizeUpload
 use Rattle.jmap_core.specs.declared.request.RequestError.{RequestError}
 use Rattle.jmap_core.specs.declared.request.RequestError.TheVariants.{NotJson, NotRequest, UnknownCapability, Limit, Memory}
 use Rattle.gate_serving.specs.declared.asking.Asking.{Asking as Asked}
-use Rattle.gate_serving.specs.declared.asking.Asking.TheVariants as asked
+use Rattle.gate_serving.specs.declared.asking.Asking.TheVariants.{AtOnce}
+use Rattle.gate_serving.specs.declared.asking.AskingAtOnce.{AskingAtOnce}
+use Rattle.gate_serving.specs.declared.asking.AskingAtOnce.TheVariants as at_once
+use Rattle.gate_serving.specs.declared.asking.AskingOverMail.{AskingOverMail}
+use Rattle.gate_serving.specs.declared.asking.AskingOverMail.TheVariants as over_mail
 use Rattle.gate_serving.specs.declared.door.Door.TheVariants.{Bare, Http}
+use Rattle.gate_serving.specs.declared.front.Input.TheVariants.{Whole}
 use Rattle.gate_serving.specs.Front.{GivesRequest}
-use Rattle.gate_serving.specs.Requests.{Asking, Calls, Problem, Upload, asked_by, upload_asked}
+use Rattle.gate_serving.specs.Requests.{Asking, Calls, Problem, Upload, asked_by, asks_for_mail, upload_asked}
 use Rattle.jmap_arguments.specs.Arguments.{account_id}
-use Rattle.gate_serving.specs.reading.Askings.{AsksInBody, IsNoRequest, AsksOf, ReadsInto}
+use Rattle.gate_serving.specs.reading.Askings.{AsksInBody, IsNoRequest, AsksOf, ReadsInto, at_once_data, over_mail_data}
+
+-- ---- the mail
+
+-- what is answered at once needs no mail
+pub needless : (asking : AskingAtOnce) → asks_for_mail (at_once_data asking) ≡ false
+needless (at_once.Calls calls) = calls.needless
+needless (at_once.Problem error) = refl
+needless at_once.Session = refl
+needless (at_once.Upload upload) = refl
+needless (at_once.Refused refusal) = refl
+
+-- what is answered over the mail needs it
+pub needed : (asking : AskingOverMail) → asks_for_mail (over_mail_data asking) ≡ true
+needed (over_mail.Calls calls) = calls.needs
+needed (over_mail.Download blob media) = refl
 
 -- ---- a body
 
@@ -26,7 +46,7 @@ use Rattle.gate_serving.specs.reading.Askings.{AsksInBody, IsNoRequest, AsksOf, 
 pub request_in_body : (body : List ℕ) (request : RequestData) → requested body ≡ Ok request → Calls request ≡ asked_by (requested body)
 request_in_body body request is = sym (ap asked_by is)
 
-problem_in_body : (body : List ℕ) (e : RequestError) (result : Result Asked AskError) → result ≡ Ok (asked.Problem e) → requested body ≡ Err e → AsksInBody body result
+problem_in_body : (body : List ℕ) (e : RequestError) (result : Result Asked AskError) → result ≡ Ok (AtOnce (at_once.Problem e)) → requested body ≡ Err e → AsksInBody body result
 problem_in_body body e result is why = subst (λ (r : Result Asked AskError). AsksInBody body r) (sym is) (sym (ap asked_by why))
 
 -- a body that is no request asks the problem that it has, or memory ran out
@@ -47,7 +67,7 @@ never_ended body (Ok asking) is ended = absurd (cc ended)
 never_ended body (Err e) is ended = absurd (cc (is, ended))
 
 -- at the bare door a request is all that the client gives
-pub read_in_body : (token body : List ℕ) (result : Result Asked AskError) (events : List Event) → GivesRequest (Ok body) events → AsksInBody body result
+pub read_in_body : (token body : List ℕ) (result : Result Asked AskError) (events : List Event) → GivesRequest (Ok (Whole body)) events → AsksInBody body result
     → ReadsInto Bare token result events
 read_in_body token body (Ok asking) events gives is = inl (body, gives, is)
 read_in_body token body (Err unread.Memory) events gives is = inr (body, gives)

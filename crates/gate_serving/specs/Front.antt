@@ -6,8 +6,6 @@ use Rattle.gate_world.specs.declared.unread.FillError.{FillError}
 use Rattle.gate_world.specs.declared.unread.FillError.TheVariants as fill
 use Rattle.gate_world.specs.Octets.{Asks}
 use Rattle.http_requests.specs.declared.ask.TheConstants.{MAX_REQUEST_OCTETS}
-use Rattle.gate_serving.specs.declared.front.InputError.{InputError}
-use Rattle.gate_serving.specs.declared.front.InputError.TheVariants as ask
 use Rattle.gate_serving.specs.declared.front.FrontError.{FrontError}
 use Rattle.gate_serving.specs.declared.front.FrontError.TheVariants as front
 use Rattle.gate_serving.specs.declared.front.Input.{Input}
@@ -35,9 +33,6 @@ GivesInput most (Err front.Memory) events = (asks : List Event) × (gave : List 
 abbrev pub request_limit : ℕ
 request_limit = MAX_REQUEST_OCTETS
 
--- A request's body is the client's whole input; or it gave one octet too many; or the front failed before; or memory ran out.
-abbrev pub GivesRequest : Result (List ℕ) InputError → List Event → Type 0
-GivesRequest (Ok octets) events = GivesInput (request_limit + 1) (Ok (Whole octets)) events
-GivesRequest (Err ask.TooLarge) events = (octets : List ℕ) × GivesInput (request_limit + 1) (Ok (Cut octets)) events
-GivesRequest (Err ask.Failed) events = GivesInput (request_limit + 1) (Err front.Failed) events
-GivesRequest (Err ask.Memory) events = GivesInput (request_limit + 1) (Err front.Memory) events
+-- What the client gives where a request is all of it: no more than one octet past the limit is read.
+abbrev pub GivesRequest : Result Input FrontError → List Event → Type 0
+GivesRequest result events = GivesInput (request_limit + 1) result events

@@ -15,7 +15,8 @@ use Rattle.jmap_core.specs.declared.request.RequestError.TheVariants.{Limit}
 use Rattle.jmap_core.specs.declared.request.LimitName.TheVariants.{MaxSizeRequest, MaxSizeUpload}
 use Rattle.gate_serving.specs.declared.door.Door.{Door}
 use Rattle.gate_serving.specs.declared.door.Door.TheVariants.{Bare, Http}
-use Rattle.gate_serving.specs.declared.front.InputError.TheVariants.{Failed, TooLarge, Memory}
+use Rattle.gate_serving.specs.declared.front.FrontError.TheVariants as front
+use Rattle.gate_serving.specs.declared.front.Input.TheVariants.{Whole, Cut}
 use Rattle.gate_calls.specs.Calls.{needs_mail}
 use Rattle.gate_serving.specs.Front.{GivesRequest}
 
@@ -72,11 +73,11 @@ asked_over_http http.UploadTooLarge = Problem (Limit MaxSizeUpload)
 -- the client gives; no more than one octet past the limit is read.
 abbrev pub ReadsAsking : Door → List ℕ → Result Asking AskError → List Event → Type 0
 ReadsAsking Bare token (Ok asking) events =
-    ((octets : List ℕ) × GivesRequest (Ok octets) events × (asking ≡ asked_by (requested octets)))
-    ⊎ (GivesRequest (Err TooLarge) events × (asking ≡ Problem (Limit MaxSizeRequest)))
+    ((octets : List ℕ) × GivesRequest (Ok (Whole octets)) events × (asking ≡ asked_by (requested octets)))
+    ⊎ ((octets : List ℕ) × GivesRequest (Ok (Cut octets)) events × (asking ≡ Problem (Limit MaxSizeRequest)))
 ReadsAsking Bare token (Err unread.Ended) events = ⊥
-ReadsAsking Bare token (Err unread.Failed) events = GivesRequest (Err Failed) events
-ReadsAsking Bare token (Err unread.Memory) events = GivesRequest (Err Memory) events ⊎ ((octets : List ℕ) × GivesRequest (Ok octets) events)
+ReadsAsking Bare token (Err unread.Failed) events = GivesRequest (Err front.Failed) events
+ReadsAsking Bare token (Err unread.Memory) events = GivesRequest (Err front.Memory) events ⊎ ((octets : List ℕ) × GivesRequest (Ok (Whole octets)) events)
 ReadsAsking Http token (Ok asking) events = (asked : HttpAsking) × AsksOverHttp token account_id (Ok asked) events × (asking ≡ asked_over_http asked)
 ReadsAsking Http token (Err unread.Memory) events =
     AsksOverHttp token account_id (Err unread.Memory) events ⊎ ((body : List ℕ) × AsksOverHttp token account_id (Ok (http.Calls body)) events)

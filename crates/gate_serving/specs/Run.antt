@@ -1,5 +1,5 @@
 -- Clients one after another.
-use Rattle.std.specs.Prelude.{◌≡◌, ◌⊎◌, ◌<◌, ◌+◌, ◌-◌, ◌^◌, ◌++◌, ℕ, List, [], ◌∷◌, length, All, Result, Ok, Err}
+use Rattle.std.specs.Prelude.{◌≡◌, ◌⊎◌, ◌<◌, ◌+◌, ◌-◌, ◌^◌, ◌++◌, ℕ, List, [], ◌∷◌, length, All, Option, Some, None}
 use Rattle.gate_world.specs.Causes.{Faults, Hidden, no_faults}
 use Rattle.gate_world.specs.declared.event.Event.{Event}
 use Rattle.gate_world.specs.declared.event.Event.TheVariants.{Word}
@@ -8,8 +8,6 @@ use Rattle.gate_machine.specs.Progress.{Bears}
 use Rattle.gate_serving.specs.declared.door.Door.{Door}
 use Rattle.gate_serving.specs.declared.outcomes.ClientOutcome.{ClientOutcome}
 use Rattle.gate_serving.specs.declared.outcomes.ClientOutcome.TheVariants as served
-use Rattle.gate_serving.specs.declared.outcomes.OpenError.{OpenError}
-use Rattle.gate_serving.specs.declared.outcomes.OpenError.TheVariants as opening
 use Rattle.gate_serving.specs.GateState.{GateState, new_state}
 use Rattle.gate_serving.specs.Requests.{Account}
 use Rattle.gate_serving.specs.Segment.{Segment, blamed}
@@ -89,6 +87,6 @@ abbrev pub account_of : Place → Hidden → Account
 account_of place secrets = record { user = place.user; password = secrets.password; token = secrets.token; base = place.base }
 
 -- What opening a gate adds, and what the gate holds: an epoch is drawn; or there is no memory for it, before that or then.
-abbrev pub Opens : Result GateState OpenError → List Event → Type 0
-Opens (Ok s) events = (epoch : ℕ) × (events ≡ Word epoch ∷ []) × (s ≡ new_state epoch)
-Opens (Err opening.Memory) events = (events ≡ []) ⊎ ((epoch : ℕ) × (events ≡ Word epoch ∷ []))
+abbrev pub Opens : Option GateState → List Event → Type 0
+Opens (Some s) events = (epoch : ℕ) × (events ≡ Word epoch ∷ []) × (s ≡ new_state epoch)
+Opens None events = (events ≡ []) ⊎ ((epoch : ℕ) × (events ≡ Word epoch ∷ []))

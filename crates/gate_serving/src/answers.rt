@@ -17,6 +17,7 @@ ghost use Rattle.gate_calls.specs.Mailings.{AreOf, MailAndUploads};
 ghost use Rattle.gate_serving.specs.Answers.{Answer, DownloadAsks, IsDownload, calls_text as text_of_calls, found_answer, json_answer, problem_answer, spelled, untold_problem, upload_data};
 ghost use Rattle.gate_serving.specs.reading.Texts.{text_sent};
 
+use crate::account::Account;
 use crate::door::Door;
 use crate::response::Response;
 use crate::upload::Upload;
@@ -33,7 +34,7 @@ use jmap_core::{
     response_text, session_object, session_state,
 };
 use mail_state::MailState;
-use octets::{Bytes, Text};
+use octets::Bytes;
 use result_references::Call;
 use serde_json::{Value, json};
 use std::alloc::{AllocError, Global};
@@ -45,15 +46,14 @@ const _: () = prove!(MAX_SIZE_UPLOAD == MAX_UPLOAD_OCTETS as u64);
 
 fn calls_text(
     alloc: Global,
-    user: &Text,
-    base: &Text,
+    account: &Account,
     responses: &[Call],
     request: &Request,
 ) -> Result<String, AllocError>
     requires { All IsWhole responses.now }
-    ensures { IfOk result (λ text. string_bytes text ≡ text_of_calls user.now base.now (map call_data responses.now) (request_data request.now).created) }
+    ensures { IfOk result (λ text. string_bytes text ≡ text_of_calls account.now.user account.now.base (map call_data responses.now) (request_data request.now).created) }
 {
-    let session = session_state(alloc, user.as_str(), base.as_str())?;
+    let session = session_state(alloc, account.user.as_str(), account.base.as_str())?;
     response_text(alloc, responses, request.created.as_ref(), session.as_str())
 }
 
@@ -74,16 +74,15 @@ fn json_response(
 fn responses_answer(
     alloc: Global,
     door: Door,
-    user: &Text,
-    base: &Text,
+    account: &Account,
     responses: &[Call],
     request: &Request,
 ) -> Result<Response, AllocError>
     requires { All IsWhole responses.now }
     ensures { IfOk result (λ r. text_sent r
-        ≡ spelled door (json_answer 200 (text_of_calls user.now base.now (map call_data responses.now) (request_data request.now).created))) }
+        ≡ spelled door (json_answer 200 (text_of_calls account.now.user account.now.base (map call_data responses.now) (request_data request.now).created))) }
 {
-    let text = calls_text(alloc, user, base, responses, request)?;
+    let text = calls_text(alloc, account, responses, request)?;
     json_response(alloc, door, StatusCode::OK, text)
 }
 
@@ -91,8 +90,7 @@ fn responses_answer(
 pub fn calls_response<W, B: BodySource<W>>(
     alloc: Global,
     door: Door,
-    user: &Text,
-    base: &Text,
+    account: &Account,
     over: &CallContext<'_>,
     bodies: &mut B,
     world: &mut W,
@@ -101,7 +99,7 @@ pub fn calls_response<W, B: BodySource<W>>(
     ensures { AsksAndMakes B.answers B.lacks (bodies.old, world.old) (bodies.new, world.new) result
         (λ r asks. (o : MailAndUploads) → AreOf o over.now → (responses : List CallData)
         × AnswersCalls (request_data request.now).uses o (request_data request.now).calls asks responses
-        × (text_sent r ≡ spelled door (json_answer 200 (text_of_calls user.now base.now responses (request_data request.now).created))))
+        × (text_sent r ≡ spelled door (json_answer 200 (text_of_calls account.now.user account.now.base responses (request_data request.now).created))))
         (λ asks. (o : MailAndUploads) → AreOf o over.now → FirstCallsAsk (request_data request.now).uses o (request_data request.now).calls asks) }
 {
     let responses = responses_to(
@@ -112,7 +110,7 @@ pub fn calls_response<W, B: BodySource<W>>(
         request.using,
         request.calls.as_slice(),
     )?;
-    responses_answer(alloc, door, user, base, responses.as_slice(), request)
+    responses_answer(alloc, door, account, responses.as_slice(), request)
 }
 
 fn status_of(error: RequestError) -> StatusCode
@@ -142,10 +140,10 @@ pub fn problem_response(
     Response::new(alloc, door, status_of(error), &problem_media(), body)
 }
 
-fn session_text(alloc: Global, user: &Text, base: &Text) -> Result<String, AllocError>
-    ensures { IfOk result (λ text. string_bytes text ≡ compact_text (session_data user.now base.now)) }
+fn session_text(alloc: Global, account: &Account) -> Result<String, AllocError>
+    ensures { IfOk result (λ text. string_bytes text ≡ compact_text (session_data account.now.user account.now.base)) }
 {
-    let session = session_object(alloc, user.as_str(), base.as_str())?;
+    let session = session_object(alloc, account.user.as_str(), account.base.as_str())?;
     session.to_string(alloc)
 }
 
@@ -153,12 +151,11 @@ fn session_text(alloc: Global, user: &Text, base: &Text) -> Result<String, Alloc
 pub fn session_response(
     alloc: Global,
     door: Door,
-    user: &Text,
-    base: &Text,
+    account: &Account,
 ) -> Result<Response, AllocError>
-    ensures { IfOk result (λ r. text_sent r ≡ spelled door (json_answer 200 (compact_text (session_data user.now base.now)))) }
+    ensures { IfOk result (λ r. text_sent r ≡ spelled door (json_answer 200 (compact_text (session_data account.now.user account.now.base)))) }
 {
-    let text = session_text(alloc, user, base)?;
+    let text = session_text(alloc, account)?;
     json_response(alloc, door, StatusCode::OK, text)
 }
 

@@ -2,10 +2,9 @@
 ghost use Rattle.std.specs.Prelude.{◌≡◌, IsErrOf};
 ghost use Rattle.gate_world.specs.Causes.{Rose, FrontAlone};
 ghost use Rattle.gate_world.specs.Tape.{Adds};
-ghost use Rattle.gate_serving.specs.Front.{input_octets, GivesInput, GivesRequest};
+ghost use Rattle.gate_serving.specs.Front.{input_octets, GivesInput};
 
 use gate_world::{Failed, FillError, Front, Unread};
-use http_requests::MAX_REQUEST_OCTETS;
 use octets::Bytes;
 use std::alloc::{AllocError, Global};
 
@@ -74,17 +73,6 @@ impl From<AllocError> for FrontError {
     }
 }
 
-/// Why there is no request.
-#[derive(Clone, Copy, Debug, PartialEq, Eq)]
-pub enum InputError {
-    /// The front failed.
-    Failed,
-    /// More octets than a body has at most.
-    TooLarge,
-    /// Out of memory.
-    Memory,
-}
-
 /// The client's octets up to the end of its input, or the first of them, as many as are wanted at most.
 pub fn receive<F: Front>(alloc: Global, front: &mut F, most: usize) -> Result<Input, FrontError>
     ensures tape { Adds (F.tape front.old) (F.tape front.new) (GivesInput most result) }
@@ -100,19 +88,4 @@ pub fn receive<F: Front>(alloc: Global, front: &mut F, most: usize) -> Result<In
         }
     }
     Ok(Input::Cut(Bytes::from_vec(octets.into_vec())?))
-}
-
-/// A request's body, which ends with the client's input. No more than one octet past the limit is read.
-pub fn ask<F: Front>(alloc: Global, front: &mut F) -> Result<Bytes, InputError>
-    ensures tape { Adds (F.tape front.old) (F.tape front.new) (GivesRequest result) }
-    ensures alone { FrontAlone (F.faults front.old) (F.faults front.new) }
-    ensures cause { IsErrOf result InputError.Failed → Rose (F.faults front.old).front (F.faults front.new).front }
-    ensures hidden { F.hidden front.new ≡ F.hidden front.old }
-{
-    match receive(alloc, front, MAX_REQUEST_OCTETS as usize + 1) {
-        Ok(Input::Whole(octets)) => Ok(octets),
-        Ok(Input::Cut(_)) => Err(InputError::TooLarge),
-        Err(FrontError::Failed) => Err(InputError::Failed),
-        Err(FrontError::Memory) => Err(InputError::Memory),
-    }
 }

@@ -1,5 +1,5 @@
 // What answers one client after another.
-ghost use Rattle.std.specs.Prelude.{◌≡◌, ◌≢◌, ◌⊎◌, [], List, IfOk, IsSome, OnOk, OnErr, None, Err, true, false};
+ghost use Rattle.std.specs.Prelude.{◌≡◌, ◌≢◌, ◌⊎◌, [], List, IfOk, IsSome, OnOk, OnErr, None, Err};
 ghost use Rattle.std.specs.Option.{option_copied};
 ghost use Rattle.gate_world.specs.Causes.{Faults, FrontAlone, Hidden, Later, LinkAlone, NoFault, Rose};
 ghost use Rattle.gate_world.specs.Tape.{Adds};
@@ -12,26 +12,28 @@ ghost use Rattle.gate_machine.specs.declared.standing.MailStatus.TheVariants.{Un
 ghost use Rattle.gate_calls.specs.Asking.{AsksAndMakes};
 ghost use Rattle.gate_calls.specs.Mailings.{AreOf, MailAndUploads, error_of as error_meant};
 ghost use Rattle.gate_serving.specs.GateState.{GateState, unready_state};
-ghost use Rattle.gate_serving.specs.Answers.{KeepsUpload, TakesMemory, no_memory_text};
+ghost use Rattle.gate_serving.specs.Answers.{MayKeepUpload, TakesMemory, no_memory_text};
 ghost use Rattle.gate_serving.specs.Run.{AddsSegment, account_of};
 ghost use Rattle.gate_serving.specs.declared.door.Door.TheVariants.{Bare};
-ghost use Rattle.gate_serving.specs.reading.Askings.{asking_data, id_asked};
+ghost use Rattle.gate_serving.specs.reading.Askings.{asking_data, at_once_data, over_mail_data};
 ghost use Rattle.gate_serving.specs.Gates.{Comes, GateHolds, OpensTo, RestStays, account_by};
 ghost use Rattle.gate_serving.specs.Segment.{went};
-ghost use Rattle.gate_serving.specs.Requests.{Calls, asks_for_mail};
+ghost use Rattle.gate_serving.specs.Requests as spec;
 ghost use Rattle.gate_serving.specs.reading.OneMail.{AsksFirst, IsResponse};
-ghost use Rattle.gate_serving.specs.reading.Replying.{AnswersTo, Finishes, RepliesBy, RepliesToAsking, SendsReply, Serves};
+ghost use Rattle.gate_serving.specs.reading.Replying.{AnswersTo, Finishes, MakesAtOnce, RepliesBy, RepliesToAsking, SendsReply, Serves};
 ghost use Rattle.gate_serving.specs.reading.Texts.{text_sent};
 
+use crate::account::Account;
 use crate::answers::{
     calls_response, download_response, problem_response, session_response, upload_response,
 };
-use crate::asking::Asking;
+use crate::asking::{Asking, AskingAtOnce, AskingOverMail};
 use crate::door::Door;
 use crate::no_source::NoSource;
-use crate::outcomes::{ClientOutcome, OpenError};
+use crate::outcomes::ClientOutcome;
 use crate::reading::read_asking;
 use crate::response::Response;
+use crate::upload::Upload;
 use blob_store::BlobStore;
 use email_bodies::BodySource;
 use gate_calls::{CallContext, Mail};
@@ -44,15 +46,14 @@ use http_service::Refusal;
 use imap_client::Client;
 use jmap_arguments::MethodError;
 use jmap_core::Request;
-use octets::{Bytes, Text};
+use octets::Bytes;
 use std::alloc::{AllocError, Global};
 
 /// Answers one client after another.
 #[derive(Drop)]
 pub struct Gate {
     door: Door,
-    user: Text,
-    base: Text,
+    account: Account,
     /// What is asked over HTTP is found by them.
     routes: Routes,
     machine: Machine,
@@ -66,30 +67,23 @@ impl Gate {
         world: &mut W,
         door: Door,
         place: &Place,
-    ) -> Result<Gate, OpenError>
+    ) -> Result<Gate, AllocError>
         ensures run { Adds (W.tape world.old) (W.tape world.new) (OpensTo result) }
         ensures door { IfOk result (λ gate. gate.door ≡ door) }
         ensures account { IfOk result (λ gate. account_by gate (W.hidden world.old) ≡ account_of place.now (W.hidden world.old)) }
         ensures cause { NoFault (W.faults world.old) (W.faults world.new) }
         ensures hidden { W.hidden world.new ≡ W.hidden world.old }
     {
-        match parts_of(alloc, place) {
-            Ok((user, base, routes)) => {
-                let epoch = world.word();
-                let Ok(machine) = Machine::opened(alloc, epoch) else {
-                    return Err(OpenError::Memory);
-                };
-                Ok(Gate {
-                    door,
-                    user,
-                    base,
-                    routes,
-                    machine,
-                    uploads: BlobStore::new(alloc),
-                })
-            }
-            Err(_) => Err(OpenError::Memory),
-        }
+        let (account, routes) = parts_of(alloc, place)?;
+        let epoch = world.word();
+        let machine = Machine::opened(alloc, epoch)?;
+        Ok(Gate {
+            door,
+            account,
+            routes,
+            machine,
+            uploads: BlobStore::new(alloc),
+        })
     }
 
     /// Answers one client, where one comes.
@@ -109,7 +103,8 @@ impl Gate {
         }
     }
 
-    // A client that came.
+    // A client that came: what it asks is read, the mail is begun over where that needs it, its calls are answered in order, what was lent
+    // to them is settled, and the answer is sent.
     fn answer_client<W: World>(&mut self, alloc: Global, world: &mut W) -> ClientOutcome
         ensures run { Adds (W.tape world.old) (W.tape world.new)
             (Comes self.old self.new (λ s t. Serves self.old.door (account_by self.old (W.hidden world.old)) s t (W.faults world.old) (W.faults world.new) result)) }
@@ -171,10 +166,9 @@ impl Gate {
         ensures alone { LinkAlone (W.faults world.old) (W.faults world.new) }
         ensures hidden { W.hidden world.new ≡ W.hidden world.old }
     {
-        if asking.needs_mail() {
-            self.answer_over_mail(alloc, world, asking)
-        } else {
-            self.answer_at_once(alloc, world, asking)
+        match asking {
+            Asking::AtOnce(asking) => self.answer_at_once(alloc, world, asking),
+            Asking::OverMail(asking) => self.answer_over_mail(alloc, world, asking),
         }
     }
 
@@ -183,18 +177,17 @@ impl Gate {
         &mut self,
         alloc: Global,
         world: &mut W,
-        asking: &Asking,
+        asking: &AskingOverMail,
     ) -> Result<Response, AllocError>
-        requires { asks_for_mail (asking_data asking.now) ≡ true }
         ensures run { Adds (W.tape world.old) (W.tape world.new)
-            (Comes self.old self.new (λ s t. AnswersTo self.old.door (account_by self.old (W.hidden world.old)) (asking_data asking.now) s t
+            (Comes self.old self.new (λ s t. AnswersTo self.old.door (account_by self.old (W.hidden world.old)) (over_mail_data asking.now) s t
             (W.faults world.old) (W.faults world.new) result)) }
         ensures rest { RestStays self.old self.new }
         ensures alone { LinkAlone (W.faults world.old) (W.faults world.new) }
         ensures hidden { W.hidden world.new ≡ W.hidden world.old }
     {
         let mut client = Client::new(alloc);
-        let user = self.user.as_str().as_bytes();
+        let user = self.account.user.as_str().as_bytes();
         match begin(alloc, &mut self.machine, &mut client, world, user) {
             MailStatus::Stands => self.answer_told(alloc, client, world, asking),
             MailStatus::Unserved(why) => {
@@ -213,13 +206,12 @@ impl Gate {
         alloc: Global,
         client: Client,
         world: &mut W,
-        asking: &Asking,
+        asking: &AskingOverMail,
     ) -> Result<Response, AllocError>
-        requires needs { asks_for_mail (asking_data asking.now) ≡ true }
-        requires ready { IsSome self.old.machine.known }
+        requires { IsSome self.old.machine.known }
         ensures run { Adds (W.tape world.old) (W.tape world.new) (λ es. (p : Progress) (was : Faults)
             → CameTo self.old.machine client Stands was (W.faults world.old) p
-            → Finishes self.old.door (account_by self.old (W.hidden world.old)) self.old.uploads (asking_data asking.now) p self.new.machine was
+            → Finishes self.old.door (account_by self.old (W.hidden world.old)) self.old.uploads (over_mail_data asking.now) p self.new.machine was
             (W.faults world.new) result es) }
         ensures rest { RestStays self.old self.new }
         ensures uploads { self.new.uploads ≡ self.old.uploads }
@@ -243,13 +235,12 @@ impl Gate {
         alloc: Global,
         client: Client,
         world: &mut W,
-        asking: &Asking,
+        asking: &AskingOverMail,
         error: MethodError,
     ) -> Result<Response, AllocError>
-        requires needs { asks_for_mail (asking_data asking.now) ≡ true }
         ensures run { Adds (W.tape world.old) (W.tape world.new) (λ es. (p : Progress) (was : Faults) (how : MailFailure)
             → CameTo self.old.machine client (Unserved how) was (W.faults world.old) p → error ≡ error_meant how
-            → Finishes self.old.door (account_by self.old (W.hidden world.old)) self.old.uploads (asking_data asking.now) p self.new.machine was
+            → Finishes self.old.door (account_by self.old (W.hidden world.old)) self.old.uploads (over_mail_data asking.now) p self.new.machine was
             (W.faults world.new) result es) }
         ensures rest { RestStays self.old self.new }
         ensures uploads { self.new.uploads ≡ self.old.uploads }
@@ -273,19 +264,24 @@ impl Gate {
         over: &CallContext<'_>,
         bodies: &mut B,
         world: &mut W,
-        asking: &Asking,
+        asking: &AskingOverMail,
     ) -> Result<Response, AllocError>
-        requires { asks_for_mail (asking_data asking.now) ≡ true }
         ensures { AsksAndMakes B.answers B.lacks (bodies.old, world.old) (bodies.new, world.new) result
             (λ r asks. (secrets : Hidden) (o : MailAndUploads) → AreOf o over.now
-            → IsResponse self.now.door (account_by self.now secrets) o (asking_data asking.now) asks (text_sent r))
-            (λ asks. (o : MailAndUploads) → AreOf o over.now → AsksFirst o (asking_data asking.now) asks) }
+            → IsResponse self.now.door (account_by self.now secrets) o (over_mail_data asking.now) asks (text_sent r))
+            (λ asks. (o : MailAndUploads) → AreOf o over.now → AsksFirst o (over_mail_data asking.now) asks) }
     {
         match asking {
-            Asking::Calls(request) => calls_response(
-                alloc, self.door, &self.user, &self.base, over, bodies, world, request,
+            AskingOverMail::Calls(calls) => calls_response(
+                alloc,
+                self.door,
+                &self.account,
+                over,
+                bodies,
+                world,
+                &calls.request,
             ),
-            Asking::Download { blob, media } => download_response(
+            AskingOverMail::Download { blob, media } => download_response(
                 alloc,
                 self.door,
                 over,
@@ -294,7 +290,6 @@ impl Gate {
                 blob.as_slice(),
                 media_of(media),
             ),
-            _ => unreachable!(),
         }
     }
 
@@ -315,67 +310,50 @@ impl Gate {
         &mut self,
         alloc: Global,
         world: &mut W,
-        asking: &Asking,
+        asking: &AskingAtOnce,
     ) -> Result<Response, AllocError>
-        requires { asks_for_mail (asking_data asking.now) ≡ false }
         ensures run { (s : GateState) → GateHolds s self.old → (t : GateState) × GateHolds t self.new
-            × AnswersTo self.old.door (account_by self.old (W.hidden world.old)) (asking_data asking.now) s t (W.faults world.old) (W.faults world.old) result [] }
+            × AnswersTo self.old.door (account_by self.old (W.hidden world.old)) (at_once_data asking.now) s t (W.faults world.old) (W.faults world.old) result [] }
         ensures rest { RestStays self.old self.new }
         ensures world { world.new ≡ world.old }
     {
-        match self.keep(asking) {
-            Ok(id) => {
-                let made = self.response(alloc, world, asking, &id);
-                self.unless_lacking(made)
-            }
-            Err(error) => self.unless_lacking(Err(error)),
+        let made = self.response(alloc, world, asking);
+        self.unless_lacking(made)
+    }
+
+    // The response where no mail is needed: what is uploaded is kept. What is refused takes no memory.
+    fn response<W>(
+        &mut self,
+        alloc: Global,
+        world: &mut W,
+        asking: &AskingAtOnce,
+    ) -> Result<Response, AllocError>
+        ensures made { IfOk result (MakesAtOnce (at_once_data asking.now) self.old self.new) }
+        ensures may { MayKeepUpload (at_once_data asking.now) self.old.uploads self.new.uploads }
+        ensures takes { OnErr result (TakesMemory (at_once_data asking.now)) }
+        ensures rest { RestStays self.old self.new }
+        ensures machine { self.new.machine ≡ self.old.machine }
+        ensures world { world.new ≡ world.old }
+    {
+        match asking {
+            AskingAtOnce::Calls(calls) => self.calls_without(alloc, world, &calls.request),
+            AskingAtOnce::Problem(error) => problem_response(alloc, self.door, *error),
+            AskingAtOnce::Session => session_response(alloc, self.door, &self.account),
+            AskingAtOnce::Upload(upload) => self.keep(alloc, upload),
+            AskingAtOnce::Refused(refusal) => Ok(Response::empty(self.door, *refusal)),
         }
     }
 
-    // Keeps what is uploaded: its id, where something is.
-    fn keep(&mut self, asking: &Asking) -> Result<Option<Bytes>, AllocError>
-        ensures id { IfOk result (λ id. id ≡ id_asked (asking_data asking.now)) }
-        ensures kept { OnOk result (KeepsUpload (asking_data asking.now) self.old.uploads self.new.uploads) }
-        ensures refused { OnErr result (self.new.uploads ≡ self.old.uploads) }
-        ensures takes { OnErr result (TakesMemory (asking_data asking.now)) }
+    // Keeps what is uploaded, and tells its id.
+    fn keep(&mut self, alloc: Global, upload: &Upload) -> Result<Response, AllocError>
+        ensures made { IfOk result (MakesAtOnce (spec.Upload upload.now.media upload.now.octets) self.old self.new) }
+        ensures may { MayKeepUpload (spec.Upload upload.now.media upload.now.octets) self.old.uploads self.new.uploads }
         ensures rest { RestStays self.old self.new }
         ensures machine { self.new.machine ≡ self.old.machine }
     {
-        match asking {
-            Asking::Upload(upload) => match self.uploads.put(upload.octets.as_slice()) {
-                Ok(id) => Ok(Some(id)),
-                Err(_) => Err(AllocError),
-            },
-            _ => Ok(None),
-        }
-    }
-
-    // The response where no mail is needed, this id being that of what was uploaded. What is refused takes no memory.
-    fn response<W>(
-        &self,
-        alloc: Global,
-        world: &mut W,
-        asking: &Asking,
-        id: &Option<Bytes>,
-    ) -> Result<Response, AllocError>
-        requires id { id.now ≡ id_asked (asking_data asking.now) }
-        requires needs { asks_for_mail (asking_data asking.now) ≡ false }
-        ensures made { IfOk result (λ r. (secrets : Hidden) → (asks : List BodyAsk)
-            × IsResponse self.now.door (account_by self.now secrets) (record { mail = Err ServerUnavailable; uploads = self.now.uploads })
-            (asking_data asking.now) asks (text_sent r)) }
-        ensures takes { OnErr result (TakesMemory (asking_data asking.now)) }
-        ensures world { world.new ≡ world.old }
-    {
-        match asking {
-            Asking::Calls(request) => self.calls_without(alloc, world, request),
-            Asking::Problem(error) => problem_response(alloc, self.door, *error),
-            Asking::Session => session_response(alloc, self.door, &self.user, &self.base),
-            Asking::Upload(upload) => match id {
-                Some(id) => upload_response(alloc, self.door, upload, id),
-                None => unreachable!(),
-            },
-            Asking::Download { .. } => unreachable!(),
-            Asking::Refused(refusal) => Ok(Response::empty(self.door, *refusal)),
+        match self.uploads.put(upload.octets.as_slice()) {
+            Ok(id) => upload_response(alloc, self.door, upload, &id),
+            Err(_) => Err(AllocError),
         }
     }
 
@@ -388,7 +366,7 @@ impl Gate {
     ) -> Result<Response, AllocError>
         ensures made { IfOk result (λ r. (secrets : Hidden) → (asks : List BodyAsk)
             × IsResponse self.now.door (account_by self.now secrets) (record { mail = Err ServerUnavailable; uploads = self.now.uploads })
-            (Calls (request_data request.now)) asks (text_sent r)) }
+            (spec.Calls (request_data request.now)) asks (text_sent r)) }
         ensures world { world.new ≡ world.old }
     {
         let over = CallContext {
@@ -398,8 +376,7 @@ impl Gate {
         calls_response(
             alloc,
             self.door,
-            &self.user,
-            &self.base,
+            &self.account,
             &over,
             &mut NoSource,
             world,
@@ -437,15 +414,14 @@ fn media_of(media: &Option<Bytes>) -> Option<&[u8]>
     }
 }
 
-// The user, the base and the routes.
-fn parts_of(alloc: Global, place: &Place) -> Result<(Text, Text, Routes), AllocError>
-    ensures user { IfOk result (λ parts. parts.0 ≡ place.now.user) }
-    ensures base { IfOk result (λ parts. parts.1 ≡ place.now.base) }
+// The account and the routes.
+fn parts_of(alloc: Global, place: &Place) -> Result<(Account, Routes), AllocError>
+    ensures user { IfOk result (λ parts. parts.0.user ≡ place.now.user) }
+    ensures base { IfOk result (λ parts. parts.0.base ≡ place.now.base) }
 {
-    let user = Text::copy_of(alloc, place.user.as_str())?;
-    let base = Text::copy_of(alloc, place.base.as_str())?;
+    let account = Account::at(alloc, place)?;
     let routes = Routes::new(alloc)?;
-    Ok((user, base, routes))
+    Ok((account, routes))
 }
 
 // Sends the reply, where there is one.

@@ -2,7 +2,8 @@
 //! are sent.
 #![tactic(auto)]
 
-// What clients ask.
+// Who is served, and what clients ask.
+mod account;
 mod asking;
 mod door;
 mod front;
@@ -16,13 +17,14 @@ mod no_source;
 mod response;
 
 // One client after another.
+mod clients;
 mod gate;
 mod outcomes;
-mod serving;
 
 // Laws.
 mod laws;
 
+pub use clients::serve;
 pub use door::Door;
 pub use front::{FrontError, Input, receive};
 pub use gate::Gate;
@@ -32,5 +34,4 @@ pub use laws::{
     quiet_runs_are_told, runs_keep_told_bodies, runs_know_what_was_told,
 };
 pub use line::with_line_end;
-pub use outcomes::{ClientOutcome, OpenError};
-pub use serving::serve;
+pub use outcomes::ClientOutcome;

@@ -1,4 +1,4 @@
-// How a client was served, and why a gate can't be opened.
+// How a client was served.
 
 /// How one client was served.
 #[derive(Clone, Copy, Debug, PartialEq, Eq)]
@@ -11,11 +11,4 @@ pub enum ClientOutcome {
     NoMore,
     /// Accepting failed.
     AcceptFault,
-}
-
-/// Why a gate can't be opened.
-#[derive(Clone, Copy, Debug, PartialEq, Eq)]
-pub enum OpenError {
-    /// Out of memory.
-    Memory,
 }

@@ -7,12 +7,12 @@ ghost use Rattle.gate_serving.specs.Requests.{Problem, upload_asked};
 ghost use Rattle.gate_serving.specs.declared.door.Door.TheVariants.{Bare, Http};
 ghost use Rattle.gate_serving.specs.reading.Askings.{AsksInBody, IsNoRequest, AsksOf, ReadsInto, asking_data};
 
-use crate::asking::Asking;
+use crate::asking::{Asking, AskingAtOnce, AskingOverMail};
 use crate::door::Door;
-use crate::front::{InputError, ask};
+use crate::front::{FrontError, Input, receive};
 use crate::upload::Upload;
 use gate_world::{Front, Secrets};
-use http_requests::{AskError, HttpAsking, ask_over_http};
+use http_requests::{AskError, HttpAsking, MAX_REQUEST_OCTETS, ask_over_http};
 use http_routes::Routes;
 use jmap_arguments::ACCOUNT_ID;
 use jmap_core::{LimitName, RequestError, read_request};
@@ -22,7 +22,7 @@ use std::alloc::Global;
 fn too_large(name: LimitName) -> Asking
     ensures { asking_data result ≡ Problem (Limit name) }
 {
-    Asking::Problem(RequestError::Limit { name })
+    Asking::AtOnce(AskingAtOnce::Problem(RequestError::Limit { name }))
 }
 
 // What is asked by a body that is no request.
@@ -31,10 +31,10 @@ fn problem_of(error: RequestError) -> Result<Asking, AskError>
 {
     match error {
         RequestError::Memory => Err(AskError::Memory),
-        RequestError::NotJson => Ok(Asking::Problem(error)),
-        RequestError::NotRequest => Ok(Asking::Problem(error)),
-        RequestError::UnknownCapability => Ok(Asking::Problem(error)),
-        RequestError::Limit { .. } => Ok(Asking::Problem(error)),
+        RequestError::NotJson => Ok(Asking::AtOnce(AskingAtOnce::Problem(error))),
+        RequestError::NotRequest => Ok(Asking::AtOnce(AskingAtOnce::Problem(error))),
+        RequestError::UnknownCapability => Ok(Asking::AtOnce(AskingAtOnce::Problem(error))),
+        RequestError::Limit { .. } => Ok(Asking::AtOnce(AskingAtOnce::Problem(error))),
     }
 }
 
@@ -43,12 +43,12 @@ fn asking_in_body(alloc: Global, body: &[u8]) -> Result<Asking, AskError>
     ensures { AsksInBody body.now result }
 {
     match read_request(alloc, body) {
-        Ok(request) => Ok(Asking::Calls(request)),
+        Ok(request) => Ok(Asking::of_request(request)),
         Err(error) => problem_of(error),
     }
 }
 
-// At the bare door a request is all that the client gives.
+// At the bare door a request is all that the client gives. No more than one octet past the limit is read.
 fn read_bare<F: Front>(alloc: Global, front: &mut F) -> Result<Asking, AskError>
     ensures tape { Adds (F.tape front.old) (F.tape front.new) (λ es. (token : List ℕ) → ReadsInto Bare token result es) }
     ensures alone { FrontAlone (F.faults front.old) (F.faults front.new) }
@@ -57,11 +57,11 @@ fn read_bare<F: Front>(alloc: Global, front: &mut F) -> Result<Asking, AskError>
     ensures whole { IsErrOf result AskError.Ended → ⊥ }
     ensures hidden { F.hidden front.new ≡ F.hidden front.old }
 {
-    match ask(alloc, front) {
-        Ok(body) => asking_in_body(alloc, body.as_slice()),
-        Err(InputError::TooLarge) => Ok(too_large(LimitName::MaxSizeRequest)),
-        Err(InputError::Failed) => Err(AskError::Failed),
-        Err(InputError::Memory) => Err(AskError::Memory),
+    match receive(alloc, front, MAX_REQUEST_OCTETS as usize + 1) {
+        Ok(Input::Whole(body)) => asking_in_body(alloc, body.as_slice()),
+        Ok(Input::Cut(_)) => Ok(too_large(LimitName::MaxSizeRequest)),
+        Err(FrontError::Failed) => Err(AskError::Failed),
+        Err(FrontError::Memory) => Err(AskError::Memory),
     }
 }
 
@@ -69,7 +69,7 @@ fn asking_of_upload(media: Text, octets: Bytes) -> Asking
     ensures { asking_data result ≡ upload_asked media octets }
 {
     match Upload::new(media, octets) {
-        Some(upload) => Asking::Upload(upload),
+        Some(upload) => Asking::AtOnce(AskingAtOnce::Upload(upload)),
         None => too_large(LimitName::MaxSizeUpload),
     }
 }
@@ -79,15 +79,15 @@ fn asking_of(alloc: Global, asked: HttpAsking) -> Result<Asking, AskError>
     ensures { AsksOf asked result }
 {
     match asked {
-        HttpAsking::Session => Ok(Asking::Session),
+        HttpAsking::Session => Ok(Asking::AtOnce(AskingAtOnce::Session)),
         HttpAsking::Calls { body } => asking_in_body(alloc, body.as_slice()),
         HttpAsking::Upload { media, octets } => Ok(asking_of_upload(media, octets)),
         HttpAsking::Download {
             blob,
             name: _,
             media,
-        } => Ok(Asking::Download { blob, media }),
-        HttpAsking::Refused { refusal } => Ok(Asking::Refused(refusal)),
+        } => Ok(Asking::OverMail(AskingOverMail::Download { blob, media })),
+        HttpAsking::Refused { refusal } => Ok(Asking::AtOnce(AskingAtOnce::Refused(refusal))),
         HttpAsking::CallsTooLarge => Ok(too_large(LimitName::MaxSizeRequest)),
         HttpAsking::UploadTooLarge => Ok(too_large(LimitName::MaxSizeUpload)),
     }

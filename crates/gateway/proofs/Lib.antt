@@ -1,4 +1,5 @@
 mod Quiet
+mod Reading
 mod Showing
 mod Explaining
 mod CompletingShow

@@ -1,5 +1,5 @@
 -- What a task comes to.
-use Rattle.std.proofs.Common.{arith, ◌≡◌, ◌⊎◌, ◌++◌, ℕ, List, [], Result, Ok, Err, refl, ap, subst}
+use Rattle.std.proofs.Common.{arith, ◌≡◌, ◌⊎◌, ◌++◌, ℕ, List, [], Some, None, Result, Ok, Err, refl, ap, subst}
 use Rattle.gate_world.specs.Causes.{Faults, FrontAlone, Hidden, NoFault, Later, SayAlone, Rose, RoseBy, no_faults}
 use Rattle.gate_world.specs.declared.event.Event.{Event}
 use Rattle.gate_words.specs.Pages.{page_text}
@@ -14,8 +14,6 @@ use Rattle.gate_serving.specs.declared.door.Door.TheVariants.{Bare, Http}
 use Rattle.gate_serving.specs.declared.front.FrontError.{FrontError}
 use Rattle.gate_serving.specs.declared.front.FrontError.TheVariants as front
 use Rattle.gate_serving.specs.declared.outcomes.ClientOutcome.{ClientOutcome}
-use Rattle.gate_serving.specs.declared.outcomes.OpenError.{OpenError}
-use Rattle.gate_serving.specs.declared.outcomes.OpenError.TheVariants as opening
 use Rattle.gate_serving.specs.GateState.{GateState}
 use Rattle.gate_serving.specs.Requests.{Account}
 use Rattle.gate_serving.specs.Run.{Opens, AddsSegment, IsServingRun, account_of, run_blamed}
@@ -36,13 +34,13 @@ pub record Attends (place : Place) (secrets : Hidden) (was now : Faults) (how : 
   pub segment : List Event
   pub before : GateState
   pub after : GateState
-  pub opens : Opens (Ok before) opened
+  pub opens : Opens (Some before) opened
   pub step : AddsSegment Bare (account_of place secrets) before after was now how segment
   pub whole : events ≡ opened ++ segment
 
 -- a gate is opened at the place, and then answers one client, or none comes
 pub attends : {place : Place} {secrets now_secrets : Hidden} {door : Door} {account : Account} {before after : GateState} {was mid now : Faults} {how : ClientOutcome} (xs ys : List Event)
-    → door ≡ Bare → account ≡ account_of place secrets → now_secrets ≡ secrets → NoFault was mid → Opens (Ok before) xs → AddsSegment door account before after mid now how ys
+    → door ≡ Bare → account ≡ account_of place secrets → now_secrets ≡ secrets → NoFault was mid → Opens (Some before) xs → AddsSegment door account before after mid now how ys
     → Attends place secrets was now how (xs ++ ys)
 attends {place} {secrets} {door = door} {account = account} {before = before} {after = after} {was = was} {mid = mid} {now = now} {how = how} xs ys here same kept none opens step =
     let there : AddsSegment Bare (account_of place secrets) before after mid now how ys = subst (λ (a : Account). AddsSegment Bare a before after mid now how ys) same
@@ -85,14 +83,14 @@ pub record AttendsAll (place : Place) (secrets : Hidden) (most : ℕ) (was now :
   pub served : List Event
   pub before : GateState
   pub after : GateState
-  pub opens : Opens (Ok before) opened
+  pub opens : Opens (Some before) opened
   pub run : IsServingRun Http (account_of place secrets) before after most was now status served
   pub whole : events ≡ opened ++ served
 
 -- a gate is opened at the place, and then answers clients over HTTP
 pub attends_all : {place : Place} {secrets now_secrets : Hidden} {door : Door} {account : Account} {before after : GateState} {was mid now : Faults} {most status : ℕ}
     (xs ys : List Event)
-    → door ≡ Http → account ≡ account_of place secrets → now_secrets ≡ secrets → NoFault was mid → Opens (Ok before) xs
+    → door ≡ Http → account ≡ account_of place secrets → now_secrets ≡ secrets → NoFault was mid → Opens (Some before) xs
     → IsServingRun door account before after most mid now status ys
     → AttendsAll place secrets most was now status (xs ++ ys)
 attends_all {place} {secrets} {door = door} {account = account} {before = before} {after = after} {was = was} {mid = mid} {now = now} {most = most}
@@ -135,9 +133,9 @@ performs_serve {place} {was = was} {mid = mid} {now = now} most ys listen a alon
     }
 
 -- a task whose gate isn't opened ends with status 5
-pub performs_unopened : {secrets : Hidden} {was now : Faults} {events : List Event} (task : Task) (place : Place) (e : OpenError) → IsAt task place → NoFault was now
-    → Opens (Err e) events → Performs task secrets was now 5 events
-performs_unopened {was = was} {now = now} task place opening.Memory at same opens =
+pub performs_unopened : {secrets : Hidden} {was now : Faults} {events : List Event} (task : Task) (place : Place) → IsAt task place → NoFault was now
+    → Opens None events → Performs task secrets was now 5 events
+performs_unopened {was = was} {now = now} task place at same opens =
     record { blames = no_faults; ran = Unopened place at opens refl refl; bears = bears_none was now (later_same was now same) }
 
 -- the task `store` where there was no memory for the store
@@ -210,10 +208,10 @@ pub runs_task : {words : List (List ℕ)} {task : Task} {secrets : Hidden} {was 
 runs_task {task = task} is p = record { blames = p.blames; runs = Done task is p.ran; bears = p.bears }
 
 -- a run over words that are no task ends with status 2, and says so
-pub runs_refused : {words : List (List ℕ)} {secrets : Hidden} {was now : Faults} {events : List Event} → ((task : Task) → IsTask words task → ⊥) → SayAlone was now
-    → IsSaid words_refused events
-    → IsWholeRun words secrets was now 2 events
-runs_refused {was = was} {now = now} none alone said = record { blames = no_faults; runs = Refused none refl said refl; bears = bears_none was now (later_say was now alone) }
+pub runs_refused : {words : List (List ℕ)} {secrets : Hidden} {was now : Faults} {status : ℕ} {events : List Event} → ((task : Task) → IsTask words task → ⊥)
+    → SayAlone was now → status ≡ 2 → IsSaid words_refused events → IsWholeRun words secrets was now status events
+runs_refused {was = was} {now = now} none alone two said =
+    record { blames = no_faults; runs = Refused none two said refl; bears = bears_none was now (later_say was now alone) }
 
 -- a run whose memory ran out at once ends with status 5, and adds no event
 pub runs_lacking : {words : List (List ℕ)} {secrets : Hidden} (f : Faults) → IsWholeRun words secrets f f 5 []

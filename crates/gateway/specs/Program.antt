@@ -1,5 +1,5 @@
 -- A run of the program over its words and the outside.
-use Rattle.std.specs.Prelude.{◌≡◌, ◌⊎◌, ◌++◌, ℕ, List, [], ◌∷◌, Result, Ok, Err, codes}
+use Rattle.std.specs.Prelude.{◌≡◌, ◌⊎◌, ◌++◌, ℕ, List, [], ◌∷◌, Some, None, Result, Ok, Err, codes}
 use Rattle.gate_world.specs.Causes.{Faults, Hidden, no_faults}
 use Rattle.gate_world.specs.declared.event.Event.{Event}
 use Rattle.gate_world.specs.declared.event.Event.TheVariants.{Said, SayFailed}
@@ -18,7 +18,6 @@ use Rattle.gate_serving.specs.declared.front.FrontError.{FrontError}
 use Rattle.gate_serving.specs.declared.front.FrontError.TheVariants as front
 use Rattle.gate_serving.specs.declared.outcomes.ClientOutcome.{ClientOutcome}
 use Rattle.gate_serving.specs.declared.outcomes.ClientOutcome.TheVariants as served
-use Rattle.gate_serving.specs.declared.outcomes.OpenError.TheVariants as opening
 use Rattle.gate_serving.specs.GateState.{GateState}
 use Rattle.gate_serving.specs.Run.{Run, Ends, Opens, account_of, run_blamed}
 use Rattle.gate_serving.specs.Segment.{Segment, blamed, blame_front}
@@ -95,7 +94,7 @@ pub record ServesClients (place : Place) (most : ℕ) (secrets : Hidden) (status
   pub before : GateState
   pub after : GateState
   pub went : List ClientOutcome
-  pub opens : Opens (Ok before) opening
+  pub opens : Opens (Some before) opening
   pub run : Run Http (account_of place secrets) before serving went after
   pub ends : EndsServing most went status said
   pub blames_are : blames ≡ run_blamed run
@@ -109,7 +108,7 @@ pub record ServesOne (place : Place) (secrets : Hidden) (status : ℕ) (blames :
   pub before : GateState
   pub after : GateState
   pub how : ClientOutcome
-  pub opens : Opens (Ok before) opening
+  pub opens : Opens (Some before) opening
   pub segment : Segment Bare (account_of place secrets) before serving how after
   pub ends : EndsOnce how status said
   pub blames_are : blames ≡ blamed segment
@@ -149,7 +148,7 @@ pub record ExplainsOne (page : Page) (status : ℕ) (blames : Faults) (events : 
 -- What a task adds, with its status and the faults that are blamed.
 pub data Performed (task : Task) (secrets : Hidden) (status : ℕ) (blames : Faults) (events : List Event) : Type 0 where
   -- opening came to nothing
-  Unopened : (place : Place) → IsAt task place → Opens (Err opening.Memory) events → status ≡ 5 → blames ≡ no_faults
+  Unopened : (place : Place) → IsAt task place → Opens None events → status ≡ 5 → blames ≡ no_faults
       → Performed task secrets status blames events
   ServedMany : (place : Place) (listen : List ℕ) (most : ℕ) → task ≡ Serve place listen most → ServesClients place most secrets status blames events
       → Performed task secrets status blames events

@@ -11,4 +11,4 @@ mod program;
 
 pub use gate_words::{Page, Place, Task, WordsError, read_words};
 pub use laws::{obeyed_programs_tell, quiet_programs_tell};
-pub use program::run;
+pub use program::{run, run_read};

@@ -1,5 +1,5 @@
 // The top call: from the words of the command to the status of the program.
-ghost use Rattle.std.specs.Prelude.{◌≡◌, ◌⊎◌, ℕ, map, string_bytes, List};
+ghost use Rattle.std.specs.Prelude.{◌≡◌, ◌⊎◌, ◌↔◌, ℕ, Err, IsErrOf, map, string_bytes, List};
 ghost use Rattle.gate_world.specs.Causes.{Rose, Later, SayAlone};
 ghost use Rattle.gate_world.specs.Tape.{Adds};
 ghost use Rattle.gate_words.specs.Pages.{page_text};
@@ -8,11 +8,12 @@ ghost use Rattle.gate_words.specs.declared.task.Task.{Task};
 ghost use Rattle.gate_serving.specs.Run.{Stood};
 ghost use Rattle.gateway.specs.Complete.{AnswersAll, CompletesServing, CompletesShow};
 ghost use Rattle.gateway.specs.Program.{EndsDone, EndsFailed, EndsOnce, EndsStore, IsApart, IsSaid, IsWholeRun, Performs, RunsExplain, RunsShow, RunsStore, front_failed, words_refused};
+ghost use Rattle.gateway.specs.ReadWords.{AreRead};
 
 use crate::explain::explain_one;
 use crate::laws::{obeyed_programs_tell, quiet_programs_tell};
 use crate::show::show_one;
-use gate_serving::{ClientOutcome, Door, FrontError, Gate, OpenError, serve};
+use gate_serving::{ClientOutcome, Door, FrontError, Gate, serve};
 use gate_words::{Page, Place, Task, WordsError, read_words};
 use gate_world::{Failed, Watcher, World};
 use small_store::StoreMachine;
@@ -76,7 +77,7 @@ fn once<W: World>(alloc: Global, world: &mut W, place: &Place) -> u8
     ensures hidden { W.hidden world.new ≡ W.hidden world.old }
 {
     match Gate::open(alloc, world, Door::Bare, place) {
-        Err(OpenError::Memory) => STATUS_MEMORY,
+        Err(_) => STATUS_MEMORY,
         Ok(mut gate) => {
             let served = gate.answer_one(alloc, world);
             end_once(world, served)
@@ -109,7 +110,7 @@ fn serve_clients<W: World>(alloc: Global, world: &mut W, place: &Place, most: u6
     ensures hidden { W.hidden world.new ≡ W.hidden world.old }
 {
     match Gate::open(alloc, world, Door::Http, place) {
-        Err(OpenError::Memory) => STATUS_MEMORY,
+        Err(_) => STATUS_MEMORY,
         Ok(mut gate) => {
             let status = serve(alloc, &mut gate, world, most);
             end_serving(world, status)
@@ -205,6 +206,51 @@ fn perform<W: World>(alloc: Global, world: &mut W, task: &Task) -> u8
     }
 }
 
+// Ends a run whose words weren't read as a task.
+fn end_unread<W: World>(world: &mut W, error: WordsError) -> u8
+    ensures run { Adds (W.tape world.old) (W.tape world.new) (λ es. (words : List (List ℕ)) → AreRead words (Err error)
+        → IsWholeRun words (W.hidden world.old) (W.faults world.old) (W.faults world.new) result es) }
+    ensures statuses { (result ≡ 2) ⊎ (result ≡ 5) }
+    ensures refused { (result ≡ 2) ↔ (error ≡ WordsError.Refused) }
+    ensures alone { SayAlone (W.faults world.old) (W.faults world.new) }
+    ensures hidden { W.hidden world.new ≡ W.hidden world.old }
+{
+    match error {
+        WordsError::Refused => end_refused(world),
+        WordsError::Memory => STATUS_MEMORY,
+    }
+}
+
+/// Does what words ask that were read so, the program's own name left out, over the outside; the status that the program ends with.
+/// It is the call that the program makes; each clause is that of `run` over whatever words were read so.
+pub fn run_read<W: World>(alloc: Global, read: Result<Task, WordsError>, world: &mut W) -> u8
+    ensures run { Adds (W.tape world.old) (W.tape world.new) (λ es. (words : List (List ℕ)) → AreRead words read
+        → IsWholeRun words (W.hidden world.old) (W.faults world.old) (W.faults world.new) result es) }
+    ensures complete { Adds (W.tape world.old) (W.tape world.new) (λ es. (words : List (List ℕ)) → AreRead words read
+        → CompletesServing words (W.hidden world.old) result es) }
+    ensures quiet { Stood (W.faults world.old) (W.faults world.new)
+        → Adds (W.tape world.old) (W.tape world.new) (λ es. (words : List (List ℕ)) → AreRead words read → AnswersAll words (W.hidden world.old) result es) }
+    ensures shown { (result ≡ 6 → ⊥)
+        → Adds (W.tape world.old) (W.tape world.new) (λ es. (words : List (List ℕ)) → AreRead words read → CompletesShow words result es) }
+
+    ensures statuses { (result ≡ 0) ⊎ (result ≡ 2) ⊎ (result ≡ 5) ⊎ (result ≡ 6) }
+    ensures refused { (result ≡ 2) ↔ IsErrOf read WordsError.Refused }
+    ensures memory { IsErrOf read WordsError.Memory → result ≡ 5 }
+    ensures front { result ≡ 6 → Rose (W.faults world.old).front (W.faults world.new).front }
+
+    ensures later { Later (W.faults world.old) (W.faults world.new) }
+    ensures apart { (words : List (List ℕ)) (task : Task) → AreRead words read → IsTask words task → IsApart task
+        → (W.faults world.new).link ≡ (W.faults world.old).link }
+    ensures hidden { W.hidden world.new ≡ W.hidden world.old }
+{
+    obeyed_programs_tell();
+    quiet_programs_tell();
+    match read {
+        Ok(task) => perform(alloc, world, &task),
+        Err(error) => end_unread(world, error),
+    }
+}
+
 /// Does what the words ask, the program's own name left out, over the outside; the status that the program ends with.
 /// No watcher is told anything yet.
 pub fn run<W: World>(words: &[String], world: &mut W, watchers: &mut Vec<Box<dyn Watcher>>) -> u8
@@ -237,12 +283,7 @@ pub fn run<W: World>(words: &[String], world: &mut W, watchers: &mut Vec<Box<dyn
     ensures hidden { W.hidden world.new ≡ W.hidden world.old }
     ensures watchers { watchers.new ≡ watchers.old }
 {
-    obeyed_programs_tell();
-    quiet_programs_tell();
     let alloc: Global = *watchers.allocator();
-    match read_words(alloc, words) {
-        Ok(task) => perform(alloc, world, &task),
-        Err(WordsError::Refused) => end_refused(world),
-        Err(WordsError::Memory) => STATUS_MEMORY,
-    }
+    let read = read_words(alloc, words);
+    run_read(alloc, read, world)
 }

@@ -3,7 +3,8 @@ use crate::responses::put_joined;
 use imap_commands::{Command, write_command};
 use octets::Names;
 use std::alloc::{AllocError, Global};
-use told_dialogues::{bytes_of, first_number, first_uid, first_word};
+use test_rows::{first_number, first_uid, first_word};
+use told_dialogues::bytes_of;
 
 fn flags_of(alloc: Global, text: &str) -> Result<Names, AllocError> {
     let mut flags = Names::new(alloc);

@@ -15,37 +15,34 @@ mod requests;
 
 use std::alloc::{AllocError, Global};
 use std::io;
-use told_dialogues::first_word;
+use test_rows::{TestRows, answer_rows, first_word};
 
-/// Does what a line says, and adds what comes of it.
-fn take(alloc: Global, line: &str, out: &mut String) -> Result<(), AllocError> {
-    let (word, text) = first_word(line);
-    match word {
-        "" | "#" => Ok(()),
-        "=" => writeln!(out, "{line}"),
-        "scan" => scans::put_scan(alloc, text, out),
-        "limit" => scans::put_limit(alloc, text, out),
-        "long" => responses::put_long(alloc, text, out),
-        "told" => written::put_written(alloc, text, out),
-        "command" => commands::put_command(alloc, text, out),
-        "asks" => requests::put_asked(alloc, text, out),
-        "back" => requests::put_back(alloc, text, out),
-        _ => responses::put_row(alloc, word, text, out),
+/// Rows that leave nothing.
+#[derive(Drop)]
+struct Rows {
+    alloc: Global,
+}
+
+impl TestRows for Rows {
+    fn begin(&mut self) -> Result<(), AllocError> {
+        Ok(())
+    }
+
+    fn take(&mut self, line: &str, out: &mut String) -> Result<(), AllocError> {
+        let (word, text) = first_word(line);
+        match word {
+            "scan" => scans::put_scan(self.alloc, text, out),
+            "limit" => scans::put_limit(self.alloc, text, out),
+            "long" => responses::put_long(self.alloc, text, out),
+            "told" => written::put_written(self.alloc, text, out),
+            "command" => commands::put_command(self.alloc, text, out),
+            "asks" => requests::put_asked(self.alloc, text, out),
+            "back" => requests::put_back(self.alloc, text, out),
+            _ => responses::put_row(self.alloc, word, text, out),
+        }
     }
 }
 
-/// What comes of all lines.
-fn answers(alloc: Global, lines: &str) -> Result<String, AllocError> {
-    let mut out = String::new(alloc);
-    for line in lines.lines() {
-        take(alloc, line, &mut out)?;
-    }
-    Ok(out)
-}
-
-fn main(rt: HostRuntime) -> Result<(), anyhow::Error> {
-    let lines = io::read_to_string(rt.alloc(), rt.reader())?;
-    let out = answers(rt.alloc(), &lines)?;
-    print!(rt; "{out}")?;
-    Ok(())
+fn main(rt: HostRuntime) -> io::Result<()> {
+    answer_rows(&rt, &mut Rows { alloc: rt.alloc() })
 }

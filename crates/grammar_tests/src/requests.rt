@@ -1,11 +1,10 @@
 // What a client's octets ask of a store.
 use crate::commands::{command_of, put_text};
-use crate::responses::put_joined;
 use imap_commands::{Command, write_command};
 use octets::Bytes;
 use std::alloc::{AllocError, Global};
 use store_commands::{CommandRead, read_command};
-use told_dialogues::{first_number, octets_of, put_octets};
+use test_rows::{first_number, octets_of, put_octets};
 
 /// Adds an answer; a command as the gateway writes it under tag 1.
 fn put_answer(alloc: Global, read: &CommandRead, out: &mut String) -> Result<(), AllocError> {

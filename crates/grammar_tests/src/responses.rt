@@ -3,7 +3,8 @@ use crate::kinds::{is_whole, kind_of};
 use imap_grammar::{FetchItems, Response};
 use octets::{Bytes, Names};
 use std::alloc::{AllocError, Global};
-use told_dialogues::{first_number, first_response, first_uid, octets_of, put_octets};
+use test_rows::{first_number, first_uid, octets_of, put_octets};
+use told_dialogues::first_response;
 
 /// Adds texts with `|` before each.
 pub(crate) fn put_joined(out: &mut String, texts: &[Bytes]) -> Result<(), AllocError> {

@@ -1,7 +1,7 @@
 // Where responses end.
 use imap_grammar::{Scan, Scanner, scan};
 use std::alloc::{AllocError, Global};
-use told_dialogues::{first_number, octets_of};
+use test_rows::{first_number, octets_of};
 
 /// The answer to the octets, fed one at a time.
 pub(crate) fn fed(bytes: &[u8]) -> Scan {

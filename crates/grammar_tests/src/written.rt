@@ -3,7 +3,8 @@ use crate::responses::line_of;
 use imap_grammar::Response;
 use std::alloc::{AllocError, Global};
 use store_responses::push_response;
-use told_dialogues::{first_response, put_octets};
+use test_rows::put_octets;
+use told_dialogues::first_response;
 
 /// Whether the octets are one response, and say this.
 fn say(alloc: Global, octets: &[u8], response: &Response) -> Result<bool, AllocError> {

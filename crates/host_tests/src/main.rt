@@ -10,7 +10,7 @@ mod scripted;
 mod steps;
 
 use std::io;
-use told_dialogues::first_word;
+use test_rows::first_word;
 
 /// Does what a line says, and adds what comes of it.
 fn take(rt: HostRuntime, line: &str, out: &mut String) -> io::Result<()> {

@@ -8,7 +8,7 @@ use gate_host::{Clients, HostWorld, ListenerFront, SessionFront, StandardFront, 
 use octets::{Bytes, Text};
 use std::alloc::Global;
 use std::io;
-use told_dialogues::{first_word, octets_of, put_octets};
+use test_rows::{first_word, octets_of, put_octets};
 
 type StandardClient = StandardFront<RoughInput, Vec<u8>>;
 

@@ -5,7 +5,7 @@ use std::cell::Cell;
 use std::io;
 use std::io::{ErrorKind, Read};
 use std::rc::Rc;
-use told_dialogues::{first_number, octets_of};
+use test_rows::{first_number, octets_of};
 
 /// A clock that goes on by a step at each look, this many times, and then is far on.
 #[derive(Drop)]
@@ -49,9 +49,9 @@ impl ClientStream for ScriptedClient {
 
     ghost shows = { λ _ _ _. ⊤ };
 
-    ghost receives = { λ _ _ _ _. ⊤ };
+    ghost receives = { λ _ _ _ _ _. ⊤ };
 
-    ghost sends = { λ _ _ _ _. ⊤ };
+    ghost sends = { λ _ _ _ _ _. ⊤ };
 
     ghost gives = { λ _ _ _ _. ⊤ };
 
@@ -145,7 +145,7 @@ impl ClientListener for OneClient {
 
     ghost comes = { λ _ _ _ _. ⊤ };
 
-    ghost waits = { λ _ _ _ _. ⊤ };
+    ghost waits = { λ _ _ _ _ _. ⊤ };
 
     fn next_client(&mut self, _key: u64) -> Next<ScriptedClient> {
         match self.client.take() {

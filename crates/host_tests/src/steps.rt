@@ -6,7 +6,7 @@ use gate_world::{Chance, Console, Front, Link, Secrets};
 use std::alloc::AllocError;
 use std::net::{Ipv4Addr, SocketAddr, SocketAddrV4};
 use std::rc::Rc;
-use told_dialogues::{first_number, octets_of, put_octets};
+use test_rows::{first_number, octets_of, put_octets};
 
 /// A world, and the other ends of its streams.
 #[derive(Drop)]

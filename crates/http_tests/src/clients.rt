@@ -1,7 +1,7 @@
 // What is read of a client, and what it takes.
 use crate::written::{or_dash, put_all, put_short};
 use gate_world::{Event, Front};
-use http_requests::{HttpAsking, ask_over_http};
+use http_requests::{AskError, HttpAsking, ask_over_http};
 use http_routes::Routes;
 use http_service::{Head, HttpError, Spare, read_body, read_head};
 use octets::Bytes;
@@ -70,18 +70,26 @@ impl Client {
         })
     }
 
+    fn head(&mut self) -> Result<Head, HttpError> {
+        read_head(self.alloc, &mut self.world, &mut self.spare)
+    }
+
     /// Adds what the next head says.
     fn put_head(&mut self) -> Result<(), AllocError> {
-        match read_head(self.alloc, &mut self.world, &mut self.spare) {
+        match self.head() {
             Ok(head) => put_head(&head, &mut self.said),
             Err(error) => write!(self.said, "{error:?}"),
         }
     }
 
+    fn body_of(&mut self, head: &Head, limit: u64) -> Result<Bytes, HttpError> {
+        read_body(self.alloc, &mut self.world, &mut self.spare, head, limit)
+    }
+
     /// The body after the next head.
     fn body(&mut self, limit: u64) -> Result<Bytes, HttpError> {
-        let head = read_head(self.alloc, &mut self.world, &mut self.spare)?;
-        read_body(self.alloc, &mut self.world, &mut self.spare, &head, limit)
+        let head = self.head()?;
+        self.body_of(&head, limit)
     }
 
     fn put_body(&mut self, limit: u64) -> Result<(), AllocError> {
@@ -91,10 +99,15 @@ impl Client {
         }
     }
 
-    /// Adds what is asked, where there is the account `a1`.
+    /// What is asked, where there is the account `a1`.
+    fn asked(&mut self, routes: &Routes) -> Result<HttpAsking, AskError> {
+        ask_over_http(self.alloc, &mut self.world, routes, b"a1")
+    }
+
+    /// Adds what is asked.
     fn put_asked(&mut self) -> Result<(), AllocError> {
         let routes = Routes::new(self.alloc)?;
-        match ask_over_http(self.alloc, &mut self.world, &routes, b"a1") {
+        match self.asked(&routes) {
             Ok(asking) => put_asking(&asking, &mut self.said),
             Err(error) => write!(self.said, "{error:?}"),
         }

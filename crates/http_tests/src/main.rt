@@ -15,68 +15,67 @@ mod routes;
 mod uploads;
 
 use readings::Setting;
-use std::alloc::{AllocError, Global};
+use std::alloc::AllocError;
 use std::io;
-use told_dialogues::first_word;
+use test_rows::{TestRows, answer_rows, first_word};
 use uploads::Uploads;
 
 /// What the rows so far have left.
 #[derive(Drop)]
-struct Rows<'a> {
-    setting: Setting<'a>,
+struct Rows {
+    setting: Setting,
     uploads: Uploads,
 }
 
-impl<'a> Rows<'a> {
-    /// Does what a line says, and adds what comes of it.
-    fn take(&mut self, line: &'a str, out: &mut String) -> Result<(), AllocError> {
-        let (word, text) = first_word(line);
+impl Rows {
+    /// Adds what comes of a text that no setting changes, or of octets that are read as the words say.
+    fn put_text(&self, words: &str, text: &str, out: &mut String) -> Result<(), AllocError> {
+        let alloc = self.setting.alloc;
+        match words {
+            "route" => routes::put_route(alloc, text, out),
+            "token" => routes::put_token(text, out),
+            "media" => responses::put_media(alloc, text, out),
+            "response" => responses::put_response(alloc, text, out),
+            "problem" => responses::put_problem(alloc, text, out),
+            "refusal" => responses::put_refusal(alloc, text, out),
+            _ => self.setting.put_row(words, text, out),
+        }
+    }
+
+    /// Adds what comes of a word and its text.
+    fn answer(&mut self, word: &str, text: &str, out: &mut String) -> Result<(), AllocError> {
         match word {
-            "" | "#" => Ok(()),
-            "=" => {
-                self.uploads = Uploads::new(self.setting.alloc);
-                writeln!(out, "{line}")
-            }
             "front" | "pieces" | "limit" => self.setting.set(word, text),
             "cuts" => self.setting.put_cuts(text, out),
             "fails" => self.setting.put_fails(text, out),
-            "route" => routes::put_route(self.setting.alloc, text, out),
-            "token" => routes::put_token(text, out),
-            "media" => responses::put_media(self.setting.alloc, text, out),
-            "response" => responses::put_response(self.setting.alloc, text, out),
-            "problem" => responses::put_problem(self.setting.alloc, text, out),
-            "refusal" => responses::put_refusal(self.setting.alloc, text, out),
             "upload" | "blob" => self.uploads.take(word, text, out),
-            _ => {
-                let octets = self.setting.octets(text)?;
-                self.setting.put_octets(word, &octets, out)
-            }
+            _ => self.put_text(word, text, out),
         }
     }
 }
 
-/// What comes of all lines, in which `|` stands for CR LF.
-fn answers(alloc: Global, lines: &str) -> Result<String, AllocError> {
-    let lines = lines.replace(alloc, "|", "%0D%0A")?;
-    let mut rows = Rows {
-        setting: Setting {
-            front: Vec::new(alloc),
-            pieces: "1",
-            limit: 0,
-            alloc,
-        },
-        uploads: Uploads::new(alloc),
-    };
-    let mut out = String::new(alloc);
-    for line in lines.lines() {
-        rows.take(line, &mut out)?;
+impl TestRows for Rows {
+    fn begin(&mut self) -> Result<(), AllocError> {
+        self.uploads = Uploads::new(self.setting.alloc);
+        Ok(())
     }
-    out.replace(alloc, "%0D%0A", "|")
+
+    /// In a line `|` stands for CR LF.
+    fn take(&mut self, line: &str, out: &mut String) -> Result<(), AllocError> {
+        let alloc = self.setting.alloc;
+        let line = line.replace(alloc, "|", "%0D%0A")?;
+        let (word, text) = first_word(&line);
+        let mut answer = String::new(alloc);
+        self.answer(word, text, &mut answer)?;
+        out.push_str(&answer.replace(alloc, "%0D%0A", "|")?)
+    }
 }
 
-fn main(rt: HostRuntime) -> Result<(), anyhow::Error> {
-    let lines = io::read_to_string(rt.alloc(), rt.reader())?;
-    let out = answers(rt.alloc(), &lines)?;
-    print!(rt; "{out}")?;
-    Ok(())
+fn main(rt: HostRuntime) -> io::Result<()> {
+    let alloc = rt.alloc();
+    let mut rows = Rows {
+        setting: Setting::new(alloc)?,
+        uploads: Uploads::new(alloc),
+    };
+    answer_rows(&rt, &mut rows)
 }

@@ -3,24 +3,33 @@ use crate::clients::Client;
 use crate::written::written;
 use http_service::MAX_HEAD_OCTETS;
 use std::alloc::{AllocError, Global};
-use told_dialogues::{first_number, first_word};
+use test_rows::{first_number, first_word};
 
 /// How clients are read.
 #[derive(Drop)]
-pub(crate) struct Setting<'a> {
+pub(crate) struct Setting {
     /// What stands before the octets of each row.
     pub front: Vec<u8>,
     /// The most octets that one recv gives, each in turn.
-    pub pieces: &'a str,
+    pub pieces: String,
     /// The most octets of a body.
     pub limit: u64,
     pub alloc: Global,
 }
 
-impl<'a> Setting<'a> {
-    pub(crate) fn set(&mut self, word: &str, text: &'a str) -> Result<(), AllocError> {
+impl Setting {
+    pub(crate) fn new(alloc: Global) -> Result<Setting, AllocError> {
+        Ok(Setting {
+            pieces: String::from_str(alloc, "1")?,
+            front: Vec::new(alloc),
+            limit: 0,
+            alloc,
+        })
+    }
+
+    pub(crate) fn set(&mut self, word: &str, text: &str) -> Result<(), AllocError> {
         match word {
-            "pieces" => self.pieces = text,
+            "pieces" => self.pieces = String::from_str(self.alloc, text)?,
             "limit" => self.limit = first_number(text).0,
             _ => self.front = written(self.alloc, text)?,
         }
@@ -28,7 +37,7 @@ impl<'a> Setting<'a> {
     }
 
     /// All octets of a row.
-    pub(crate) fn octets(&self, text: &str) -> Result<Vec<u8>, AllocError> {
+    fn octets(&self, text: &str) -> Result<Vec<u8>, AllocError> {
         let mut octets = self.front.to_vec(self.alloc)?;
         octets.extend_from_slice(&written(self.alloc, text)?)?;
         Ok(octets)
@@ -52,13 +61,8 @@ impl<'a> Setting<'a> {
 
     /// Adds how many of the octets behind the front are asked for, and what comes of them, in pieces of the first size; and what
     /// comes in others, where it is something else, or more octets are asked for than in the first and than a head may have.
-    pub(crate) fn put_octets(
-        &self,
-        words: &str,
-        octets: &[u8],
-        out: &mut String,
-    ) -> Result<(), AllocError> {
-        let first = self.read(words, octets, self.pieces, 0)?;
+    fn put_octets(&self, words: &str, octets: &[u8], out: &mut String) -> Result<(), AllocError> {
+        let first = self.read(words, octets, &self.pieces, 0)?;
         let asked = first.given().saturating_sub(self.front.len());
         writeln!(out, "{asked} asked for{}", first.said)?;
         let most = first.given().max(MAX_HEAD_OCTETS);
@@ -70,6 +74,17 @@ impl<'a> Setting<'a> {
             }
         }
         Ok(())
+    }
+
+    /// Adds what comes of a row's octets.
+    pub(crate) fn put_row(
+        &self,
+        words: &str,
+        text: &str,
+        out: &mut String,
+    ) -> Result<(), AllocError> {
+        let octets = self.octets(text)?;
+        self.put_octets(words, &octets, out)
     }
 
     /// Adds what comes of the octets, where it isn't just that they are short.
@@ -103,7 +118,7 @@ impl<'a> Setting<'a> {
         let octets = self.octets(text)?;
         let mut before = String::new(self.alloc);
         for call in first..=last {
-            let said = self.read(words, &octets, self.pieces, call)?.said;
+            let said = self.read(words, &octets, &self.pieces, call)?.said;
             if said != before {
                 writeln!(out, "call {call} fails{said}")?;
                 before = said;

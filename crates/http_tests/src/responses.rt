@@ -6,7 +6,7 @@ use http_requests::{HttpResponse, download_media, problem_media};
 use http_service::{MediaType, Refusal};
 use octets::Bytes;
 use std::alloc::{AllocError, Global};
-use told_dialogues::{first_number, first_word};
+use test_rows::{first_number, first_word};
 
 /// Adds whether the response is sent where this call fails, and what the client takes.
 fn put_sent(

@@ -2,7 +2,7 @@
 use crate::written::{or_dash, put_all};
 use http_routes::{Request, Route, Routes, is_token};
 use std::alloc::{AllocError, Global};
-use told_dialogues::first_word;
+use test_rows::first_word;
 
 /// Adds the route of a method and a target, where there is the account `a1`.
 pub(crate) fn put_route(alloc: Global, text: &str, out: &mut String) -> Result<(), AllocError> {

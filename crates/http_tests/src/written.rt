@@ -1,7 +1,7 @@
 // Octets as text.
 use octets::Bytes;
 use std::alloc::{AllocError, Global};
-use told_dialogues::{first_number, octets_of, put_octets};
+use test_rows::{first_number, octets_of, put_octets};
 
 /// The most octets of a value that are printed.
 const MAX_PRINTED_OCTETS: usize = 200;

@@ -23,6 +23,7 @@ pub fn follow<L: Link, P: Plan>(
     ensures done { OnOk result (P.plan plan.new [] ≡ dues.Done) }
     ensures alive { OnOk result (StopsAtRefusal (P.plan plan.old) → client.new.alive ≡ true) }
     ensures ended { OnErr result (client.new ≡ fresh) }
+    ensures down { OnOk result (client.new.alive ≡ false → Rose (L.faults link.old).link (L.faults link.new).link) }
     ensures kept { P.keeps plan.old plan.new }
     ensures alone { LinkAlone (L.faults link.old) (L.faults link.new) }
     ensures cause { IsErrOf result LinkEnd.Lost → Rose (L.faults link.old).link (L.faults link.new).link }
@@ -47,6 +48,7 @@ pub fn follow_torn<L: Link, P: Plan>(
     ensures done { OnOk result (P.plan plan.new [] ≡ dues.Done) }
     ensures alive { OnOk result (StopsAtRefusal (P.plan plan.old) → client.new.alive ≡ true) }
     ensures ended { OnErr result (client.new ≡ fresh) }
+    ensures down { OnOk result (client.new.alive ≡ false → Rose (L.faults link.old).link (L.faults link.new).link) }
     ensures kept { P.keeps plan.old plan.new }
     ensures alone { LinkAlone (L.faults link.old) (L.faults link.new) }
     ensures cause { IsErrOf result LinkEnd.Lost → Rose (L.faults link.old).link (L.faults link.new).link }

@@ -14,6 +14,11 @@ store_in Show = None
 store_in (Store listen connections) = None
 store_in (Explain page) = None
 
+-- its text: none where there is no store
+abbrev pub store_text : Option (List ℕ) → List ℕ
+store_text (Some store) = store
+store_text None = []
+
 -- whom a task listens for
 abbrev pub listening_in : Task → Listening
 listening_in (Serve place listen connections) = Requests listen

@@ -1,16 +1,17 @@
 //! A mail gateway: JMAP for its clients, over the mail of an IMAP store; and messages shown as Email objects.
 #![tactic(auto)]
 
-ghost use Rattle.std.specs.Prelude.{◌≡◌, [], map, string_bytes, IfOk};
+ghost use Rattle.std.specs.Prelude.{◌≡◌, ℕ, List, [], IfOk, OnOk};
+ghost use Rattle.gateway.specs.ReadWords.{AreRead};
 ghost use Rattle.jmapgate.specs.Clientele.{AreEnded, AreListenedFor};
-ghost use Rattle.jmapgate.specs.Devices.{NamesListener, NamesStore};
+ghost use Rattle.jmapgate.specs.Devices.{NamesListener, NamesStore, listening_in, store_in, store_text};
 
 use client_front::TcpClients;
 use gate_host::{
     Clients, Host, HostWorld, ListenerFront, SessionFront, StandardFront, TcpSessions,
 };
 use gate_words::{Task, WordsError, read_words};
-use gate_world::Watcher;
+use gateway::run_read;
 use octets::{Bytes, Text};
 use std::alloc::{AllocError, Global};
 use std::env;
@@ -53,10 +54,11 @@ enum Clientele {
 /// Makes the devices that the words ask for, and runs the gateway over them.
 fn run(rt: HostRuntime) -> Result<u8, AllocError> {
     let words = words_of(&rt)?;
-    match clientele_of(rt, listening_of(rt.alloc(), &words)?)? {
-        Clientele::Requests(front) => run_over(rt, &words, front),
-        Clientele::Sessions(front) => run_over(rt, &words, front),
-        Clientele::Standard(front) => run_over(rt, &words, front),
+    let read = read_words(rt.alloc(), words.as_slice());
+    match clientele_of(rt, listening_of(rt.alloc(), &read)?)? {
+        Clientele::Requests(front) => run_over(rt, read, front),
+        Clientele::Sessions(front) => run_over(rt, read, front),
+        Clientele::Standard(front) => run_over(rt, read, front),
     }
 }
 
@@ -80,24 +82,27 @@ fn clientele_of(rt: HostRuntime, listening: Listening) -> Result<Clientele, Allo
 }
 
 /// Runs the gateway for these clients.
-fn run_over<C: Clients>(rt: HostRuntime, words: &[String], front: C) -> Result<u8, AllocError> {
-    let store = store_of(rt.alloc(), words)?;
+fn run_over<C: Clients>(
+    rt: HostRuntime,
+    read: Result<Task, WordsError>,
+    front: C,
+) -> Result<u8, AllocError> {
+    let store = store_of(rt.alloc(), &read)?;
     let password = variable(&rt, "JMAPGATE_PASSWORD")?;
     let token = variable(&rt, "JMAPGATE_TOKEN")?;
     let mut world = HostWorld::new(rt, store, front, password, token);
-    Ok(run_to_end(rt.alloc(), words, &mut world))
+    Ok(run_to_end(rt.alloc(), read, &mut world))
 }
 
 /// Runs the gateway, and waits for the clients whose response is whole, which the program's end would close.
 fn run_to_end<C: Clients>(
     alloc: Global,
-    words: &[String],
+    read: Result<Task, WordsError>,
     world: &mut HostWorld<HostRuntime, C>,
 ) -> u8
     ensures { AreEnded C.ends world.new.front }
 {
-    let mut watchers: Vec<Box<dyn Watcher>> = Vec::new(alloc);
-    let status = gateway::run(words, world, &mut watchers);
+    let status = run_read(alloc, read, world);
     world.front.end();
     status
 }
@@ -123,33 +128,71 @@ fn no_store(alloc: Global) -> Text
     Text::from_string(String::new(alloc))
 }
 
-/// The store that the words name. Where they name none it is empty, and nobody dials it.
-fn store_of(alloc: Global, words: &[String]) -> Result<Text, AllocError>
-    ensures { IfOk result (NamesStore (map string_bytes words.now)) }
+/// Out of memory, or that the words were refused.
+fn refused(error: WordsError) -> Result<(), AllocError>
+    ensures { OnOk result (error ≡ WordsError.Refused) }
 {
-    match read_words(alloc, words) {
-        Ok(Task::Serve { place, .. }) => Ok(place.store),
-        Ok(Task::Once { place }) => Ok(place.store),
-        Ok(Task::Show) => Ok(no_store(alloc)),
-        Ok(Task::Store { .. }) => Ok(no_store(alloc)),
-        Ok(Task::Explain { .. }) => Ok(no_store(alloc)),
-        Err(WordsError::Refused) => Ok(no_store(alloc)),
-        Err(WordsError::Memory) => Err(AllocError),
+    match error {
+        WordsError::Refused => Ok(()),
+        WordsError::Memory => Err(AllocError),
     }
 }
 
-/// Whom the program listens for by the words: for clients in `serve` and `store` alone, each at its address.
-fn listening_of(alloc: Global, words: &[String]) -> Result<Listening, AllocError>
-    ensures { IfOk result (NamesListener (map string_bytes words.now)) }
+/// The store that a task dials. Where it dials none it is empty, and nobody dials it.
+fn task_store(alloc: Global, task: &Task) -> Result<Text, AllocError>
+    ensures { IfOk result (λ store. store ≡ store_text (store_in task.now)) }
 {
-    match read_words(alloc, words) {
-        Ok(Task::Serve { listen, .. }) => Ok(Listening::Requests(listen)),
-        Ok(Task::Once { .. }) => Ok(Listening::Nobody),
-        Ok(Task::Show) => Ok(Listening::Nobody),
-        Ok(Task::Store { listen, .. }) => Ok(Listening::Sessions(listen)),
-        Ok(Task::Explain { .. }) => Ok(Listening::Nobody),
-        Err(WordsError::Refused) => Ok(Listening::Nobody),
-        Err(WordsError::Memory) => Err(AllocError),
+    match task {
+        Task::Serve { place, .. } => Text::copy_of(alloc, place.store.as_str()),
+        Task::Once { place } => Text::copy_of(alloc, place.store.as_str()),
+        Task::Show => Ok(no_store(alloc)),
+        Task::Store { .. } => Ok(no_store(alloc)),
+        Task::Explain { .. } => Ok(no_store(alloc)),
+    }
+}
+
+/// The store of words that were read so: that of their task, and none where they were refused.
+fn store_of(alloc: Global, read: &Result<Task, WordsError>) -> Result<Text, AllocError>
+    ensures { IfOk result (λ store. (words : List (List ℕ)) → AreRead words read.now → NamesStore words store) }
+{
+    match read {
+        Ok(task) => task_store(alloc, task),
+        Err(error) => {
+            refused(*error)?;
+            Ok(no_store(alloc))
+        }
+    }
+}
+
+/// Whom a task listens for: for clients in `serve` and `store` alone, each at its address.
+fn task_listening(alloc: Global, task: &Task) -> Result<Listening, AllocError>
+    ensures { IfOk result (λ listening. listening ≡ listening_in task.now) }
+{
+    match task {
+        Task::Serve { listen, .. } => {
+            let address = Text::copy_of(alloc, listen.as_str())?;
+            Ok(Listening::Requests(address))
+        }
+        Task::Once { .. } => Ok(Listening::Nobody),
+        Task::Show => Ok(Listening::Nobody),
+        Task::Store { listen, .. } => {
+            let address = Text::copy_of(alloc, listen.as_str())?;
+            Ok(Listening::Sessions(address))
+        }
+        Task::Explain { .. } => Ok(Listening::Nobody),
+    }
+}
+
+/// Whom the program listens for by words that were read so: for nobody where they were refused.
+fn listening_of(alloc: Global, read: &Result<Task, WordsError>) -> Result<Listening, AllocError>
+    ensures { IfOk result (λ listening. (words : List (List ℕ)) → AreRead words read.now → NamesListener words listening) }
+{
+    match read {
+        Ok(task) => task_listening(alloc, task),
+        Err(error) => {
+            refused(*error)?;
+            Ok(Listening::Nobody)
+        }
     }
 }
 

@@ -5,3 +5,4 @@ pub mod AngleLemmas
 pub mod BareLemmas
 pub mod LooseLemmas
 pub mod OutsideLemmas
+pub mod TornLemmas

@@ -15,14 +15,16 @@ use Rattle.mail_header.specs.RawForms.{raw_form}
 use Rattle.mail_header.specs.WhiteEnd.{some_text}
 use Rattle.header_addresses.specs.declared.address.Address.{Address}
 use Rattle.header_addresses.specs.declared.address.Group.{Group}
+use Rattle.header_addresses.specs.Names.{IsAddressesForm, IsGroupsForm}
 use Rattle.header_addresses.proofs.FormLemmas.{zip_one, one_addresses, one_groups}
 use Rattle.header_addresses.proofs.PartLemmas.{one_head, one_one, one_phrase}
 use Rattle.loose_addresses.specs.Angles.{is_angle, NoAngle, IsLastAngle, begins_less, HaveNone, joined, IsLastOf, IsAddressAngle, Outside, Anywhere}
 use Rattle.loose_addresses.specs.LooseForms as loose
-use Rattle.loose_addresses.specs.LooseForms.{IsLooseAddressesForm, IsLooseGroupsForm, some_list}
+use Rattle.loose_addresses.specs.LooseForms.{IsNoList, IsLooseAddressesForm, IsLooseGroupsForm, some_list}
 use Rattle.loose_addresses.specs.LooseLists.{trimmed, in_angles, IsBehindHead, Dropped, NoHead, IsNameBefore, Phrase, AsItStands, IsEmailIn, OneInside, AsWritten}
 use Rattle.loose_addresses.specs.LooseLists.{ReadsAs, Strict, InAngle, Bare, PassedOver, IsElementRead, AreLoose}
 use Rattle.loose_addresses.specs.Lumps.{elements_of}
+use Rattle.loose_addresses.specs.Torn.{IsUntorn}
 use Rattle.loose_addresses.proofs.LumpLemmas.{lump_determined, one_row}
 
 -- ---- what an element reads as
@@ -110,9 +112,9 @@ one_address_angle b x d y t (Anywhere n c g) (Anywhere m k h) = one_last b x c d
 -- ---- names, emails, elements
 
 one_name_before : (before : List ℕ) (x y : Option (List ℕ)) → IsNameBefore before x → IsNameBefore before y → x ≡ y
-one_name_before before _ _ (Phrase s g) (Phrase t h) = ap (λ (u : List ℕ). Some u) (one_phrase s t before g h)
-one_name_before before _ _ (Phrase s g) (AsItStands n t h) = absurd (n s g)
-one_name_before before _ _ (AsItStands n s g) (Phrase t h) = absurd (n t h)
+one_name_before before _ _ (Phrase s g p) (Phrase t h q) = ap (λ (u : List ℕ). Some u) (one_phrase s t before g h)
+one_name_before before _ _ (Phrase s g p) (AsItStands n t h) = absurd (p (n s g))
+one_name_before before _ _ (AsItStands n s g) (Phrase t h q) = absurd (q (n t h))
 one_name_before before _ _ (AsItStands n s g) (AsItStands m t h) = ap (λ (u : List ℕ). some_text (trimmed u)) (words.one_text_between edges.Quotes false (one_line before) s t g h)
 
 one_email : (x e f : List ℕ) → IsEmailIn x e → IsEmailIn x f → e ≡ f
@@ -122,11 +124,11 @@ one_email x _ _ (AsWritten n) (OneInside a g) = absurd (n a g)
 one_email x _ _ (AsWritten n) (AsWritten m) = refl
 
 one_read : (t : List ℕ) (a b : Option Address) → ReadsAs t a → ReadsAs t b → a ≡ b
-one_read t _ _ (Strict a g) (Strict b h) = ap (λ (u : Address). Some u) (one_one a b t g h)
-one_read t _ _ (Strict a g) (InAngle d y l f n h i j) = absurd (n a g)
-one_read t _ _ (Strict a g) (Bare n h i) = absurd (n a g)
-one_read t _ _ (Strict a g) (PassedOver n h i) = absurd (n a g)
-one_read t _ _ (InAngle b x m e n g i j) (Strict a h) = absurd (n a h)
+one_read t _ _ (Strict a g u) (Strict b h v) = ap (λ (u : Address). Some u) (one_one a b t g h)
+one_read t _ _ (Strict a g u) (InAngle d y l f n h i j) = absurd (u (n a g))
+one_read t _ _ (Strict a g u) (Bare n h i) = absurd (u (n a g))
+one_read t _ _ (Strict a g u) (PassedOver n h i) = absurd (u (n a g))
+one_read t _ _ (InAngle b x m e n g i j) (Strict a h u) = absurd (u (n a h))
 one_read t _ _ (InAngle b x m e n g i j) (InAngle d y l f o h k p) =
     let s = one_address_angle b x d y t g h in
     let name = one_name_before d m l (subst (λ (u : List ℕ). IsNameBefore u m) s.before i) k in
@@ -134,11 +136,11 @@ one_read t _ _ (InAngle b x m e n g i j) (InAngle d y l f o h k p) =
     ap (λ (u : Option (List ℕ)). Some (record { name = u; email = e })) name ∙ ap (λ (u : List ℕ). Some (record { name = l; email = u })) email
 one_read t _ _ (InAngle b x m e n g i j) (Bare o h k) = absurd (h b x g)
 one_read t _ _ (InAngle b x m e n g i j) (PassedOver o h k) = absurd (h b x g)
-one_read t _ _ (Bare n g i) (Strict a h) = absurd (n a h)
+one_read t _ _ (Bare n g i) (Strict a h u) = absurd (u (n a h))
 one_read t _ _ (Bare n g i) (InAngle d y l f o h k p) = absurd (g d y h)
 one_read t _ _ (Bare n g i) (Bare o h j) = refl
 one_read t _ _ (Bare n g i) (PassedOver o h j) = absurd (j i)
-one_read t _ _ (PassedOver n g i) (Strict a h) = absurd (n a h)
+one_read t _ _ (PassedOver n g i) (Strict a h u) = absurd (u (n a h))
 one_read t _ _ (PassedOver n g i) (InAngle d y l f o h k p) = absurd (g d y h)
 one_read t _ _ (PassedOver n g i) (Bare o h j) = absurd (i j)
 one_read t _ _ (PassedOver n g i) (PassedOver o h j) = refl
@@ -156,16 +158,25 @@ one_loose a b t g h =
 
 -- ---- what a raw value reads as
 
+-- a list by the grammar that tears no encoded word isn't read as far as it reads
+no_list : (raw : List ℕ) (list : List Address) → IsAddressesForm raw (Some list) → IsUntorn (raw_form raw) → IsNoList raw → ⊥
+no_list raw list g u (inl n) = let e = one_addresses raw (Some list) None g n in absurd cc
+no_list raw list g u (inr k) = u k
+
+no_groups : (raw : List ℕ) (list : List Group) → IsGroupsForm raw (Some list) → IsUntorn (raw_form raw) → IsNoList raw → ⊥
+no_groups raw list g u (inl n) = let e = one_groups raw (Some list) None g n in absurd cc
+no_groups raw list g u (inr k) = u k
+
 -- two readings of a raw value as addresses are the same
 pub one_loose_addresses : (raw : List ℕ) (x y : Option (List Address)) → IsLooseAddressesForm raw x → IsLooseAddressesForm raw y → x ≡ y
-one_loose_addresses raw _ _ (loose.ByGrammar s g) (loose.ByGrammar t h) = one_addresses raw (Some s) (Some t) g h
-one_loose_addresses raw _ _ (loose.ByGrammar s g) (loose.AsFar n t h) = let e = one_addresses raw (Some s) None g n in absurd cc
-one_loose_addresses raw _ _ (loose.AsFar n s g) (loose.ByGrammar t h) = let e = one_addresses raw None (Some t) n h in absurd cc
+one_loose_addresses raw _ _ (loose.ByGrammar s g u) (loose.ByGrammar t h v) = one_addresses raw (Some s) (Some t) g h
+one_loose_addresses raw _ _ (loose.ByGrammar s g u) (loose.AsFar n t h) = absurd (no_list raw s g u n)
+one_loose_addresses raw _ _ (loose.AsFar n s g) (loose.ByGrammar t h v) = absurd (no_list raw t h v n)
 one_loose_addresses raw _ _ (loose.AsFar n s g) (loose.AsFar m t h) = ap some_list (one_loose s t (raw_form raw) g h)
 
 -- two readings of a raw value as groups are the same
 pub one_loose_groups : (raw : List ℕ) (x y : Option (List Group)) → IsLooseGroupsForm raw x → IsLooseGroupsForm raw y → x ≡ y
-one_loose_groups raw _ _ (loose.GroupsByGrammar s g) (loose.GroupsByGrammar t h) = one_groups raw (Some s) (Some t) g h
-one_loose_groups raw _ _ (loose.GroupsByGrammar s g) (loose.GroupsAsFar n t h) = let e = one_groups raw (Some s) None g n in absurd cc
-one_loose_groups raw _ _ (loose.GroupsAsFar n s g) (loose.GroupsByGrammar t h) = let e = one_groups raw None (Some t) n h in absurd cc
+one_loose_groups raw _ _ (loose.GroupsByGrammar s g u) (loose.GroupsByGrammar t h v) = one_groups raw (Some s) (Some t) g h
+one_loose_groups raw _ _ (loose.GroupsByGrammar s g u) (loose.GroupsAsFar n t h) = absurd (no_groups raw s g u n)
+one_loose_groups raw _ _ (loose.GroupsAsFar n s g) (loose.GroupsByGrammar t h v) = absurd (no_groups raw t h v n)
 one_loose_groups raw _ _ (loose.GroupsAsFar n s g) (loose.GroupsAsFar m t h) = ap loose.one_group (one_loose s t (raw_form raw) g h)

@@ -1,4 +1,5 @@
 pub mod Lumps
+pub mod Torn
 pub mod Angles
 pub mod LooseLists
 pub mod LooseForms

@@ -1,5 +1,5 @@
--- A field that is no list of addresses, as wrong senders write it: the addresses that it has as far as they read (RFC 8621
--- section 4.1.2.3).
+-- A field that is no list of addresses, or one that tears an encoded word, as wrong senders write it: the addresses that it has
+-- as far as they read (RFC 8621 section 4.1.2.3).
 use Rattle.std.specs.Prelude.{◌≡◌, ◌≢◌, ℕ, Bool, false, true, not, ◌||◌, ◌==◌, List, [], ◌∷◌, ◌++◌, Option, Some, None, option_to_list}
 use Rattle.std.specs.List.{flat_map, list_all, AllZip}
 use Rattle.text_words.specs.Cuts.{back}
@@ -12,6 +12,7 @@ use Rattle.mail_header.specs.WhiteEnd.{without_white_end, some_text}
 use Rattle.header_addresses.specs.declared.address.Address.{Address}
 use Rattle.header_addresses.specs.Parts.{IsOneAddress, IsPhraseName, HasHead}
 use Rattle.loose_addresses.specs.Angles.{is_angle, IsAddressAngle}
+use Rattle.loose_addresses.specs.Torn.{IsTorn, IsUntorn}
 use Rattle.loose_addresses.specs.Lumps.{IsLump, AreLumpsBefore, elements_of}
 
 -- ---- what an element reads as
@@ -30,11 +31,11 @@ pub data IsBehindHead : List ℕ → List ℕ → Type 0 where
 abbrev pub trimmed : List ℕ → List ℕ
 trimmed t = without_white_end (back is_white t)
 
--- The name that stands before the angle brackets: that of a phrase, else the text as it stands, as one line with its encoded
--- words decoded, beside which quotation marks may stand too; none where nothing stands there.
+-- The name that stands before the angle brackets: that of a phrase that tears no encoded word, else the text as it stands, as one
+-- line with its encoded words decoded, beside which quotation marks may stand too; none where nothing stands there.
 pub data IsNameBefore (before : List ℕ) : Option (List ℕ) → Type 0 where
-  Phrase : (name : List ℕ) → IsPhraseName name before → IsNameBefore before (Some name)
-  AsItStands : ((name : List ℕ) → IsPhraseName name before → ⊥) → (text : List ℕ) → IsTextBetween edges.Quotes false (one_line before) text
+  Phrase : (name : List ℕ) → IsPhraseName name before → IsUntorn before → IsNameBefore before (Some name)
+  AsItStands : ((name : List ℕ) → IsPhraseName name before → IsTorn before) → (text : List ℕ) → IsTextBetween edges.Quotes false (one_line before) text
       → IsNameBefore before (some_text (trimmed text))
 
 abbrev pub NotOne : List ℕ → Type 0
@@ -47,6 +48,10 @@ in_angles x = 60 ∷ (x ++ 62 ∷ [])
 pub data IsEmailIn (x : List ℕ) : List ℕ → Type 0 where
   OneInside : (a : Address) → IsOneAddress a (in_angles x) → IsEmailIn x a.email
   AsWritten : NotOne (in_angles x) → IsEmailIn x (trimmed (one_line x))
+
+-- no address by the grammar, or one that tears an encoded word
+abbrev pub NotStrict : List ℕ → Type 0
+NotStrict t = (a : Address) → IsOneAddress a t → IsTorn t
 
 -- no white space, control character, quotation mark or bracket
 abbrev pub is_plain_octet : ℕ → Bool
@@ -66,11 +71,11 @@ NoAddressAngle t = (before x : List ℕ) → IsAddressAngle before x t → ⊥
 
 -- what an element reads as, behind a group's beginning
 pub data ReadsAs (t : List ℕ) : Option Address → Type 0 where
-  Strict : (a : Address) → IsOneAddress a t → ReadsAs t (Some a)
-  InAngle : (before x : List ℕ) (name : Option (List ℕ)) (email : List ℕ) → NotOne t → IsAddressAngle before x t → IsNameBefore before name → IsEmailIn x email
+  Strict : (a : Address) → IsOneAddress a t → IsUntorn t → ReadsAs t (Some a)
+  InAngle : (before x : List ℕ) (name : Option (List ℕ)) (email : List ℕ) → NotStrict t → IsAddressAngle before x t → IsNameBefore before name → IsEmailIn x email
       → ReadsAs t (Some (record { name = name; email = email }))
-  Bare : NotOne t → NoAddressAngle t → IsBareText (trimmed t) → ReadsAs t (Some (record { name = None; email = trimmed t }))
-  PassedOver : NotOne t → NoAddressAngle t → (IsBareText (trimmed t) → ⊥) → ReadsAs t None
+  Bare : NotStrict t → NoAddressAngle t → IsBareText (trimmed t) → ReadsAs t (Some (record { name = None; email = trimmed t }))
+  PassedOver : NotStrict t → NoAddressAngle t → (IsBareText (trimmed t) → ⊥) → ReadsAs t None
 
 pub record IsElementRead (t : List ℕ) (a : Option Address) : Type 0 where
   pub rest : List ℕ

@@ -3,3 +3,4 @@ pub mod ShapeSteps
 pub mod ElementSteps
 pub mod AngleSteps
 pub mod BareSteps
+pub mod TornSteps

@@ -5,11 +5,14 @@ ghost use Rattle.header_words.specs.OneLine.{one_line};
 ghost use Rattle.header_words.specs.declared.encoded_word.Edges.TheVariants as edges;
 ghost use Rattle.mail_header.specs.WhiteEnd.{some_text};
 ghost use Rattle.header_addresses.specs.Parts.{HasHead};
+ghost use Rattle.header_addresses.specs.Parts.{IsPhraseName, IsOneAddress};
 ghost use Rattle.loose_addresses.specs.LooseLists as lists;
+ghost use Rattle.loose_addresses.specs.Torn.{IsTorn, IsUntorn};
 
 use crate::bare::{bare_text, trimmed};
 use crate::lumps::ends_lumps;
 use crate::outside::address_angle;
+use crate::torn::is_torn;
 use header_addresses::{Address, behind_head, name_of_phrase, one_address};
 use header_tokens::closings::closings;
 use header_words::{Edges, as_one_line, decode_words_between};
@@ -30,11 +33,23 @@ fn name_as_it_stands(alloc: Global, before: &[u8]) -> Result<Option<Bytes>, Allo
     }
 }
 
+/// The name that a phrase spells which tears no encoded word.
+fn whole_phrase(alloc: Global, before: &[u8]) -> Result<Option<Bytes>, AllocError>
+    ensures { IfOk result (λ r. MatchOption r
+        ((name : List ℕ) → IsPhraseName name before.now → IsTorn before.now)
+        (λ name. IsPhraseName name before.now × IsUntorn before.now)) }
+{
+    if is_torn(alloc, before)? {
+        return Ok(None);
+    }
+    name_of_phrase(alloc, before)
+}
+
 /// The name that stands before angle brackets.
 fn name_before(alloc: Global, before: &[u8]) -> Result<Option<Bytes>, AllocError>
     ensures { IfOk result (λ n. lists.IsNameBefore before.now n) }
 {
-    match name_of_phrase(alloc, before)? {
+    match whole_phrase(alloc, before)? {
         Some(name) => Ok(Some(name)),
         None => name_as_it_stands(alloc, before),
     }
@@ -81,7 +96,7 @@ fn in_angle(alloc: Global, before: &[u8], text: &[u8]) -> Result<Address, AllocE
 
 /// The address without angle brackets that the text is.
 fn bare_address(alloc: Global, text: &[u8]) -> Result<Option<Address>, AllocError>
-    ensures { IfOk result (λ r. lists.NotOne text.now → lists.NoAddressAngle text.now → lists.ReadsAs text.now r) }
+    ensures { IfOk result (λ r. lists.NotStrict text.now → lists.NoAddressAngle text.now → lists.ReadsAs text.now r) }
 {
     match bare_text(text) {
         None => Ok(None),
@@ -94,7 +109,7 @@ fn bare_address(alloc: Global, text: &[u8]) -> Result<Option<Address>, AllocErro
 
 /// What a text that is no address by the grammar reads as.
 fn read_loosely(alloc: Global, text: &[u8]) -> Result<Option<Address>, AllocError>
-    ensures { IfOk result (λ r. lists.NotOne text.now → lists.ReadsAs text.now r) }
+    ensures { IfOk result (λ r. lists.NotStrict text.now → lists.ReadsAs text.now r) }
 {
     match address_angle(alloc, text)? {
         None => bare_address(alloc, text),
@@ -102,10 +117,20 @@ fn read_loosely(alloc: Global, text: &[u8]) -> Result<Option<Address>, AllocErro
     }
 }
 
+/// The address that the text is by the grammar, where this tears no encoded word.
+fn strict_address(alloc: Global, text: &[u8]) -> Result<Option<Address>, AllocError>
+    ensures { IfOk result (λ r. MatchOption r (lists.NotStrict text.now) (λ a. IsOneAddress a text.now × IsUntorn text.now)) }
+{
+    if is_torn(alloc, text)? {
+        return Ok(None);
+    }
+    one_address(alloc, text)
+}
+
 fn read_behind(alloc: Global, text: &[u8]) -> Result<Option<Address>, AllocError>
     ensures { IfOk result (λ r. lists.ReadsAs text.now r) }
 {
-    match one_address(alloc, text)? {
+    match strict_address(alloc, text)? {
         Some(address) => Ok(Some(address)),
         None => read_loosely(alloc, text),
     }

@@ -1,11 +1,15 @@
 // The addresses and groups of a raw value.
-ghost use Rattle.std.specs.Prelude.{◌≡◌, ◌++◌, Option, IfOk, OnOk, option_to_list};
+ghost use Rattle.std.specs.Prelude.{◌≡◌, ◌++◌, Option, Some, IfOk, OnOk, MatchOption, option_to_list};
 ghost use Rattle.header_addresses.specs.declared.address.Address.{Address as AddressValue};
+ghost use Rattle.mail_header.specs.RawForms.{raw_form};
+ghost use Rattle.header_addresses.specs.Names.{IsAddressesForm, IsGroupsForm};
 ghost use Rattle.loose_addresses.specs.LooseForms as loose;
 ghost use Rattle.loose_addresses.specs.LooseLists as lists;
+ghost use Rattle.loose_addresses.specs.Torn.{IsUntorn};
 
 use crate::element::read_element;
 use crate::elements::next_element;
+use crate::torn::is_torn;
 use header_addresses::{Address, Group, as_addresses, as_groups};
 use header_tokens::closings::closings;
 use mail_header::as_raw;
@@ -47,17 +51,41 @@ fn some_list(addresses: Vec<Address>) -> Option<Listed<Address>>
     }
 }
 
-/// The addresses of a raw value (RFC 8621 section 4.1.2.3): those of its list of mailboxes and groups; where it is none, as
-/// far as they read. There is no reading where no address is left.
+/// The addresses by the grammar, where this tears no encoded word.
+fn whole_addresses(
+    alloc: Global,
+    raw: &[u8],
+    text: &[u8],
+) -> Result<Option<Listed<Address>>, AllocError>
+    requires { text.now ≡ raw_form raw.now }
+    ensures { IfOk result (λ r. MatchOption r (loose.IsNoList raw.now) (λ list. IsAddressesForm raw.now (Some list) × IsUntorn (raw_form raw.now))) }
+{
+    if is_torn(alloc, text)? {
+        return Ok(None);
+    }
+    as_addresses(alloc, raw)
+}
+
+/// The groups by the grammar, where this tears no encoded word.
+fn whole_groups(alloc: Global, raw: &[u8], text: &[u8]) -> Result<Option<Listed<Group>>, AllocError>
+    requires { text.now ≡ raw_form raw.now }
+    ensures { IfOk result (λ r. MatchOption r (loose.IsNoList raw.now) (λ list. IsGroupsForm raw.now (Some list) × IsUntorn (raw_form raw.now))) }
+{
+    if is_torn(alloc, text)? {
+        return Ok(None);
+    }
+    as_groups(alloc, raw)
+}
+
+/// The addresses of a raw value (RFC 8621 section 4.1.2.3): those of its list of mailboxes and groups; where it is none, or
+/// one that tears an encoded word, as far as they read. There is no reading where no address is left.
 pub fn as_loose_addresses(alloc: Global, raw: &[u8]) -> Result<Option<Listed<Address>>, AllocError>
     ensures { IfOk result (λ r. loose.IsLooseAddressesForm raw.now r) }
 {
-    match as_addresses(alloc, raw)? {
+    let text = as_raw(alloc, raw)?;
+    match whole_addresses(alloc, raw, text.as_slice())? {
         Some(list) => Ok(Some(list)),
-        None => {
-            let text = as_raw(alloc, raw)?;
-            Ok(some_list(addresses_in(alloc, text.as_slice())?))
-        }
+        None => Ok(some_list(addresses_in(alloc, text.as_slice())?)),
     }
 }
 
@@ -76,16 +104,14 @@ fn one_group(alloc: Global, addresses: Vec<Address>) -> Result<Option<Listed<Gro
     Ok(Some(Listed::from_vec(groups)))
 }
 
-/// The groups of a raw value (RFC 8621 section 4.1.2.4). Where it is no list of mailboxes and groups, its addresses are one
-/// group without a name, as far as they read.
+/// The groups of a raw value (RFC 8621 section 4.1.2.4). Where it is no list of mailboxes and groups, or one that tears an
+/// encoded word, its addresses are one group without a name, as far as they read.
 pub fn as_loose_groups(alloc: Global, raw: &[u8]) -> Result<Option<Listed<Group>>, AllocError>
     ensures { IfOk result (λ r. loose.IsLooseGroupsForm raw.now r) }
 {
-    match as_groups(alloc, raw)? {
+    let text = as_raw(alloc, raw)?;
+    match whole_groups(alloc, raw, text.as_slice())? {
         Some(list) => Ok(Some(list)),
-        None => {
-            let text = as_raw(alloc, raw)?;
-            one_group(alloc, addresses_in(alloc, text.as_slice())?)
-        }
+        None => one_group(alloc, addresses_in(alloc, text.as_slice())?),
     }
 }

@@ -12,6 +12,7 @@ pub(crate) mod angles;
 pub(crate) mod bare;
 pub(crate) mod element;
 pub(crate) mod outside;
+pub(crate) mod torn;
 
 // What they say together.
 pub mod forms;

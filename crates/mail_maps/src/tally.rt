@@ -156,6 +156,7 @@ fn tally_emails(alloc: Global, emails: &BTreeMap<u64, EmailRow>) -> Result<Talli
 {
     let mut folders = BTreeMap::new(alloc);
     let mut unread = BTreeSet::new(alloc);
+    // (the length says that its keys ascend)
     let _count = emails.len();
     for (_number, row) in emails {
         count_row(alloc, &mut folders, row)?;
@@ -173,6 +174,7 @@ fn told_counts(
     ensures { IfOk result (λ counts. (f : ℕ) → get nat_cmp counts f ≡ option_map (counts_told unread.now) (get nat_cmp folders.now f)) }
 {
     let mut counts = BTreeMap::new(alloc);
+    // (the length says that its keys ascend)
     let _count = folders.len();
     for (folder, tally) in folders {
         counts.insert(*folder, tally.counts(unread))?;

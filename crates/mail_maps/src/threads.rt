@@ -121,6 +121,7 @@ fn threads_in(
     ensures { IfOk result (λ threads. (t : ℕ) → get nat_cmp threads t ≡ option_map (map (λ p. p.1)) (keys_at (get nat_cmp groups.now t))) }
 {
     let mut threads = BTreeMap::new(alloc);
+    // (the length says that its keys ascend)
     let _count = groups.len();
     for (number, group) in groups {
         let thread = Thread::of_group(alloc, group)?;

@@ -34,16 +34,17 @@ pub rows_put : (rows all : Rows) (next : ℕ) (row : EmailRow) → AreBelow next
 rows_put rows all next row below put = ap (λ (rs : Rows). record { rows = rs; next = next + 1 }) (row_put rows all next row below put)
 
 -- the indexes of these rows
-pub indexes_put : (rows all : Rows) (next : ℕ) (row : EmailRow) (named : Named) (marks marks' : BTreeMap ℕ ℕ) (book book' : Members) → AreIndexes rows next marks book
-    → all ≡ insert_entry nat_cmp rows next row → named.email ≡ next → named.ids ≡ row.envelope.ids → named.base ≡ row.envelope.base
+pub indexes_put : (rows all : Rows) (next : ℕ) (row : EmailRow) (named : Named) (thread : ℕ) (marks marks' : BTreeMap ℕ ℕ) (book book' : Members) → AreIndexes rows next marks book
+    → all ≡ insert_entry nat_cmp rows next row → named.email ≡ next → named.ids ≡ row.envelope.ids → named.base ≡ row.envelope.base → thread ≡ row.thread
     → ((q : ℕ) → get nat_cmp marks' q ≡ cond (is_at (nat_cmp row.mark) q) (Some next) (get nat_cmp marks q))
-    → book' ≡ insert_entry nat_cmp book named.email (member_of named row.thread) → AreIndexes all (next + 1) marks' book'
-indexes_put rows all next row named marks marks' book book' was put email ids base marked kept =
-    let member : member_of named row.thread ≡ row_member row =
-    ap (λ (x : List (List ℕ)). record { ids = x; base = named.base; thread = row.thread }) ids
-    ∙ ap (λ (x : List ℕ). record { ids = row.envelope.ids; base = x; thread = row.thread }) base in
+    → book' ≡ insert_entry nat_cmp book named.email (member_of named thread) → AreIndexes all (next + 1) marks' book'
+indexes_put rows all next row named thread marks marks' book book' was put email ids base joined marked kept =
+    let member : member_of named thread ≡ row_member row =
+    ap (λ (x : List (List ℕ)). record { ids = x; base = named.base; thread = thread }) ids
+    ∙ ap (λ (x : List ℕ). record { ids = row.envelope.ids; base = x; thread = thread }) base
+    ∙ ap (λ (x : ℕ). record { ids = row.envelope.ids; base = row.envelope.base; thread = x }) joined in
     let in_book : book' ≡ insert_entry nat_cmp book next (row_member row) =
-    kept ∙ ap (λ (k : ℕ). insert_entry nat_cmp book k (member_of named row.thread)) email ∙ ap (insert_entry nat_cmp book next) member in
+    kept ∙ ap (λ (k : ℕ). insert_entry nat_cmp book k (member_of named thread)) email ∙ ap (insert_entry nat_cmp book next) member in
     let I : Rows → Type 0 = λ rs. AreIndexes rs (next + 1) marks' book' in
     subst I (sym (row_put rows all next row was.below put)) (indexes_more rows next row marks marks' book book' was marked in_book)
 

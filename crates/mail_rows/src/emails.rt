@@ -93,14 +93,14 @@ fn row_of(
 }
 
 impl Emails {
-    /// No Emails. It takes no memory.
-    pub fn new(alloc: Global) -> Emails
+    /// No Emails. It takes no memory. The secret is that of `ThreadBook::new`.
+    pub fn new(alloc: Global, secret: u64) -> Emails
         ensures { result ≡ none_numbered }
     {
         Emails {
             rows: BTreeMap::new(alloc),
             marks: BTreeMap::new(alloc),
-            book: ThreadBook::new(alloc),
+            book: ThreadBook::new(alloc, secret),
             next: 1,
         }
     }
@@ -124,6 +124,7 @@ impl Emails {
         ensures sorted { IsStrictlySortedBy nat_cmp (keys_of self.now.rows) }
         ensures below { AreBelow self.now.next self.now.rows }
     {
+        // (their length says that keys ascend; the type says the rest)
         let _count = self.rows.len();
     }
 
@@ -186,21 +187,22 @@ impl Emails {
         })
     }
 
-    /// With a row of the next number, which is named so.
-    fn with_row(self, named: Named, row: EmailRow) -> Result<Emails, AllocError>
-        requires next { self.next + 1 < 2 ^ 64 }
-        requires email { named.email ≡ self.next }
-        requires ids { named.ids ≡ row.envelope.ids }
-        requires base { named.base ≡ row.envelope.base }
-        ensures { IfOk result (λ e. e ≡ indexes.with_last self row) }
+    /// With a new Email of the next number. Its header is read once.
+    fn with_arrival(self, alloc: Global, arrival: Arrival) -> Result<Emails, AllocError>
+        requires { self.next + 1 < 2 ^ 64 }
+        ensures { IfOk result (λ e. indexes.AddsRow self arrival e) }
     {
+        self.are_in_order();
         let Emails {
             mut rows,
             mut marks,
             mut book,
             next,
         } = self;
-        book.put(named, row.thread)?;
+        let envelope = read_envelope(alloc, arrival.message.header.as_slice())?;
+        let named = named_by(next, &envelope)?;
+        let thread = book.join(named)?;
+        let row = row_of(alloc, next, thread, arrival, envelope)?;
         marks.insert(row.mark, next)?;
         rows.insert(next, row)?;
         Ok(Emails {
@@ -209,20 +211,6 @@ impl Emails {
             book,
             next: next + 1,
         })
-    }
-
-    /// With a new Email of the next number. Its header is read once.
-    fn with_arrival(self, alloc: Global, arrival: Arrival) -> Result<Emails, AllocError>
-        requires { self.next + 1 < 2 ^ 64 }
-        ensures { IfOk result (λ e. indexes.AddsRow self arrival e) }
-    {
-        self.are_in_order();
-        let number = self.next();
-        let envelope = read_envelope(alloc, arrival.message.header.as_slice())?;
-        let named = named_by(number, &envelope)?;
-        let thread = self.book.find(&named);
-        let row = row_of(alloc, number, thread, arrival, envelope)?;
-        self.with_row(named, row)
     }
 
     /// With new Emails, in order.

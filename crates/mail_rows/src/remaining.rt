@@ -226,6 +226,7 @@ pub fn remaining_rows_of(
         changed,
         updates,
     } = found_in(alloc, mirror, &rows)?;
+    // (the lengths say that keys ascend, before and after)
     let _before = rows.len();
     forget_rows(&mut rows, gone.as_slice());
     update_rows(&mut rows, updates);

@@ -28,6 +28,7 @@ pub fn follow_mailboxes(
     ensures folders { IfOk result (λ r. r.2.items ≡ stripped_folders mirror.now.mail.folders) }
 {
     let folders = mirror.folders();
+    // (the length says that its keys ascend)
     let _count = old.len();
     if !are_kept(kept.as_slice(), folders) {
         let mailboxes = mailboxes_of(alloc, mirror, emails)?;

@@ -81,6 +81,7 @@ pub fn recount(
     let counts = count_emails(alloc, emails)?;
     let touches = touches_of(alloc, &old, &counts)?;
     let mut mailboxes = old;
+    // (the lengths say that keys ascend, before and after)
     let _before = mailboxes.len();
     set_touched(&mut mailboxes, touches.as_slice(), &counts);
     let _after = mailboxes.len();

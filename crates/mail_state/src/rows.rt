@@ -41,12 +41,12 @@ impl Model for TypeRows {
 }
 
 impl TypeRows {
-    /// No rows. It takes no memory.
-    pub fn new(alloc: Global) -> TypeRows
+    /// No rows. It takes no memory. The secret is that of `ThreadBook::new`.
+    pub fn new(alloc: Global, secret: u64) -> TypeRows
         ensures { result ≡ no_rows }
     {
         TypeRows {
-            emails: Emails::new(alloc),
+            emails: Emails::new(alloc, secret),
             mailboxes: BTreeMap::new(alloc),
             threads: BTreeMap::new(alloc),
             folders: Vec::new(alloc),

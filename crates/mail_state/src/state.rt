@@ -46,6 +46,7 @@ fn keys_are_small<R>(rows: &BTreeMap<u64, R>)
 {
     match rows.last_key_value() {
         Some((number, _)) => {
+            // (its type says how many bits it has)
             let _last = *number;
         }
         None => {}
@@ -82,7 +83,7 @@ impl Model for MailState {
 }
 
 impl MailState {
-    /// A state without mail.
+    /// A state without mail. The epoch is the secret of `ThreadBook::new` as well: clients know it, and who writes the mail doesn't.
     pub fn new(alloc: Global, epoch: u64) -> Result<MailState, AllocError>
         ensures { IfOk result (λ s. s ≡ first_state epoch) }
     {
@@ -90,7 +91,7 @@ impl MailState {
         Ok(MailState {
             alloc,
             epoch,
-            rows: TypeRows::new(alloc),
+            rows: TypeRows::new(alloc, epoch),
             lists,
         })
     }
@@ -109,6 +110,7 @@ impl MailState {
             rows,
             lists,
         } = self;
+        // (the place is the length of a history, and small)
         let _place = lists.email.place();
         let (rows, touches) = rows.follow(alloc, mirror)?;
         let lists = lists.noting(&touches)?;
@@ -180,6 +182,7 @@ impl MailState {
         ensures ascending { IfOk result (λ v. IsStrictlySortedBy nat_cmp v.items) }
     {
         self.rows.emails.are_in_order();
+        // (lengths say that keys ascend)
         let _mailboxes = self.rows.mailboxes.len();
         let _threads = self.rows.threads.len();
         match kind {

@@ -139,6 +139,7 @@ pub fn follow_threads(
 ) -> Result<(BTreeMap<u64, Thread>, Vec<Entry>), AllocError>
     ensures { IfOk result (λ r. OthersStay old.entries emails.now.entries touches.now → StepsThreads old.entries emails.now.entries r.0.entries r.1.items) }
 {
+    // (the length says that its keys ascend)
     let _before = old.len();
     let among = touched_threads(alloc, &old, emails, touches)?;
     if among.is_empty() {
@@ -147,6 +148,7 @@ pub fn follow_threads(
     let fresh = threads_among(alloc, emails, &among)?;
     let steps = steps_among(alloc, &old, &fresh, &among)?;
     let threads = updated(old, &among, fresh)?;
+    // (the length says that its keys ascend)
     let _count = threads.len();
     Ok((threads, steps))
 }

@@ -15,12 +15,8 @@ mod trees;
 
 use std::alloc::{AllocError, Global};
 use std::io;
+use test_rows::{TestRows, answer_rows, first_word};
 use written::Written;
-
-/// The text up to its first space, and what follows that space.
-fn first_word(text: &str) -> (&str, &str) {
-    text.split_once(' ').unwrap_or((text, ""))
-}
 
 /// The text up to its first `|`, and what follows that.
 fn first_key(text: &str) -> (&str, &str) {
@@ -90,36 +86,25 @@ impl Rows {
         }
         out.push('\n')
     }
+}
 
-    /// Does what a line says, and adds what comes of it.
+impl TestRows for Rows {
+    fn begin(&mut self) -> Result<(), AllocError> {
+        self.written.clear();
+        Ok(())
+    }
+
     fn take(&mut self, line: &str, out: &mut String) -> Result<(), AllocError> {
         let (word, rest) = first_word(line);
         match word {
-            "" | "#" => Ok(()),
-            "=" => {
-                self.written.clear();
-                writeln!(out, "{line}")
-            }
             "part" | "line" | "lf" | "repeat" | "numbered" => self.written.take(word, rest),
             _ => self.answer(line, out),
         }
     }
 }
 
-/// What comes of all lines.
-fn answers(alloc: Global, lines: &str) -> Result<String, AllocError> {
+fn main(rt: HostRuntime) -> io::Result<()> {
+    let alloc = rt.alloc();
     let written = Written::new(alloc);
-    let mut rows = Rows { written, alloc };
-    let mut out = String::new(alloc);
-    for line in lines.lines() {
-        rows.take(line, &mut out)?;
-    }
-    Ok(out)
-}
-
-fn main(rt: HostRuntime) -> Result<(), anyhow::Error> {
-    let lines = io::read_to_string(rt.alloc(), rt.reader())?;
-    let out = answers(rt.alloc(), &lines)?;
-    print!(rt; "{out}")?;
-    Ok(())
+    answer_rows(&rt, &mut Rows { written, alloc })
 }

@@ -1,31 +1,19 @@
 // Octets that are written down as text.
 use blob_store::blob_id::blob_id;
 use octets::Bytes;
-use percent_encoding::{CONTROLS, percent_decode, percent_encode};
 use std::alloc::{AllocError, Global};
+use test_rows::octets_of;
 
 /// The most octets that are spelled.
 const MAX_SPELLED_OCTETS: usize = 3_000;
 
-/// The octets of a text, in which `%` and two hexadecimal digits stand for one octet.
-fn octets_of(alloc: Global, text: &str) -> Result<Vec<u8>, AllocError> {
-    let mut octets = Vec::new(alloc);
-    percent_decode(text.as_bytes()).append_to(&mut octets)?;
-    Ok(octets)
-}
-
-/// Adds these octets: those outside 32 to 126, and `%`, as `%` and two hexadecimal digits.
-fn put_spelled(out: &mut String, octets: &[u8]) -> Result<(), AllocError> {
-    percent_encode(octets, CONTROLS.add(b'%')).append_to(out)
-}
-
 /// Adds these octets; of many their number and the id of an upload of them, which has their digest.
 pub(crate) fn put_octets(out: &mut String, octets: &[u8]) -> Result<(), AllocError> {
     if octets.len() <= MAX_SPELLED_OCTETS {
-        return put_spelled(out, octets);
+        return test_rows::put_octets(out, octets);
     }
     write!(out, "{} octets ", octets.len())?;
-    put_spelled(out, &blob_id(octets))
+    test_rows::put_octets(out, &blob_id(octets))
 }
 
 /// Adds these octets, or `-` for none.
@@ -70,12 +58,13 @@ impl Written {
     /// The octets, and those of the text after them.
     pub(crate) fn with(&self, text: &str) -> Result<Vec<u8>, AllocError> {
         let mut octets = self.octets.to_vec(self.alloc)?;
-        percent_decode(text.as_bytes()).append_to(&mut octets)?;
+        octets.extend_from_slice(&octets_of(self.alloc, text)?)?;
         Ok(octets)
     }
 
     fn put(&mut self, text: &str, end: &[u8]) -> Result<(), AllocError> {
-        percent_decode(text.as_bytes()).append_to(&mut self.octets)?;
+        let octets = octets_of(self.alloc, text)?;
+        self.octets.extend_from_slice(&octets)?;
         self.octets.extend_from_slice(end)?;
         Ok(())
     }

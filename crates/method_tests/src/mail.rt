@@ -3,7 +3,8 @@ use crate::methods::put_called;
 use mail_state::MailState;
 use std::alloc::{AllocError, Global};
 use std::mem;
-use told_dialogues::{exchange_of, octets_of};
+use test_rows::octets_of;
+use told_dialogues::exchange_of;
 use told_mail::Mirror;
 
 /// The epoch of each state.

@@ -20,8 +20,8 @@ use mail::Mail;
 use requests::Requests;
 use std::alloc::{AllocError, Global};
 use std::io;
+use test_rows::{TestRows, answer_rows, first_number, first_word};
 use texts::Texts;
-use told_dialogues::{first_number, first_word};
 
 /// What the rows so far have left.
 #[derive(Drop)]
@@ -52,17 +52,15 @@ impl Rows {
     }
 
     /// Does what a command says, and adds what comes of it.
-    fn take(&mut self, command: &str, out: &mut String) -> Result<(), AllocError> {
+    fn take_command(&mut self, command: &str, out: &mut String) -> Result<(), AllocError> {
         let line = self.texts.filled(command)?;
         let (word, text) = first_word(&line);
         match word {
-            "" | "#" => Ok(()),
             "let" => self.texts.put(text),
             "repeat" => self.texts.repeat(text),
             "fresh" => self.mail.clear(),
             "serve" => self.mail.serve(out),
             "tell" => self.mail.tell(text, out),
-            "=" => writeln!(out, "{line}"),
             _ => {
                 write!(out, "{command} -> ")?;
                 self.answer(word, text, out)?;
@@ -70,35 +68,28 @@ impl Rows {
             }
         }
     }
+}
+
+impl TestRows for Rows {
+    fn begin(&mut self) -> Result<(), AllocError> {
+        Ok(())
+    }
 
     /// Does what a line says, as often as it says.
-    fn take_line(&mut self, line: &str, out: &mut String) -> Result<(), AllocError> {
+    fn take(&mut self, line: &str, out: &mut String) -> Result<(), AllocError> {
         let (count, commands) = match line.strip_prefix("times ") {
             Some(text) => first_number(text),
             None => (1, line),
         };
         for _ in 0..count {
             for command in commands.split(" & ") {
-                self.take(command, out)?;
+                self.take_command(command, out)?;
             }
         }
         Ok(())
     }
 }
 
-/// What comes of all lines.
-fn answers(alloc: Global, lines: &str) -> Result<String, AllocError> {
-    let mut rows = Rows::new(alloc)?;
-    let mut out = String::new(alloc);
-    for line in lines.lines() {
-        rows.take_line(line, &mut out)?;
-    }
-    Ok(out)
-}
-
-fn main(rt: HostRuntime) -> Result<(), anyhow::Error> {
-    let lines = io::read_to_string(rt.alloc(), rt.reader())?;
-    let out = answers(rt.alloc(), &lines)?;
-    print!(rt; "{out}")?;
-    Ok(())
+fn main(rt: HostRuntime) -> io::Result<()> {
+    answer_rows(&rt, &mut Rows::new(rt.alloc())?)
 }

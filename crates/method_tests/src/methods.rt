@@ -10,7 +10,7 @@ use query_core::{email_query, mailbox_query};
 use read_methods::{email_changes, mailbox_changes, mailbox_get, thread_changes, thread_get};
 use serde_json::Value;
 use std::alloc::{AllocError, Global};
-use told_dialogues::first_word;
+use test_rows::first_word;
 
 /// All capabilities.
 const BOTH: Using = Using {

@@ -5,7 +5,7 @@ use email_properties::{
 };
 use jmap_arguments::MethodError;
 use std::alloc::{AllocError, Global};
-use told_dialogues::put_octets;
+use test_rows::put_octets;
 
 const FORMS: [HeaderForm; 7] = [
     HeaderForm::Raw,

@@ -8,7 +8,7 @@ use jmap_core::{
 use result_references::{Call, resolve};
 use serde_json::Value;
 use std::alloc::{AllocError, Global};
-use told_dialogues::{first_word, octets_of, put_octets};
+use test_rows::{first_word, octets_of, put_octets};
 
 /// Adds the name and the id of each call.
 fn put_calls(out: &mut String, calls: &[Call]) -> Result<(), AllocError> {

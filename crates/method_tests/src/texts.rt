@@ -1,7 +1,7 @@
 // Texts by their names, of which rows are made, and texts that are printed.
 use std::alloc::{AllocError, Global};
 use std::collections::BTreeMap;
-use told_dialogues::{first_number, first_word, put_octets};
+use test_rows::{first_number, first_word, put_octets};
 
 /// The most octets of a text that is printed whole.
 const MOST: usize = 2000;

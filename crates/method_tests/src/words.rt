@@ -5,7 +5,7 @@ use jmap_arguments::{MethodError, Using, error_arguments, read_state, state_text
 use jmap_core::CreatedIds;
 use serde_json::Value;
 use std::alloc::{AllocError, Global};
-use told_dialogues::first_word;
+use test_rows::first_word;
 
 const ERRORS: [MethodError; 15] = [
     MethodError::ServerUnavailable,

@@ -1,7 +1,7 @@
 -- Fields are one header of a part.
-use Rattle.std.proofs.Common.{◌≡◌, ℕ, false, List, [], ◌∷◌, ◌++◌, sym, ap, ◌∙◌, subst, Option, Some, None}
+use Rattle.std.proofs.Common.{◌≡◌, ℕ, false, List, [], ◌∷◌, ◌++◌, refl, sym, ap, ◌∙◌, subst, Option, Some, None}
 use Rattle.std.specs.Prelude.{codes}
-use Rattle.std.specs.Option.{option_map, option_or, option_and_then}
+use Rattle.std.specs.Option.{option_and_then}
 use Rattle.std.proofs.lemmas.List.{append_cancel_right}
 use Rattle.header_words.specs.OneLine.{one_line}
 use Rattle.header_words.proofs.WordLemmas.{one_text}
@@ -15,7 +15,8 @@ use Rattle.mime_fields.specs.declared.header.PartHeader.{PartHeader}
 use Rattle.mime_fields.proofs.IdLemmas.{one_kept}
 use Rattle.mime_fields.specs.ContentIds.{IsWithoutAngles, InAngles, Bare}
 use Rattle.mime_fields.proofs.ParameterLemmas.{one_has, one_unfolded, one_media, one_kind}
-use Rattle.mime_fields.specs.Dispositions.{IsFileName}
+use Rattle.mime_fields.specs.ContentTypes.{charset_text}
+use Rattle.mime_fields.specs.Dispositions.{IsWrittenName, IsFileName, Extended, OfFile, OfType}
 use Rattle.mime_fields.specs.ExtendedValues.{extended_name}
 use Rattle.mime_fields.specs.Parameters.{trimmed}
 use Rattle.mime_fields.specs.PartHeaders.{field_octets, HasLexemes, IsTrimmedTextOf, IsIdOf, mechanism, IsPartHeader}
@@ -23,10 +24,16 @@ use Rattle.mime_fields.specs.PartHeaders.{field_octets, HasLexemes, IsTrimmedTex
 one_lexemes : (f : List NameAndRaw) (name : List ℕ) (x y : List Spelled) → HasLexemes f name x → HasLexemes f name y → x ≡ y
 one_lexemes f name x y g h = one_leading_lexemes alphabet.Mime x y (field_octets f name) g h
 
-one_name : (extended written x y : Option (List ℕ)) → IsFileName extended written x → IsFileName extended written y → x ≡ y
-one_name (Some e) w x y g h = g ∙ sym h
-one_name None None x y g h = g ∙ sym h
-one_name None (Some w) x y g h = g.2 ∙ ap (λ (u : List ℕ). Some u) (one_text false (one_line (raw_form w)) g.0 h.0 g.1 h.1) ∙ sym h.2
+one_written : (written x y : Option (List ℕ)) → IsWrittenName written x → IsWrittenName written y → x ≡ y
+one_written None x y g h = g ∙ sym h
+one_written (Some w) x y g h = g.2 ∙ ap some_text (one_text false (one_line (raw_form w)) g.0 h.0 g.1 h.1) ∙ sym h.2
+
+one_name : (extended file type_name x y : Option (List ℕ)) → IsFileName extended file type_name x → IsFileName extended file type_name y → x ≡ y
+one_name _ _ _ _ _ (Extended n f t) (Extended m _ _) = refl
+one_name _ _ _ _ _ (OfFile n f t g) (OfFile m _ _ h) = one_written f (Some n) (Some m) g h
+one_name _ _ _ _ _ (OfFile n f t g) (OfType _ _ y h k) = let e = one_written f (Some n) None g h in absurd cc
+one_name _ _ _ _ _ (OfType f t x g i) (OfFile m _ _ h) = let e = one_written f None (Some m) g h in absurd cc
+one_name _ _ _ _ _ (OfType f t x g i) (OfType _ _ y h k) = one_written t x y i k
 
 one_trimmed : (raw x y : Option (List ℕ)) → IsTrimmedTextOf raw x → IsTrimmedTextOf raw y → x ≡ y
 one_trimmed None x y g h = g ∙ sym h
@@ -56,18 +63,18 @@ one_part_header f g h i j =
     let t = field_octets f (codes "content-type") in
     let d = field_octets f (codes "content-disposition") in
     let e = one_lexemes f (codes "content-transfer-encoding") i.transfer_encoding j.transfer_encoding i.has_transfer_encoding j.has_transfer_encoding in
-    let x = one_unfolded (codes "filename*") d i.extended_octets j.extended_octets i.has_extended j.has_extended in
+    let x = one_has (codes "filename*") d i.extended_octets j.extended_octets i.has_extended j.has_extended in
     let y = one_has (codes "filename") d i.file j.file i.has_file j.has_file in
     let z = one_has (codes "name") t i.type_name j.type_name i.has_type_name j.has_type_name in
-    let n = subst (λ (u : Option (List ℕ)). IsFileName (option_and_then extended_name u) (option_or i.file i.type_name) g.name) x i.name in
-    let m = subst (λ (u : Option (List ℕ)). IsFileName (option_and_then extended_name j.extended_octets) (option_or u i.type_name) g.name) y n in
-    let o = subst (λ (u : Option (List ℕ)). IsFileName (option_and_then extended_name j.extended_octets) (option_or j.file u) g.name) z m in
+    let n = subst (λ (u : Option (List ℕ)). IsFileName (option_and_then extended_name u) i.file i.type_name g.name) x i.name in
+    let m = subst (λ (u : Option (List ℕ)). IsFileName (option_and_then extended_name j.extended_octets) u i.type_name g.name) y n in
+    let o = subst (λ (u : Option (List ℕ)). IsFileName (option_and_then extended_name j.extended_octets) j.file u g.name) z m in
     record_same _ _ _ _ _ _ _ _ _ _ _ _ _ _ _ _ _ _
     (one_media t g.media h.media i.media j.media)
     (one_unfolded (codes "boundary") t g.boundary h.boundary i.boundary j.boundary)
-    (i.charset ∙ ap (option_map raw_form) (one_unfolded (codes "charset") t i.charset_octets j.charset_octets i.has_charset j.has_charset) ∙ sym j.charset)
+    (i.charset ∙ ap (option_and_then charset_text) (one_unfolded (codes "charset") t i.charset_octets j.charset_octets i.has_charset j.has_charset) ∙ sym j.charset)
     (one_kind d g.disposition h.disposition i.disposition j.disposition)
-    (one_name _ _ g.name h.name o j.name)
+    (one_name _ _ _ g.name h.name o j.name)
     (one_id _ g.cid h.cid i.cid j.cid)
     (i.language ∙ sym j.language)
     (one_trimmed _ g.location h.location i.location j.location)

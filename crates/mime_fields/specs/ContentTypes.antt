@@ -1,8 +1,9 @@
 -- Content-Type (RFC 2045 section 5.1): the media type stands in the first piece of its value.
 use Rattle.std.specs.Prelude.{◌≡◌, ℕ, Bool, ◌&&◌, if◌then◌else◌, List, [], ◌∷◌, ◌++◌, map, Option, Some, None, codes}
 use Rattle.std.specs.Char.{to_ascii_lowercase}
-use Rattle.std.specs.Option.{option_map}
+use Rattle.std.specs.Option.{option_and_then}
 use Rattle.mail_header.specs.RawForms.{raw_form}
+use Rattle.mail_header.specs.WhiteEnd.{some_text}
 use Rattle.header_tokens.specs.declared.token.Alphabet.TheVariants as alphabet
 use Rattle.header_tokens.specs.Tokens.{Spelled}
 use Rattle.header_tokens.specs.Lexemes.{AreLeadingLexemes}
@@ -37,11 +38,15 @@ pub record HasFrontLexemes (lexemes : List Spelled) (t : List ℕ) : Type 0 wher
 abbrev pub HasMedia : List ℕ → Option (List ℕ) → Type 0
 HasMedia t media = (lexemes : List Spelled) × HasFrontLexemes lexemes t × (media ≡ media_in lexemes)
 
+-- the text of a charset's octets; there is none without an octet
+abbrev pub charset_text : List ℕ → Option (List ℕ)
+charset_text octets = some_text (raw_form octets)
+
 -- The boundary is the octets that delimiter lines have, the charset a text; the name has its line ends.
 pub record IsContentType (t : List ℕ) (content : ContentType) : Type 0 where
   pub media : HasMedia t content.media
   pub boundary : HasUnfolded (codes "boundary") t content.boundary
   pub charset_octets : Option (List ℕ)
   pub has_charset : HasUnfolded (codes "charset") t charset_octets
-  pub charset : content.charset ≡ option_map raw_form charset_octets
+  pub charset : content.charset ≡ option_and_then charset_text charset_octets
   pub name : HasParameter (codes "name") t content.name

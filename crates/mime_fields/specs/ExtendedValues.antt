@@ -4,6 +4,7 @@ use Rattle.std.specs.Prelude.{ℕ, Bool, not, ◌==◌, List, [], ◌∷◌, Opt
 use Rattle.std.specs.Option.{option_map, option_and_then}
 use Rattle.text_words.specs.Cuts.{front, back}
 use Rattle.header_words.specs.Charsets.{charset_of, text_in}
+use Rattle.header_words.specs.OneLine.{one_line}
 use Rattle.mail_header.specs.WhiteEnd.{some_text}
 use Rattle.percent_encoding.specs.Percent.{percent_decode}
 
@@ -24,6 +25,6 @@ extended_text t =
     option_map (λ (escaped : List ℕ). text_in (charset_of (front is_no_apostrophe t)) (percent_decode escaped))
     (option_and_then behind_apostrophe (behind_apostrophe t))
 
--- the name that it is; there is none without an octet
+-- the name that it is, as one line; there is none without an octet
 abbrev pub extended_name : List ℕ → Option (List ℕ)
-extended_name t = option_and_then some_text (extended_text t)
+extended_name t = option_and_then (λ (text : List ℕ). some_text (one_line text)) (extended_text t)

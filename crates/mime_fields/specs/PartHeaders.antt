@@ -1,13 +1,13 @@
 -- What the header of a body part says (RFC 8621 section 4.1.4). Of several fields of a name the last counts.
 use Rattle.std.specs.Prelude.{◌≡◌, ℕ, List, [], Option, Some, None, unwrap_or, codes}
-use Rattle.std.specs.Option.{option_map, option_or, option_and_then}
+use Rattle.std.specs.Option.{option_map, option_and_then}
 use Rattle.header_tokens.specs.declared.token.Alphabet.TheVariants as alphabet
 use Rattle.mail_header.specs.Fields.{NameAndRaw, last_named}
 use Rattle.header_tokens.specs.Lexemes.{AreLeadingLexemes}
 use Rattle.mail_header.specs.RawForms.{raw_form, IsTextForm}
 use Rattle.header_tokens.specs.Tokens.{Spelled}
 use Rattle.mime_fields.specs.ContentIds.{IsContentId}
-use Rattle.mime_fields.specs.ContentTypes.{HasMedia}
+use Rattle.mime_fields.specs.ContentTypes.{HasMedia, charset_text}
 use Rattle.mime_fields.specs.Dispositions.{leading_token, HasKind, IsFileName}
 use Rattle.mime_fields.specs.ExtendedValues.{extended_name}
 use Rattle.mime_fields.specs.Parameters.{trimmed, HasParameter, HasUnfolded}
@@ -42,15 +42,15 @@ pub record IsPartHeader (fields : List NameAndRaw) (h : PartHeader) : Type 0 whe
   pub boundary : HasUnfolded (codes "boundary") (field_octets fields (codes "content-type")) h.boundary
   pub charset_octets : Option (List ℕ)
   pub has_charset : HasUnfolded (codes "charset") (field_octets fields (codes "content-type")) charset_octets
-  pub charset : h.charset ≡ option_map raw_form charset_octets
+  pub charset : h.charset ≡ option_and_then charset_text charset_octets
   pub disposition : HasKind (field_octets fields (codes "content-disposition")) h.disposition
   pub extended_octets : Option (List ℕ)
-  pub has_extended : HasUnfolded (codes "filename*") (field_octets fields (codes "content-disposition")) extended_octets
+  pub has_extended : HasParameter (codes "filename*") (field_octets fields (codes "content-disposition")) extended_octets
   pub file : Option (List ℕ)
   pub has_file : HasParameter (codes "filename") (field_octets fields (codes "content-disposition")) file
   pub type_name : Option (List ℕ)
   pub has_type_name : HasParameter (codes "name") (field_octets fields (codes "content-type")) type_name
-  pub name : IsFileName (option_and_then extended_name extended_octets) (option_or file type_name) h.name
+  pub name : IsFileName (option_and_then extended_name extended_octets) file type_name h.name
   pub cid : IsIdOf (last_named (codes "content-id") fields) h.cid
   pub language : h.language ≡ option_map raw_form (last_named (codes "content-language") fields)
   pub location : IsTrimmedTextOf (last_named (codes "content-location") fields) h.location

@@ -1,11 +1,11 @@
 // Content-Type.
 ghost use Rattle.std.specs.Prelude.{◌≡◌, [], ◌++◌, ◌∷◌, None, Some, IfOk, MatchOption, codes};
-ghost use Rattle.std.specs.Option.{option_map};
-ghost use Rattle.mail_header.specs.RawForms.{raw_form};
+ghost use Rattle.std.specs.Option.{option_and_then};
 ghost use Rattle.header_tokens.specs.TokenView.{token_view};
 ghost use Rattle.mime_fields.specs.ContentTypes as types;
 ghost use Rattle.mime_fields.specs.reading.MimeLexemes.{mime_lexemes};
 
+use crate::extended_value::some_text;
 use crate::parameters::{is_token, mime_lexeme, parameter, without_line_ends};
 use crate::pieces::next_piece;
 use header_tokens::closings::closings;
@@ -75,13 +75,13 @@ fn media_of(alloc: Global, first: &[u8]) -> Result<Option<Bytes>, AllocError>
     }
 }
 
-/// The text of a charset's octets.
+/// The text of a charset's octets, where it has an octet.
 fn charset_text(alloc: Global, octets: Option<Bytes>) -> Result<Option<Bytes>, AllocError>
-    ensures { IfOk result (λ c. c ≡ option_map raw_form octets) }
+    ensures { IfOk result (λ c. c ≡ option_and_then types.charset_text octets) }
 {
     match octets {
         None => Ok(None),
-        Some(charset) => Ok(Some(as_raw(alloc, charset.as_slice())?)),
+        Some(charset) => Ok(some_text(as_raw(alloc, charset.as_slice())?)),
     }
 }
 

@@ -4,8 +4,8 @@ ghost use Rattle.mime_fields.specs.ContentTypes.{lower};
 ghost use Rattle.mime_fields.specs.Dispositions as dispositions;
 ghost use Rattle.mime_fields.specs.reading.MimeLexemes.{mime_lexemes};
 
-use crate::extended_value::extended;
-use crate::parameters::{is_token, mime_lexeme, parameter, without_line_ends};
+use crate::extended_value::{extended, some_text};
+use crate::parameters::{is_token, mime_lexeme, parameter};
 use crate::pieces::next_piece;
 use header_tokens::closings::closings;
 use header_words::{as_one_line, decode_words};
@@ -51,37 +51,53 @@ pub(crate) fn read_disposition(alloc: Global, text: &[u8]) -> Result<Disposition
     let closed = closings(alloc, text)?;
     let (first, rest) = next_piece(text, closed.as_slice());
     let octets = parameter(alloc, b"filename*", rest, closed.as_slice())?;
-    let line = without_line_ends(alloc, octets)?;
     Ok(Disposition {
         kind: first_token(alloc, first)?,
-        extended: extended(alloc, line)?,
+        extended: extended(alloc, octets)?,
         file: parameter(alloc, b"filename", rest, closed.as_slice())?,
     })
 }
 
-/// The name in an extended value, else the one as it is written, with encoded words decoded; as one line.
-pub(crate) fn name_of(
-    alloc: Global,
-    extended: Option<Bytes>,
-    written: Option<Bytes>,
-) -> Result<Option<Bytes>, AllocError>
-    ensures { IfOk result (λ n. dispositions.IsFileName extended written n) }
-{
-    match extended {
-        Some(name) => Ok(Some(Bytes::from_vec(as_one_line(alloc, name.as_slice())?)?)),
-        None => decoded(alloc, written),
-    }
-}
-
-fn decoded(alloc: Global, written: Option<Bytes>) -> Result<Option<Bytes>, AllocError>
-    ensures { IfOk result (λ n. dispositions.IsFileName None written n) }
+/// The name that a parameter's value is, with encoded words decoded; as one line.
+fn written_name(alloc: Global, written: Option<Bytes>) -> Result<Option<Bytes>, AllocError>
+    ensures { IfOk result (λ n. dispositions.IsWrittenName written n) }
 {
     match written {
         None => Ok(None),
         Some(value) => {
             let text = as_raw(alloc, value.as_slice())?;
             let line = as_one_line(alloc, text.as_slice())?;
-            Ok(Some(Bytes::from_vec(decode_words(alloc, line.as_slice())?)?))
+            let name = decode_words(alloc, line.as_slice())?;
+            Ok(some_text(Bytes::from_vec(name)?))
         }
+    }
+}
+
+/// The name that `filename` is, else that of `name`.
+fn name_as_written(
+    alloc: Global,
+    file: Option<Bytes>,
+    type_name: Option<Bytes>,
+) -> Result<Option<Bytes>, AllocError>
+    ensures { IfOk result (λ n. dispositions.IsFileName None file type_name n) }
+{
+    match written_name(alloc, file)? {
+        Some(name) => Ok(Some(name)),
+        None => written_name(alloc, type_name),
+    }
+}
+
+/// The name of a part's file.
+pub(crate) fn name_of(
+    alloc: Global,
+    extended: Option<Bytes>,
+    file: Option<Bytes>,
+    type_name: Option<Bytes>,
+) -> Result<Option<Bytes>, AllocError>
+    ensures { IfOk result (λ n. dispositions.IsFileName extended file type_name n) }
+{
+    match extended {
+        Some(name) => Ok(Some(name)),
+        None => name_as_written(alloc, file, type_name),
     }
 }

@@ -2,10 +2,11 @@
 ghost use Rattle.std.specs.Prelude.{◌≡◌, None, Some, IfOk, MatchOption};
 ghost use Rattle.std.specs.Option.{option_and_then};
 ghost use Rattle.percent_encoding.specs.Percent as percent;
+ghost use Rattle.header_words.specs.OneLine.{one_line};
 ghost use Rattle.mail_header.specs.WhiteEnd as ends;
 ghost use Rattle.mime_fields.specs.ExtendedValues as values;
 
-use header_words::decode_charset;
+use header_words::{as_one_line, decode_charset};
 use octets::Bytes;
 use percent_encoding::percent_decode;
 use std::alloc::{AllocError, Global};
@@ -72,7 +73,7 @@ fn extended_text(alloc: Global, value: &[u8]) -> Result<Option<Bytes>, AllocErro
 }
 
 /// The text, where it has an octet.
-fn some_text(text: Bytes) -> Option<Bytes>
+pub(crate) fn some_text(text: Bytes) -> Option<Bytes>
     ensures { result ≡ ends.some_text text }
 {
     if text.as_slice().is_empty() {
@@ -82,13 +83,21 @@ fn some_text(text: Bytes) -> Option<Bytes>
     }
 }
 
+/// The text as one line, where it has an octet then.
+fn some_line(alloc: Global, text: &[u8]) -> Result<Option<Bytes>, AllocError>
+    ensures { IfOk result (λ t. t ≡ ends.some_text (one_line text.now)) }
+{
+    let line = as_one_line(alloc, text)?;
+    Ok(some_text(Bytes::from_vec(line)?))
+}
+
 /// The name that one extended value is.
 fn extended_name(alloc: Global, value: &[u8]) -> Result<Option<Bytes>, AllocError>
     ensures { IfOk result (λ t. t ≡ values.extended_name value.now) }
 {
     match extended_text(alloc, value)? {
         None => Ok(None),
-        Some(text) => Ok(some_text(text)),
+        Some(text) => some_line(alloc, text.as_slice()),
     }
 }
 

@@ -74,11 +74,7 @@ pub fn part_header(alloc: Global, fields: &Fields<'_>) -> Result<PartHeader, All
 {
     let content = read_type(alloc, octets_of(fields, b"content-type"))?;
     let disposition = read_disposition(alloc, octets_of(fields, b"content-disposition"))?;
-    let name = name_of(
-        alloc,
-        disposition.extended,
-        disposition.file.or(content.name),
-    )?;
+    let name = name_of(alloc, disposition.extended, disposition.file, content.name)?;
     Ok(PartHeader {
         media: content.media,
         boundary: content.boundary,

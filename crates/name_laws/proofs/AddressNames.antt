@@ -1,5 +1,5 @@
 -- No name of an address or a group has a control character.
-use Rattle.std.proofs.Common.{◌≡◌, ℕ, Bool, true, false, ◌&&◌, ◌||◌, cond, List, [], ◌∷◌, ◌++◌, refl, sym, ap, ◌∙◌, subst, arith, Option, Some, None}
+use Rattle.std.proofs.Common.{◌≡◌, ℕ, Bool, true, false, ◌||◌, cond, List, [], ◌∷◌, ◌++◌, refl, sym, ap, subst, arith, Option, Some, None}
 use Rattle.std.specs.List.{AllZip, flat_map, list_all}
 use Rattle.text_words.specs.Cuts.{Each, front, back}
 use Rattle.text_words.specs.Octets.{is_white}
@@ -13,7 +13,7 @@ use Rattle.header_tokens.specs.declared.token.Alphabet.TheVariants as alphabet
 use Rattle.header_tokens.specs.declared.token.Kind.{Kind}
 use Rattle.header_tokens.specs.declared.token.Kind.TheVariants as kind
 use Rattle.header_tokens.specs.Kinds.{has_mark, is_gap, is_word}
-use Rattle.header_tokens.specs.Tokens.{Spelled, IsKind, IsToken, AreTokens, is_letter, is_mark}
+use Rattle.header_tokens.specs.Tokens.{Spelled, IsKind, AreTokens, is_letter, is_mark}
 use Rattle.header_tokens.specs.Words.{bracketed_text}
 use Rattle.header_addresses.specs.declared.address.Address.{Address}
 use Rattle.header_addresses.specs.declared.address.Group.{Group}
@@ -21,7 +21,7 @@ use Rattle.header_addresses.specs.AddressLists.{Element, IsElement, Comma, Blank
 use Rattle.header_addresses.specs.AddressLists.{AreAddressees, NoAddressees, Passed, NextOne, NextGroup, IsAddressList, Grouped, run_of, groups_from, groups_of}
 use Rattle.header_addresses.specs.Mailboxes.{is_phrase, is_phrase_part, begins_phrase, Mailbox}
 use Rattle.header_addresses.specs.Names.{shown_word, shown_inside, space, phrase_from, phrase_text, comment_text, comment_behind, IsCommentName, NoComment, OfComment, IsName, OfPhrase, NoPhrase, IsAddress, IsGroupName, NoName, Named, IsGroup}
-use Rattle.header_addresses.specs.Names.{IsGroupsForm, NoGroups, Groups, IsAddressesForm, members_in}
+use Rattle.header_addresses.specs.Names.{IsGroupsForm, Groups, IsAddressesForm, members_in}
 use Rattle.header_addresses.specs.Parts.{IsOneAddress, IsPhraseName}
 use Rattle.header_addresses.proofs.MailboxLemmas.{and_parts}
 use Rattle.name_laws.specs.CleanNames.{IsClean, IsCleanName, HaveCleanNames, AreCleanGroups}

@@ -1,11 +1,10 @@
 -- A text of one line has no control character, and none comes in where its encoded words are decoded.
 use Rattle.std.proofs.Common.{◌≡◌, ℕ, Bool, true, false, not, ◌||◌, ◌&&◌, cond, eqb, List, [], ◌∷◌, ◌++◌, refl, sym, ap, subst}
 use Rattle.std.specs.List.{filter, flat_map, list_all}
-use Rattle.text_words.specs.Cuts.{Each}
 use Rattle.text_words.specs.Octets.{is_white}
 use Rattle.text_words.proofs.CutLemmas.{each_append, each_left, each_right}
 use Rattle.header_words.specs.Charsets.{text_in}
-use Rattle.header_words.specs.EncodedWords.{is_control, is_printed, text_of_words, Span, Text, InUtf8, Coded, span_in, span_of, kept, AreSpans, Plain, Worded, with_span, runs_of, run_text, IsTextBetween}
+use Rattle.header_words.specs.EncodedWords.{is_control, is_printed, Span, Text, InUtf8, span_in, span_of, kept, AreSpans, Plain, Worded, with_span, runs_of, run_text, IsTextBetween}
 use Rattle.header_words.specs.OneLine.{with_ends_alone, line_octet, one_line}
 use Rattle.header_words.specs.declared.charset.Charset.{Charset}
 use Rattle.header_words.specs.declared.charset.Charset.TheVariants as charset

@@ -1,5 +1,5 @@
 -- No name of an address, as far as it reads, has a control character.
-use Rattle.std.proofs.Common.{ℕ, false, List, [], ◌∷◌, ◌++◌, sym, subst, Option, Some, None, option_to_list}
+use Rattle.std.proofs.Common.{ℕ, false, List, [], ◌∷◌, sym, subst, Option, Some, None, option_to_list}
 use Rattle.std.specs.List.{AllZip, flat_map}
 use Rattle.header_words.specs.OneLine.{one_line}
 use Rattle.header_words.specs.declared.encoded_word.Edges.TheVariants as edges
@@ -14,11 +14,11 @@ use Rattle.name_laws.proofs.AddressNames.{clean_trimmed, clean_some, clean_addre
 use Rattle.name_laws.proofs.CleanTexts.{clean_line, clean_text}
 
 clean_before : (before : List ℕ) (name : Option (List ℕ)) → IsNameBefore before name → IsCleanName name
-clean_before before _ (Phrase name p) = clean_phrase_name name before p
+clean_before before _ (Phrase name p u) = clean_phrase_name name before p
 clean_before before _ (AsItStands n text i) = clean_some (trimmed text) (clean_trimmed text (clean_text edges.Quotes false (one_line before) text i (clean_line before)))
 
 clean_read : (t : List ℕ) (a : Option Address) → ReadsAs t a → HaveCleanNames (option_to_list a)
-clean_read t _ (Strict a o) = (clean_one a t o, tt)
+clean_read t _ (Strict a o u) = (clean_one a t o, tt)
 clean_read t _ (InAngle before x name email n g i j) = (clean_before before name i, tt)
 clean_read t _ (Bare n g b) = (tt, tt)
 clean_read t _ (PassedOver n g b) = tt
@@ -52,12 +52,12 @@ clean_one_group (a ∷ list) h = ((tt, h), tt)
 
 addresses_in : (raw : List ℕ) (r : Option (List Address)) → IsLooseAddressesForm raw r → AreCleanIn r
 unfolding AreCleanIn
-addresses_in raw _ (loose.ByGrammar list f) = clean_addresses raw list f
+addresses_in raw _ (loose.ByGrammar list f u) = clean_addresses raw list f
 addresses_in raw _ (loose.AsFar n list l) = clean_list list (clean_loose list (raw_form raw) l)
 
 groups_in : (raw : List ℕ) (r : Option (List Group)) → IsLooseGroupsForm raw r → AreCleanGroupsIn r
 unfolding AreCleanGroupsIn
-groups_in raw _ (loose.GroupsByGrammar list f) = clean_groups raw list f
+groups_in raw _ (loose.GroupsByGrammar list f u) = clean_groups raw list f
 groups_in raw _ (loose.GroupsAsFar n list l) = clean_one_group list (clean_loose list (raw_form raw) l)
 
 -- the names of addresses

@@ -2,7 +2,7 @@
 use mail_maps::{EmailRow, MailboxRow, Rights, Role, read_envelope};
 use octets::{Bytes, Names, Text};
 use std::alloc::{AllocError, Global};
-use told_dialogues::first_word;
+use test_rows::first_word;
 
 /// The number that is written, and 0 where it is none.
 pub(crate) fn number(word: &str) -> u64 {

@@ -4,7 +4,7 @@ use mail_maps::MailboxRow;
 use octets::Bytes;
 use query_conditions::{MailboxCondition, mailbox_matches};
 use std::alloc::{AllocError, Global};
-use told_dialogues::first_word;
+use test_rows::first_word;
 
 /// The condition of this name and argument; `null` stands for null.
 fn mailbox_condition(

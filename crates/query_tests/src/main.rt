@@ -17,7 +17,7 @@ use mail_maps::{EmailRow, MailboxRow};
 use query_conditions::has_word;
 use std::alloc::{AllocError, Global};
 use std::io;
-use told_dialogues::first_word;
+use test_rows::{TestRows, answer_rows, first_word};
 
 /// Adds whether the word stands in the text, which are parted by `|`.
 fn put_found(line: &str, out: &mut String) -> Result<(), AllocError> {
@@ -64,13 +64,16 @@ impl Rows {
         }
         out.push('\n')
     }
+}
 
-    /// Does what a line says, and adds what comes of it.
+impl TestRows for Rows {
+    fn begin(&mut self) -> Result<(), AllocError> {
+        Ok(())
+    }
+
     fn take(&mut self, line: &str, out: &mut String) -> Result<(), AllocError> {
         let (word, rest) = first_word(line);
         match word {
-            "" | "#" => Ok(()),
-            "=" => writeln!(out, "{line}"),
             "email" => {
                 self.emails.push(mail::email_of(self.alloc, rest)?)?;
                 Ok(())
@@ -84,23 +87,11 @@ impl Rows {
     }
 }
 
-/// What comes of all lines.
-fn answers(alloc: Global, lines: &str) -> Result<String, AllocError> {
+fn main(rt: HostRuntime) -> io::Result<()> {
     let mut rows = Rows {
-        emails: Vec::new(alloc),
-        mailboxes: Vec::new(alloc),
-        alloc,
+        emails: Vec::new(rt.alloc()),
+        mailboxes: Vec::new(rt.alloc()),
+        alloc: rt.alloc(),
     };
-    let mut out = String::new(alloc);
-    for line in lines.lines() {
-        rows.take(line, &mut out)?;
-    }
-    Ok(out)
-}
-
-fn main(rt: HostRuntime) -> Result<(), anyhow::Error> {
-    let lines = io::read_to_string(rt.alloc(), rt.reader())?;
-    let out = answers(rt.alloc(), &lines)?;
-    print!(rt; "{out}")?;
-    Ok(())
+    answer_rows(&rt, &mut rows)
 }

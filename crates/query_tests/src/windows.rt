@@ -2,7 +2,7 @@
 use crate::mail::number;
 use query_lists::{GroupedRow, WindowAsked, WindowStart, first_of_each, window_of};
 use std::alloc::{AllocError, Global};
-use told_dialogues::first_word;
+use test_rows::first_word;
 
 /// The numbers of a line, between spaces.
 fn numbers_of(alloc: Global, words: &str) -> Result<Vec<u64>, AllocError> {

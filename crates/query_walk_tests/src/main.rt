@@ -18,7 +18,7 @@ use query::Query;
 use random_mail::{Random, Told};
 use std::alloc::{AllocError, Global};
 use std::io;
-use told_dialogues::{first_number, first_word};
+use test_rows::{TestRows, answer_rows, first_number, first_word};
 
 /// What the rows so far have left.
 #[derive(Drop)]
@@ -112,16 +112,17 @@ impl Rows {
         let is_right = self.told.is_right;
         writeln!(out, "told {is_right}: {:?}", self.random.drawn)
     }
+}
 
-    /// Does what a line says, and adds what comes of it.
+impl TestRows for Rows {
+    fn begin(&mut self) -> Result<(), AllocError> {
+        *self = Rows::new(self.alloc)?;
+        Ok(())
+    }
+
     fn take(&mut self, line: &str, out: &mut String) -> Result<(), AllocError> {
         let (word, rest) = first_word(line);
         match word {
-            "" | "#" => Ok(()),
-            "=" => {
-                *self = Rows::new(self.alloc)?;
-                writeln!(out, "{line}")
-            }
             "some" => {
                 let (kind, text) = first_word(rest);
                 self.random.add(kind, text)
@@ -139,19 +140,6 @@ impl Rows {
     }
 }
 
-/// What comes of all lines.
-fn answers(alloc: Global, lines: &str) -> Result<String, AllocError> {
-    let mut rows = Rows::new(alloc)?;
-    let mut out = String::new(alloc);
-    for line in lines.lines() {
-        rows.take(line, &mut out)?;
-    }
-    Ok(out)
-}
-
-fn main(rt: HostRuntime) -> Result<(), anyhow::Error> {
-    let lines = io::read_to_string(rt.alloc(), rt.reader())?;
-    let out = answers(rt.alloc(), &lines)?;
-    print!(rt; "{out}")?;
-    Ok(())
+fn main(rt: HostRuntime) -> io::Result<()> {
+    answer_rows(&rt, &mut Rows::new(rt.alloc())?)
 }

@@ -2,7 +2,8 @@
 use octets::{Bytes, Names};
 use std::alloc::{AllocError, Global};
 use std::mem;
-use told_dialogues::{exchange_of, first_number, first_uid, first_word, octets_of};
+use test_rows::{first_number, first_uid, first_word, octets_of};
+use told_dialogues::exchange_of;
 use told_mail::{Folder, Message, Mirror};
 
 /// The greatest number of a folder, and the greatest mark.

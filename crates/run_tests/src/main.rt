@@ -16,7 +16,7 @@ use plays::{play, words_of};
 use seen::{Seen, put_names};
 use std::alloc::{AllocError, Global};
 use std::io;
-use told_dialogues::{first_number, first_word, octets_of, put_octets};
+use test_rows::{TestRows, answer_rows, first_number, first_word, octets_of, put_octets};
 use written::Written;
 
 /// Adds the task that these words name.
@@ -94,72 +94,57 @@ impl Rows {
         put_names(self.alloc, &world, out)
     }
 
-    /// Adds what is asked.
-    fn answer(&self, word: &str, text: &str, out: &mut String) -> Result<(), AllocError> {
+    /// Takes what is written down.
+    fn write_down(&mut self, word: &str, text: &str, out: &mut String) -> Result<(), AllocError> {
+        if self.written.take(word, text)? {
+            return Ok(());
+        }
+        writeln!(out, "no such word: {word}")
+    }
+
+    /// Adds what is asked, or takes what is written down.
+    fn answer(&mut self, word: &str, text: &str, out: &mut String) -> Result<(), AllocError> {
         match word {
             "gave" => writeln!(out, "clients gave {} octets", self.seen.gave),
             "store" => self.seen.put_store(self.alloc, out),
             "count" => self.seen.put_counts(text, out),
             "events" => self.put_events(text, out),
             "object" => put_object(self.alloc, text, out),
-            _ => put_task(self.alloc, text, out),
+            "task" => put_task(self.alloc, text, out),
+            _ => self.write_down(word, text, out),
         }
     }
 
     /// Does what a line says, and adds what comes of it.
-    fn take(&mut self, line: &str, out: &mut String) -> Result<(), AllocError> {
+    fn take_line(&mut self, line: &str, out: &mut String) -> Result<(), AllocError> {
         let (word, text) = first_word(line);
         match word {
-            "" | "#" => Ok(()),
-            "=" => {
-                self.written.clear();
-                self.seen = Seen::nothing(self.alloc);
-                writeln!(out, "{line}")
-            }
             "run" | "serve" | "begin" => self.play(line, out),
             "each" => self.each(text, out),
-            "gave" | "store" | "count" | "events" | "object" | "task" => {
-                self.answer(word, text, out)
-            }
-            "text"
-            | "part"
-            | "times"
-            | "repeat"
-            | "link"
-            | "client"
-            | "token"
-            | "piece"
-            | "failing"
-            | "stopping"
-            | "cut" => self.written.take(word, text),
-            _ => writeln!(out, "no such word: {word}"),
+            _ => self.answer(word, text, out),
         }
+    }
+}
+
+impl TestRows for Rows {
+    fn begin(&mut self) -> Result<(), AllocError> {
+        self.written.clear();
+        self.seen = Seen::nothing(self.alloc);
+        Ok(())
     }
 
     /// Does what a line says once names are what they stand for.
-    fn take_named(&mut self, line: &str, out: &mut String) -> Result<(), AllocError> {
+    fn take(&mut self, line: &str, out: &mut String) -> Result<(), AllocError> {
         let line = self.written.spelled(line)?;
-        self.take(&line, out)
+        self.take_line(&line, out)
     }
 }
 
-/// What comes of all lines.
-fn answers(alloc: Global, lines: &str) -> Result<String, AllocError> {
+fn main(rt: HostRuntime) -> io::Result<()> {
     let mut rows = Rows {
-        written: Written::new(alloc),
-        seen: Seen::nothing(alloc),
-        alloc,
+        written: Written::new(rt.alloc()),
+        seen: Seen::nothing(rt.alloc()),
+        alloc: rt.alloc(),
     };
-    let mut out = String::new(alloc);
-    for line in lines.lines() {
-        rows.take_named(line, &mut out)?;
-    }
-    Ok(out)
-}
-
-fn main(rt: HostRuntime) -> Result<(), anyhow::Error> {
-    let lines = io::read_to_string(rt.alloc(), rt.reader())?;
-    let out = answers(rt.alloc(), &lines)?;
-    print!(rt; "{out}")?;
-    Ok(())
+    answer_rows(&rt, &mut rows)
 }

@@ -1,5 +1,5 @@
 // What is done over a world, and how that ends.
-use gate_machine::{Machine, begin};
+use gate_machine::{Machine, MailStatus, begin};
 use gate_serving::{Door, Gate};
 use gate_world::Watcher;
 use gateway::{Place, run};
@@ -8,7 +8,7 @@ use mail_state::MailType;
 use octets::Text;
 use scripted_world::ScriptWorld;
 use std::alloc::{AllocError, Global};
-use told_dialogues::{first_number, first_word, octets_of};
+use test_rows::{first_number, first_word, octets_of};
 
 /// The epoch of a machine that was opened.
 const EPOCH: u64 = 7;
@@ -26,11 +26,16 @@ pub(crate) fn words_of(alloc: Global, text: &str) -> Result<Vec<String>, AllocEr
     Ok(words)
 }
 
+/// The status with which the program ends that has these words, and no watcher.
+fn status_of(alloc: Global, words: &[String], world: &mut ScriptWorld) -> u8 {
+    let mut watchers: Vec<Box<dyn Watcher>> = Vec::new(alloc);
+    run(words, world, &mut watchers)
+}
+
 /// Runs the program with these words.
 fn ran(alloc: Global, text: &str, world: &mut ScriptWorld) -> Result<String, AllocError> {
     let words = words_of(alloc, text)?;
-    let mut watchers: Vec<Box<dyn Watcher>> = Vec::new(alloc);
-    let status = run(&words, world, &mut watchers);
+    let status = status_of(alloc, &words, world);
     format!(in alloc; "status {status}")
 }
 
@@ -40,7 +45,18 @@ fn gate(alloc: Global, world: &mut ScriptWorld) -> Result<Gate, AllocError> {
         user: Text::copy_of(alloc, "alice")?,
         base: Text::copy_of(alloc, "http://127.0.0.1:8080")?,
     };
-    Gate::open(alloc, world, Door::Bare, &place).map_err(|_| AllocError)
+    Gate::open(alloc, world, Door::Bare, &place)
+}
+
+/// A gate answers a client.
+fn put_answered(
+    alloc: Global,
+    gate: &mut Gate,
+    world: &mut ScriptWorld,
+    ended: &mut String,
+) -> Result<(), AllocError> {
+    let answered = gate.answer_one(alloc, world);
+    write!(ended, " {answered:?}")
 }
 
 /// A gate answers this many clients.
@@ -48,21 +64,27 @@ fn served(alloc: Global, count: u64, world: &mut ScriptWorld) -> Result<String, 
     let mut ended = String::from_str(alloc, "served")?;
     let mut gate = gate(alloc, world)?;
     for _ in 0..count {
-        write!(ended, " {:?}", gate.answer_one(alloc, world))?;
+        put_answered(alloc, &mut gate, world, &mut ended)?;
     }
     Ok(ended)
 }
 
-/// A machine begins, in a link life of its own.
+/// How the mail stands once a machine began, in a link life of its own.
+fn standing_of(alloc: Global, machine: &mut Machine, world: &mut ScriptWorld) -> MailStatus {
+    let mut client = Client::new(alloc);
+    let standing = begin(alloc, machine, &mut client, world, b"alice");
+    client.leave(world);
+    standing
+}
+
+/// A machine begins.
 fn put_begun(
     alloc: Global,
     machine: &mut Machine,
     world: &mut ScriptWorld,
     ended: &mut String,
 ) -> Result<(), AllocError> {
-    let mut client = Client::new(alloc);
-    let standing = begin(alloc, machine, &mut client, world, b"alice");
-    client.leave(world);
+    let standing = standing_of(alloc, machine, world);
     let Some(known) = &machine.known else {
         return write!(ended, " {standing:?}");
     };

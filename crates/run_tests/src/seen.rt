@@ -2,7 +2,7 @@
 use gate_world::Event;
 use scripted_world::ScriptWorld;
 use std::alloc::{AllocError, Global};
-use told_dialogues::put_octets;
+use test_rows::put_octets;
 
 /// What came of a command.
 #[derive(PartialEq, Drop)]

@@ -2,7 +2,7 @@
 use scripted_world::{Script, ScriptWorld};
 use std::alloc::{AllocError, Global};
 use std::mem;
-use told_dialogues::{first_number, first_word, octets_of};
+use test_rows::{first_number, first_word, octets_of};
 
 /// Names of texts, and a script.
 #[derive(Drop)]
@@ -108,31 +108,31 @@ impl Written {
         Ok(())
     }
 
-    /// Sets a number.
-    pub(crate) fn set(&mut self, kind: &str, number: u64) {
+    /// Sets a number, where there is one of this kind.
+    pub(crate) fn set(&mut self, kind: &str, number: u64) -> bool {
         let size = usize::try_from(number).unwrap_or(0);
         match kind {
             "piece" => self.piece = size,
             "cut" => self.cut = size,
             "failing" => self.failing = number,
-            _ => self.stopping = number,
+            "stopping" => self.stopping = number,
+            _ => return false,
         }
+        true
     }
 
-    /// Does what a line says of a script.
-    pub(crate) fn take(&mut self, word: &str, text: &str) -> Result<(), AllocError> {
+    /// Does what a line says of a script, where it says something of one.
+    pub(crate) fn take(&mut self, word: &str, text: &str) -> Result<bool, AllocError> {
         let (count, rest) = first_number(text);
         match word {
-            "text" => self.put_name(text),
-            "part" => self.put(1, text),
-            "times" => self.put(count, rest),
-            "repeat" => self.repeat(text),
-            "link" | "client" | "token" => self.end(word, text),
-            _ => {
-                self.set(word, count);
-                Ok(())
-            }
+            "text" => self.put_name(text)?,
+            "part" => self.put(1, text)?,
+            "times" => self.put(count, rest)?,
+            "repeat" => self.repeat(text)?,
+            "link" | "client" | "token" => self.end(word, text)?,
+            _ => return Ok(self.set(word, count)),
         }
+        Ok(true)
     }
 
     fn plain(&self) -> Result<Script, AllocError> {

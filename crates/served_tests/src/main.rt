@@ -17,7 +17,7 @@ use random_mail::{Random, Told};
 use served::{Served, places};
 use std::alloc::{AllocError, Global};
 use std::io;
-use told_dialogues::{first_number, first_word};
+use test_rows::{TestRows, answer_rows, first_number, first_word};
 
 /// What the rows so far have left.
 #[derive(Drop)]
@@ -128,6 +128,29 @@ impl Rows {
         Ok(are_right)
     }
 
+    /// Mail changes once at random.
+    fn change(&mut self) -> Result<(), AllocError> {
+        let (word, text) = self.random.change(&self.told.mirror)?;
+        if word == "" {
+            return Ok(());
+        }
+        self.told.take(word, &text)
+    }
+
+    /// Mail changes once at random: whether what is served then is what the slow program and the copies have that are due.
+    fn is_change_right(&mut self, at: u64) -> Result<bool, AllocError> {
+        self.change()?;
+        let is_right = self.is_as_plain()? && self.told.is_right && self.served.is_right;
+        Ok(is_right && self.are_copies_right(at)?)
+    }
+
+    /// Adds what came of all steps, which were right.
+    fn put_end(&self, out: &mut String) -> Result<(), AllocError> {
+        let places = self.served.state.as_ref().map(|state| places(state));
+        write!(out, "the same: {:?}", self.random.drawn)?;
+        write!(out, ", places {places:?}, next {}", self.plain.next)
+    }
+
     /// Adds the first step of mail that changes at random that differs from the slow program or from a copy, or what came of all.
     fn put_walk(&mut self, text: &str, out: &mut String) -> Result<(), AllocError> {
         let (seed, rest) = first_number(text);
@@ -135,21 +158,11 @@ impl Rows {
         self.random.begin(seed);
         for at in 0..steps {
             let at = at.saturating_add(1);
-            let (word, text) = self.random.change(&self.told.mirror)?;
-            if word != "" {
-                self.told.take(word, &text)?;
-            }
-            let is_right = self.is_as_plain()? && self.told.is_right && self.served.is_right;
-            if !is_right || !self.are_copies_right(at)? {
+            if !self.is_change_right(at)? {
                 return write!(out, "otherwise in step {at}");
             }
         }
-        let places = self.served.state.as_ref().map(|state| places(state));
-        write!(
-            out,
-            "the same: {:?}, places {places:?}, next {}",
-            self.random.drawn, self.plain.next
-        )
+        self.put_end(out)
     }
 
     /// Adds what a line asks.
@@ -161,16 +174,17 @@ impl Rows {
         }
         out.push('\n')
     }
+}
 
-    /// Does what a line says, and adds what comes of it.
+impl TestRows for Rows {
+    fn begin(&mut self) -> Result<(), AllocError> {
+        *self = Rows::new(self.alloc, 31)?;
+        Ok(())
+    }
+
     fn take(&mut self, line: &str, out: &mut String) -> Result<(), AllocError> {
         let (word, rest) = first_word(line);
         match word {
-            "" | "#" => Ok(()),
-            "=" => {
-                *self = Rows::new(self.alloc, 31)?;
-                writeln!(out, "{line}")
-            }
             "epoch" => {
                 *self = Rows::new(self.alloc, first_number(rest).0)?;
                 Ok(())
@@ -191,19 +205,6 @@ impl Rows {
     }
 }
 
-/// What comes of all lines.
-fn answers(alloc: Global, lines: &str) -> Result<String, AllocError> {
-    let mut rows = Rows::new(alloc, 31)?;
-    let mut out = String::new(alloc);
-    for line in lines.lines() {
-        rows.take(line, &mut out)?;
-    }
-    Ok(out)
-}
-
-fn main(rt: HostRuntime) -> Result<(), anyhow::Error> {
-    let lines = io::read_to_string(rt.alloc(), rt.reader())?;
-    let out = answers(rt.alloc(), &lines)?;
-    print!(rt; "{out}")?;
-    Ok(())
+fn main(rt: HostRuntime) -> io::Result<()> {
+    answer_rows(&rt, &mut Rows::new(rt.alloc(), 31)?)
 }

@@ -2,7 +2,7 @@
 use crate::shown::put_rows;
 use mail_state::{MailState, MailType};
 use std::alloc::{AllocError, Global};
-use told_dialogues::put_octets;
+use test_rows::put_octets;
 use told_mail::{Folder, Held, Message};
 
 /// An Email. Its header has one digit each for its own id, the id that it answers and its subject.

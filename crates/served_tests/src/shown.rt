@@ -4,8 +4,8 @@ use mail_maps::{EmailRow, Envelope, MailboxRow};
 use mail_state::{MailState, MailType};
 use octets::Bytes;
 use std::alloc::AllocError;
+use test_rows::put_octets;
 use thread_rule::next_id;
-use told_dialogues::put_octets;
 
 /// ` e3 m1/5 t2 $seen;`: the Email, its Mailbox, its UID, which isn't served and may be left out, its Thread and keywords.
 fn put_email(out: &mut String, row: &EmailRow, uids: bool) -> Result<(), AllocError> {

@@ -5,7 +5,7 @@ use scripted_world::{Script, ScriptWorld};
 use small_store::StoreMachine;
 use std::alloc::{AllocError, Global};
 use store_sessions::serve_sessions;
-use told_dialogues::first_number;
+use test_rows::first_number;
 
 /// Adds who it was, and the octets.
 fn put_line(alloc: Global, who: &str, octets: &[u8], out: &mut String) -> Result<(), AllocError> {

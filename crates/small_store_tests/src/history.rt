@@ -4,7 +4,8 @@ use crate::owner::deliver;
 use small_store::StoreMachine;
 use std::alloc::{AllocError, Global};
 use store_sessions::take_turn;
-use told_dialogues::{exchange_of, first_number};
+use test_rows::first_number;
+use told_dialogues::exchange_of;
 
 /// How many messages the store has.
 fn count_messages(store: &StoreMachine) -> usize {

@@ -20,18 +20,16 @@ use small_store::StoreMachine;
 use std::alloc::{AllocError, Global};
 use std::io;
 use store_sessions::CommandStore;
-use told_dialogues::first_word;
+use test_rows::{TestRows, answer_rows, first_word};
 
-/// Does what a line says to the store, and adds what comes of it.
+/// Does what a word says to the store, and adds what comes of it.
 fn do_row(
     alloc: Global,
     store: &mut StoreMachine,
-    line: &str,
+    (word, text): (&str, &str),
     out: &mut String,
 ) -> Result<(), AllocError> {
-    let (word, text) = first_word(line);
     match word {
-        "" | "#" => Ok(()),
         "begin" => {
             store.begin_session();
             Ok(())
@@ -46,24 +44,27 @@ fn do_row(
     }
 }
 
-/// What comes of all lines; each title begins with a store of its own.
-fn answers(alloc: Global, lines: &str) -> Result<String, AllocError> {
-    let mut store = StoreMachine::new(alloc)?;
-    let mut out = String::new(alloc);
-    for line in lines.lines() {
-        if line.starts_with("=") {
-            store = StoreMachine::new(alloc)?;
-            writeln!(out, "{line}")?;
-        } else {
-            do_row(alloc, &mut store, line, &mut out)?;
-        }
-    }
-    Ok(out)
+/// The store that the rows so far have left.
+#[derive(Drop)]
+struct Rows {
+    store: StoreMachine,
+    alloc: Global,
 }
 
-fn main(rt: HostRuntime) -> Result<(), anyhow::Error> {
-    let lines = io::read_to_string(rt.alloc(), rt.reader())?;
-    let out = answers(rt.alloc(), &lines)?;
-    print!(rt; "{out}")?;
-    Ok(())
+impl TestRows for Rows {
+    /// Each title begins with a store of its own.
+    fn begin(&mut self) -> Result<(), AllocError> {
+        self.store = StoreMachine::new(self.alloc)?;
+        Ok(())
+    }
+
+    fn take(&mut self, line: &str, out: &mut String) -> Result<(), AllocError> {
+        do_row(self.alloc, &mut self.store, first_word(line), out)
+    }
+}
+
+fn main(rt: HostRuntime) -> io::Result<()> {
+    let alloc = rt.alloc();
+    let store = StoreMachine::new(alloc)?;
+    answer_rows(&rt, &mut Rows { store, alloc })
 }

@@ -2,7 +2,7 @@
 use crate::written::written;
 use small_store::StoreMachine;
 use std::alloc::{AllocError, Global};
-use told_dialogues::{first_number, first_word, octets_of};
+use test_rows::{first_number, first_word, octets_of};
 
 /// When every message came: 2 January 1970, 00:00:00 UTC.
 pub(crate) const DATE: i64 = 86_400;

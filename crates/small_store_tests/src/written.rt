@@ -1,6 +1,6 @@
 // Octets as text.
 use std::alloc::{AllocError, Global};
-use told_dialogues::{first_number, octets_of, put_octets};
+use test_rows::{first_number, octets_of, put_octets};
 
 /// The octets of a text, in which `|` stands for CR LF, `%` and two hexadecimal digits for one octet, and `^COUNT TEXT^` for a text so
 /// many times.

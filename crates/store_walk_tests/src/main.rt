@@ -10,6 +10,7 @@ mod owner;
 mod walk;
 
 use std::alloc::{AllocError, Global};
+use std::io;
 use walk::Walk;
 
 /// How many calls there are.
@@ -28,8 +29,7 @@ fn answer(alloc: Global) -> Result<String, AllocError> {
     Ok(out)
 }
 
-fn main(rt: HostRuntime) -> Result<(), anyhow::Error> {
+fn main(rt: HostRuntime) -> io::Result<()> {
     let out = answer(rt.alloc())?;
-    print!(rt; "{out}")?;
-    Ok(())
+    print!(rt; "{out}")
 }

@@ -18,7 +18,8 @@ use Rattle.std.proofs.lemmas.List.{append-nil, map-append, map-set, length-map, 
 use Rattle.std.proofs.lemmas.List.Folds.{list_any-append}
 use Rattle.std.proofs.lemmas.Map.Keys.{sorted_head, sorted_tail}
 use Rattle.thread_rule.specs.Ids.{ids_in}
-use Rattle.thread_rule.specs.reading.Keys.{key_after, keys_under}
+use Rattle.std.specs.declared.hash.DefaultHasher.{DefaultHasher}
+use Rattle.thread_rule.specs.reading.Keys.{key_under, keys_under}
 use Rattle.thread_rule.specs.reading.Index.{Entry, EntryLists, front, list_at, entry_cmp, numbers_at, numbers_up_to_other, emails_at, has_entry, has_key, SameIndex, SetsOne, SetsAll, SameApart}
 
 -- what holds in any case holds after an error
@@ -177,20 +178,20 @@ sets_more k m n xs x email b g h id e =
     ∙ ap (λ (y : Bool). cond (y && eqb email e) b (has_entry k id e)) (sym (list_any-append (eqb id) xs (x ∷ [])))
 
 -- of these ids the ones before the rest are done
-pub record SetsSoFar (old new : EntryLists) (digest : List ℕ) (ids : List (List ℕ)) (rest : List ℕ) (email : ℕ) (there : Bool) : Type 0 where
+pub record SetsSoFar (old new : EntryLists) (base : DefaultHasher) (ids : List (List ℕ)) (rest : List ℕ) (email : ℕ) (there : Bool) : Type 0 where
   pub done : List (List ℕ)
   pub whole : ids ≡ done ++ ids_in rest
-  pub sets : SetsAll old new (keys_under digest done) email there
+  pub sets : SetsAll old new (keys_under base done) email there
 
 -- none are done
-pub none_set : (m : EntryLists) (digest : List ℕ) (ids : List (List ℕ)) (rest : List ℕ) (email : ℕ) (b : Bool) → ids_in rest ≡ ids → SetsSoFar m m digest ids rest email b
-none_set m digest ids rest email b e = record { done = []; whole = sym e; sets = sets_none m email b }
+pub none_set : (m : EntryLists) (base : DefaultHasher) (ids : List (List ℕ)) (rest : List ℕ) (email : ℕ) (b : Bool) → ids_in rest ≡ ids → SetsSoFar m m base ids rest email b
+none_set m base ids rest email b e = record { done = []; whole = sym e; sets = sets_none m email b }
 
 -- one turn of a loop over ids, at the key of each
-pub keys_turn : (k m n : EntryLists) (digest : List ℕ) (ids : List (List ℕ)) (rest id more : List ℕ) (key : ℕ) (email : ℕ) (b : Bool) → SetsSoFar k m digest ids rest email b
-    → ids_in rest ≡ id ∷ ids_in more → key ≡ key_after digest id → SetsOne m n key email b → SetsSoFar k n digest ids more email b
-keys_turn k m n digest ids rest id more key email b far e is one =
-    let f : List ℕ → ℕ = key_after digest in
+pub keys_turn : (k m n : EntryLists) (base : DefaultHasher) (ids : List (List ℕ)) (rest id more : List ℕ) (key : ℕ) (email : ℕ) (b : Bool) → SetsSoFar k m base ids rest email b
+    → ids_in rest ≡ id ∷ ids_in more → key ≡ key_under base id → SetsOne m n key email b → SetsSoFar k n base ids more email b
+keys_turn k m n base ids rest id more key email b far e is one =
+    let f : List ℕ → ℕ = key_under base in
     let P : List ℕ → Type 0 = λ xs. SetsAll k n xs email b in
     let Q : ℕ → Type 0 = λ x. SetsOne m n x email b in
     record {
@@ -200,20 +201,20 @@ keys_turn k m n digest ids rest id more key email b far e is one =
     }
 
 -- all are done
-pub all_set : (k m : EntryLists) (digest : List ℕ) (ids : List (List ℕ)) (rest : List ℕ) (email : ℕ) (b : Bool) → SetsSoFar k m digest ids rest email b → ids_in rest ≡ []
-    → SetsAll k m (keys_under digest ids) email b
-all_set k m digest ids rest email b far e =
-    let P : List (List ℕ) → Type 0 = λ xs. SetsAll k m (keys_under digest xs) email b in
+pub all_set : (k m : EntryLists) (base : DefaultHasher) (ids : List (List ℕ)) (rest : List ℕ) (email : ℕ) (b : Bool) → SetsSoFar k m base ids rest email b → ids_in rest ≡ []
+    → SetsAll k m (keys_under base ids) email b
+all_set k m base ids rest email b far e =
+    let P : List (List ℕ) → Type 0 = λ xs. SetsAll k m (keys_under base xs) email b in
     subst P (sym (far.whole ∙ ap (λ (xs : List (List ℕ)). far.done ++ xs) e ∙ append-nil far.done)) far.sets
 
 -- where the index changed for an Email at some of its keys alone, all but this Email at its keys is as it was
-pub apart_of : (k m n : EntryLists) (digest : List ℕ) (ids : List (List ℕ)) (rest : List ℕ) (email : ℕ) (b : Bool) → SetsSoFar k m digest ids rest email b → SameIndex m n
-    → SameApart k n (keys_under digest ids) email
-apart_of k m n digest ids rest email b far h key e f =
-    let g : List ℕ → ℕ = key_after digest in
-    let xs = keys_under digest far.done in
-    let ys = keys_under digest (ids_in rest) in
-    let whole : has_key (keys_under digest ids) key ≡ (has_key xs key || has_key ys key) =
+pub apart_of : (k m n : EntryLists) (base : DefaultHasher) (ids : List (List ℕ)) (rest : List ℕ) (email : ℕ) (b : Bool) → SetsSoFar k m base ids rest email b → SameIndex m n
+    → SameApart k n (keys_under base ids) email
+apart_of k m n base ids rest email b far h key e f =
+    let g : List ℕ → ℕ = key_under base in
+    let xs = keys_under base far.done in
+    let ys = keys_under base (ids_in rest) in
+    let whole : has_key (keys_under base ids) key ≡ (has_key xs key || has_key ys key) =
     ap (list_any (eqb key)) (ap (map g) far.whole ∙ map-append g far.done (ids_in rest)) ∙ list_any-append (eqb key) xs ys in
     let none = left_false (has_key xs key) (has_key ys key) (eqb email e) (ap (λ (y : Bool). y && eqb email e) (sym whole) ∙ f) in
     h key e ∙ far.sets key e ∙ cond-false (has_key xs key && eqb email e) b (has_entry k key e) none

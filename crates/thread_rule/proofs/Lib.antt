@@ -7,3 +7,4 @@ pub mod SearchLemmas
 pub mod IdLemmas
 pub mod OnceLemmas
 pub mod LowerLemmas
+pub mod JoiningLemmas

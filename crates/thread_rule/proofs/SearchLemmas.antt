@@ -11,11 +11,12 @@ use Rattle.std.proofs.lemmas.Slice.Eq.{bytes_eq-Decides}
 use Rattle.text_words.specs.Octets.{SameText, is_same_text}
 use Rattle.thread_rule.specs.declared.member.Member.{Member}
 use Rattle.std.specs.Str.{bytes_eq}
-use Rattle.sha2.specs.Sha256.{sha256}
-use Rattle.thread_rule.specs.reading.Keys.{base_digest, key_after}
+use Rattle.std.specs.Char.{to_ascii_lowercase}
+use Rattle.std.specs.declared.hash.DefaultHasher.{DefaultHasher}
+use Rattle.thread_rule.specs.reading.Keys.{hasher_after, base_hasher, key_under}
 use Rattle.thread_rule.specs.Ids.{ids_in}
 use Rattle.thread_rule.specs.Threads.{Members, member_at, is_among, Shares, IsThreadOf, Founds, Joins, Passes}
-use Rattle.thread_rule.specs.reading.Index.{EntryLists, emails_at, has_key, keys_of, IsIndexOf, thread_if, first_thread}
+use Rattle.thread_rule.specs.reading.Index.{has_entry, EntryLists, emails_at, has_key, keys_of, IsIndexOf, thread_if, first_thread}
 use Rattle.thread_rule.proofs.IndexLemmas.{number_test, has_listed}
 
 -- an Email of these names the id and has an equal base subject
@@ -163,85 +164,58 @@ among_map f (y ∷ xs) x e = by (bytes_eq x y) refl e (among_map f xs x)
     by false k h more = or_right (eqb (f x) (f y)) (has_key (map f xs) (f x)) (more h)
 
 -- an id that an Email names gives one of its keys, by any base subject equal to its own
-key_there : (member : Member) (base id : List ℕ) → is_among member.ids id ≡ true → SameText member.base base
-    → has_key (keys_of (Some member)) (key_after (base_digest base) id) ≡ true
-unfolding base_digest
-key_there member base id named same =
-    let digest : base_digest member.base ≡ base_digest base = ap sha256 same in
-    let P : List ℕ → Type 0 = λ d. has_key (keys_of (Some member)) (key_after d id) ≡ true in
-    subst P digest (among_map (key_after (base_digest member.base)) member.ids id named)
+key_there : (secret : ℕ) (member : Member) (base id : List ℕ) → is_among member.ids id ≡ true → SameText member.base base
+    → has_key (keys_of secret (Some member)) (key_under (base_hasher secret base) id) ≡ true
+key_there secret member base id named same =
+    let hasher : base_hasher secret member.base ≡ base_hasher secret base = ap (hasher_after secret) same in
+    let P : DefaultHasher → Type 0 = λ h. has_key (keys_of secret (Some member)) (key_under h id) ≡ true in
+    subst P hasher (among_map (key_under (base_hasher secret member.base)) member.ids id named)
 
 -- the key of the id and the base subject
-abbrev pub key_of : List ℕ → List ℕ → ℕ
-key_of base id = key_after (base_digest base) id
+abbrev pub key_of : ℕ → List ℕ → List ℕ → ℕ
+key_of secret base id = key_under (base_hasher secret base) id
+
+-- the index has each Email at each of its keys, and maybe more
+abbrev pub Covers : ℕ → EntryLists → Members → Type 0
+Covers secret index members = (key email : ℕ) → has_key (keys_of secret (member_at members email)) key ≡ true → has_entry index key email ≡ true
 
 -- an Email that names the id and has an equal base subject is listed in the index at their key
-pub shares_listed : (index : EntryLists) (members : Members) (base id : List ℕ) (email : ℕ) (member : Member) → IsIndexOf index members → Shares members base id email member
-    → SharesBase members base id (emails_at index (key_of base id)) email member
-shares_listed index members base id email member i s = record {
-  listed = sym (has_listed index (key_of base id) email) ∙ i (key_of base id) email ∙ ap (λ (o : Option Member). has_key (keys_of o) (key_of base id)) s.there
-      ∙ key_there member base id s.named s.same;
+pub shares_listed : (secret : ℕ) (index : EntryLists) (members : Members) (base id : List ℕ) (email : ℕ) (member : Member) → Covers secret index members
+    → Shares members base id email member → SharesBase members base id (emails_at index (key_of secret base id)) email member
+shares_listed secret index members base id email member i s = record {
+  listed = sym (has_listed index (key_of secret base id) email)
+      ∙ i (key_of secret base id) email
+      (ap (λ (o : Option Member). has_key (keys_of secret o) (key_of secret base id)) s.there ∙ key_there secret member base id s.named s.same);
   there = s.there;
   named = s.named;
   same = s.same;
 }
 
--- an Email listed at the key that names the id and has an equal base subject is such an Email among all
-pub listed_shares : (index : EntryLists) (members : Members) (base id : List ℕ) (email : ℕ) (member : Member)
-    → SharesBase members base id (emails_at index (key_of base id)) email member → Shares members base id email member
-listed_shares index members base id email member s = record { there = s.there; named = s.named; same = s.same }
+-- an Email among these that names the id and has an equal base subject is such an Email among all
+pub listed_shares : (members : Members) (base id emails : List ℕ) (email : ℕ) (member : Member) → SharesBase members base id emails email member → Shares members base id email member
+listed_shares members base id emails email member s = record { there = s.there; named = s.named; same = s.same }
 
 -- the first id decides
-pub joins : (index : EntryLists) (members : Members) (base : List ℕ) (number : ℕ) (id : List ℕ) (more : List (List ℕ)) (thread : ℕ) → IsIndexOf index members
-    → IsStrictlySortedBy nat_cmp (emails_at index (key_of base id))
-    → Some thread ≡ first_thread members base id (emails_at index (key_of base id)) → IsThreadOf members base number (id ∷ more) thread
-joins index members base number id more thread i s e =
-    let at = emails_at index (key_of base id) in
+pub joins : (secret : ℕ) (index : EntryLists) (members : Members) (base : List ℕ) (number : ℕ) (id : List ℕ) (more : List (List ℕ)) (thread : ℕ) → Covers secret index members
+    → IsStrictlySortedBy nat_cmp (emails_at index (key_of secret base id))
+    → Some thread ≡ first_thread members base id (emails_at index (key_of secret base id)) → IsThreadOf members base number (id ∷ more) thread
+joins secret index members base number id more thread i s e =
+    let at = emails_at index (key_of secret base id) in
     let F : Option ℕ → Type 0 = λ o. Finds members base id at o in
     let l : IsLowest members base id at thread = subst F (sym e) (first_finds members base id at s) in
     let P : ℕ → Type 0 = λ t. IsThreadOf members base number (id ∷ more) t in
-    subst P (sym l.is) (Joins id more l.email l.member (listed_shares index members base id l.email l.member l.shares)
-    (λ other m h. l.lowest other m (shares_listed index members base id other m i h)))
+    subst P (sym l.is) (Joins id more l.email l.member (listed_shares members base id at l.email l.member l.shares)
+    (λ other m h. l.lowest other m (shares_listed secret index members base id other m i h)))
 
 -- the first id decides nothing
-pub passes : (index : EntryLists) (members : Members) (base : List ℕ) (number : ℕ) (id : List ℕ) (more : List (List ℕ)) (thread : ℕ) → IsIndexOf index members
-    → IsStrictlySortedBy nat_cmp (emails_at index (key_of base id))
-    → None ≡ first_thread members base id (emails_at index (key_of base id)) → IsThreadOf members base number more thread → IsThreadOf members base number (id ∷ more) thread
-passes index members base number id more thread i s e t =
-    let at = emails_at index (key_of base id) in
+pub passes : (secret : ℕ) (index : EntryLists) (members : Members) (base : List ℕ) (number : ℕ) (id : List ℕ) (more : List (List ℕ)) (thread : ℕ) → Covers secret index members
+    → IsStrictlySortedBy nat_cmp (emails_at index (key_of secret base id))
+    → None ≡ first_thread members base id (emails_at index (key_of secret base id)) → IsThreadOf members base number more thread → IsThreadOf members base number (id ∷ more) thread
+passes secret index members base number id more thread i s e t =
+    let at = emails_at index (key_of secret base id) in
     let F : Option ℕ → Type 0 = λ o. Finds members base id at o in
     let l : LacksBase members base id at = subst F (sym e) (first_finds members base id at s) in
-    Passes id more thread (λ other m h. l other m (shares_listed index members base id other m i h)) t
-
--- one turn of the search: b is the base subject as it was read, k the key, and r the text of the ids that are left
-pub joins_here : (index : EntryLists) (members : Members) (base : List ℕ) (number : ℕ) (r x more b : List ℕ) (k thread : ℕ) → IsIndexOf index members
-    → ids_in r ≡ x ∷ ids_in more → b ≡ base → k ≡ key_of b x → IsStrictlySortedBy nat_cmp (emails_at index k)
-    → Some thread ≡ first_thread members b x (emails_at index k) → IsThreadOf members base number (ids_in r) thread
-joins_here index members base number r x more b k thread o e g is s h =
-    let P : List (List ℕ) → Type 0 = λ xs. IsThreadOf members base number xs thread in
-    let Q : List ℕ → Type 0 = λ z. IsThreadOf members z number (x ∷ ids_in more) thread in
-    let S : ℕ → Type 0 = λ z. IsStrictlySortedBy nat_cmp (emails_at index z) in
-    let T : ℕ → Type 0 = λ z. Some thread ≡ first_thread members b x (emails_at index z) in
-    subst P (sym e) (subst Q g (joins index members b number x (ids_in more) thread o (subst S is s) (subst T is h)))
-
--- where the first id that is left decides nothing, the Thread is the one by those behind it
-pub passes_here : (index : EntryLists) (members : Members) (base : List ℕ) (number : ℕ) (r x more b : List ℕ) (k thread : ℕ) → IsIndexOf index members
-    → ids_in r ≡ x ∷ ids_in more → b ≡ base → k ≡ key_of b x → IsStrictlySortedBy nat_cmp (emails_at index k)
-    → None ≡ first_thread members b x (emails_at index k)
-    → IsThreadOf members base number (ids_in more) thread → IsThreadOf members base number (ids_in r) thread
-passes_here index members base number r x more b k thread o e g is s h t =
-    let P : List (List ℕ) → Type 0 = λ xs. IsThreadOf members base number xs thread in
-    let Q : List ℕ → Type 0 = λ z. IsThreadOf members z number (x ∷ ids_in more) thread in
-    let R : List ℕ → Type 0 = λ z. IsThreadOf members z number (ids_in more) thread in
-    let S : ℕ → Type 0 = λ z. IsStrictlySortedBy nat_cmp (emails_at index z) in
-    let T : ℕ → Type 0 = λ z. None ≡ first_thread members b x (emails_at index z) in
-    subst P (sym e) (subst Q g (passes index members b number x (ids_in more) thread o (subst S is s) (subst T is h) (subst R (sym g) t)))
-
--- where no id is left, the Email founds the Thread of its own number
-pub founds_at_end : (members : Members) (base : List ℕ) (number : ℕ) (r : List ℕ) → ids_in r ≡ [] → IsThreadOf members base number (ids_in r) number
-founds_at_end members base number r e =
-    let P : List (List ℕ) → Type 0 = λ xs. IsThreadOf members base number xs number in
-    subst P (sym e) Founds
+    Passes id more thread (λ other m h. l other m (shares_listed secret index members base id other m i h)) t
 
 -- an Email has one Thread
 pub one_thread : (members : Members) (base : List ℕ) (number : ℕ) (ids : List (List ℕ)) (t u : ℕ) → IsThreadOf members base number ids t → IsThreadOf members base number ids u

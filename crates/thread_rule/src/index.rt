@@ -1,10 +1,10 @@
 // From the key of an id and a base subject to the numbers of the Emails that have both.
-ghost use Rattle.std.specs.Prelude.{◌≡◌, ◌<◌, ℕ, List, [], Bool, true, false, length, OnOk, OnErr, MatchOption};
-ghost use Rattle.thread_rule.specs.reading.Keys.{keys_under};
+ghost use Rattle.std.specs.Prelude.{◌≡◌, ◌<◌, ℕ, [], true, false, length, OnOk, OnErr, MatchOption};
+ghost use Rattle.thread_rule.specs.reading.Keys as keys;
 ghost use Rattle.thread_rule.specs.reading.Index as indexed;
 
 use crate::ids::{Ids, next_id};
-use crate::key::{BaseDigest, Key, key_after};
+use crate::key::{BaseHasher, Key, key_under};
 use std::alloc::{AllocError, Global};
 use std::collections::BTreeSet;
 use std::marker::Model;
@@ -13,8 +13,7 @@ use std::marker::Model;
 pub type Entries = BTreeSet<(Key, u64)>;
 
 /// The entries of all keys, in a tree for each front of a key. One tree of them all would be so deep that each look-up reads
-/// memory in many places. Keys are digests, so the trees grow alike; where someone seeks keys of one front, its tree grows as
-/// one of all would. Contracts see the lists of the trees.
+/// memory in many places. Keys are digests with a secret, so the trees grow alike. Contracts see the lists of the trees.
 #[derive(Drop)]
 pub struct KeyIndex {
     trees: Vec<Entries>,
@@ -71,7 +70,7 @@ impl KeyIndex {
     }
 
     /// Adds an entry.
-    fn add(&mut self, key: Key, email: u64) -> Result<(), AllocError>
+    pub fn add(&mut self, key: Key, email: u64) -> Result<(), AllocError>
         ensures ok { OnOk result (indexed.SetsOne self.old self.new key email true) }
         ensures err { OnErr result (indexed.SameIndex self.old self.new) }
     {
@@ -102,52 +101,14 @@ impl KeyIndex {
     }
 }
 
-/// Adds the Email at the key of each id under the base subject of this digest. It isn't there at any key before.
-pub fn add_all(
-    index: &mut KeyIndex,
-    digest: &BaseDigest,
-    named: &Ids,
-    email: u64,
-) -> Result<(), AllocError>
-    requires { (key : ℕ) → indexed.has_entry index.old key email ≡ false }
-    ensures ok { OnOk result (indexed.SetsAll index.old index.new (keys_under digest.now named.now) email true) }
-    ensures err { OnErr result (indexed.SameIndex index.old index.new) }
+/// Takes the Email away at the key of each id under a base subject. It takes no memory.
+pub fn remove_all(index: &mut KeyIndex, base: &BaseHasher, ids: &Ids, email: u64)
+    ensures { indexed.SetsAll index.old index.new (keys.keys_under base.now ids.now) email false }
 {
-    match add_each(index, digest, named, email) {
-        Ok(()) => Ok(()),
-        Err(error) => {
-            remove_all(index, digest, named, email);
-            Err(error)
-        }
-    }
-}
-
-/// Takes the Email away at the key of each id under the base subject of this digest. It takes no memory.
-pub fn remove_all(index: &mut KeyIndex, digest: &BaseDigest, named: &Ids, email: u64)
-    ensures { indexed.SetsAll index.old index.new (keys_under digest.now named.now) email false }
-{
-    let mut rest = named.as_text();
+    let mut rest = ids.as_text();
     while let Some((id, more)) = next_id(rest) {
-        let key = key_after(digest, id);
+        let key = key_under(base, id);
         index.remove(key, email);
         rest = more;
     }
-}
-
-fn add_each(
-    index: &mut KeyIndex,
-    digest: &BaseDigest,
-    named: &Ids,
-    email: u64,
-) -> Result<(), AllocError>
-    ensures ok { OnOk result (indexed.SetsAll index.old index.new (keys_under digest.now named.now) email true) }
-    ensures err { OnErr result (indexed.SameApart index.old index.new (keys_under digest.now named.now) email) }
-{
-    let mut rest = named.as_text();
-    while let Some((id, more)) = next_id(rest) {
-        let key = key_after(digest, id);
-        index.add(key, email)?;
-        rest = more;
-    }
-    Ok(())
 }

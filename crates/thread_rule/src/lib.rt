@@ -13,6 +13,7 @@ mod member;
 mod book;
 mod entries;
 mod index;
+mod joining;
 mod key;
 mod search;
 

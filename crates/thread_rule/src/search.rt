@@ -1,42 +1,44 @@
-// The Thread of a new Email, by the index.
-ghost use Rattle.std.specs.Prelude.{◌≡◌, ℕ, None, Some};
+// The Thread of a new Email by one of its ids, from the index.
+ghost use Rattle.std.specs.Prelude.{◌≡◌, None, Some, MatchOption};
 ghost use Rattle.std.specs.BTreeSet.{IsOrdered};
 ghost use Rattle.std.specs.List.Sorted.{IsStrictlySortedBy};
 ghost use Rattle.thread_rule.specs.Ids.{ids_in};
 ghost use Rattle.thread_rule.specs.Threads as threads;
-ghost use Rattle.thread_rule.specs.reading.Keys as keys;
 ghost use Rattle.thread_rule.specs.reading.Index as indexed;
 
 use crate::ids::next_id;
 use crate::index::{Entries, KeyIndex};
-use crate::key::{Key, base_digest, key_after};
-use crate::member::{Member, Named};
+use crate::key::Key;
+use crate::member::Member;
 use std::collections::BTreeMap;
 use text_words::same_text;
 
 /// The Emails that are there, by number.
 pub type Members = BTreeMap<u64, Member>;
 
-/// The Thread of a new Email, where these are there.
-pub fn thread_of(members: &Members, index: &KeyIndex, named: &Named) -> u64
-    requires { indexed.IsIndexOf index.now members.now.entries }
-    ensures is { threads.IsThreadOf members.now.entries named.now.base named.now.email named.now.ids result }
-    ensures only { (thread : ℕ) → threads.IsThreadOf members.now.entries named.now.base named.now.email named.now.ids thread → thread ≡ result }
+/// The Thread that was found before, or else that of the lowest Email at the key that names the id and has an equal base
+/// subject.
+pub fn found_or_shared(
+    found: Option<u64>,
+    members: &Members,
+    index: &KeyIndex,
+    key: Key,
+    id: &[u8],
+    base: &[u8],
+) -> Option<u64>
+    ensures found { MatchOption found
+        (result ≡ indexed.first_thread members.now.entries base.now id.now (indexed.emails_at index.now key))
+        (λ thread. result ≡ Some thread) }
+    ensures ordered { found ≡ None → IsStrictlySortedBy indexed.entry_cmp (indexed.list_at index.now (indexed.front key)) }
 {
-    let digest = base_digest(named.base.as_slice());
-    let mut rest = named.ids.as_text();
-    while let Some((id, more)) = next_id(rest) {
-        let key = key_after(&digest, id);
-        if let Some(thread) = shared(members, index, key, id, named.base.as_slice()) {
-            return thread;
-        }
-        rest = more;
+    match found {
+        Some(thread) => Some(thread),
+        None => shared(members, index, key, id, base),
     }
-    named.email
 }
 
 /// The Thread of the lowest Email at the key that names the id and has an equal base subject.
-pub fn shared(members: &Members, index: &KeyIndex, key: Key, id: &[u8], base: &[u8]) -> Option<u64>
+fn shared(members: &Members, index: &KeyIndex, key: Key, id: &[u8], base: &[u8]) -> Option<u64>
     ensures first { result ≡ indexed.first_thread members.now.entries base.now id.now (indexed.emails_at index.now key) }
     ensures ordered { IsStrictlySortedBy indexed.entry_cmp (indexed.list_at index.now (indexed.front key)) }
 {

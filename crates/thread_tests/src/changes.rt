@@ -1,7 +1,7 @@
 // Answers of a change list, and its refusals.
 use change_list::{ChangeList, Entry, Kind, MAX_PLACE};
 use std::alloc::AllocError;
-use told_dialogues::first_number;
+use test_rows::first_number;
 
 /// The touch of a word: what is done to an id, and the id.
 fn entry_of(word: &str) -> Entry {

@@ -13,8 +13,8 @@ mod walks;
 use change_list::ChangeList;
 use std::alloc::{AllocError, Global};
 use std::io;
+use test_rows::{TestRows, answer_rows, first_word};
 use threads::Threads;
-use told_dialogues::first_word;
 
 /// What the rows so far have left.
 #[derive(Drop)]
@@ -34,12 +34,8 @@ impl Rows {
     }
 
     /// Does what a word says, and adds what comes of it.
-    fn take(&mut self, word: &str, text: &str, out: &mut String) -> Result<(), AllocError> {
+    fn answer(&mut self, word: &str, text: &str, out: &mut String) -> Result<(), AllocError> {
         match word {
-            "=" => {
-                *self = Rows::new(self.alloc)?;
-                Ok(())
-            }
             "base" | "raw" | "form" => subjects::put_base(self.alloc, word, text, out),
             "touch" | "since" | "touched" | "holds" | "places" => {
                 changes::take(&mut self.list, word, text, out)
@@ -50,24 +46,21 @@ impl Rows {
     }
 }
 
-/// All lines, each with what comes of it.
-fn answers(alloc: Global, lines: &str) -> Result<String, AllocError> {
-    let mut rows = Rows::new(alloc)?;
-    let mut out = String::new(alloc);
-    for line in lines.lines() {
-        let (word, text) = first_word(line);
-        if word != "" && word != "#" {
-            out.push_str(line)?;
-            rows.take(word, text, &mut out)?;
-            out.push('\n')?;
-        }
+impl TestRows for Rows {
+    fn begin(&mut self) -> Result<(), AllocError> {
+        *self = Rows::new(self.alloc)?;
+        Ok(())
     }
-    Ok(out)
+
+    /// Each line is printed, with what comes of it.
+    fn take(&mut self, line: &str, out: &mut String) -> Result<(), AllocError> {
+        let (word, text) = first_word(line);
+        out.push_str(line)?;
+        self.answer(word, text, out)?;
+        out.push('\n')
+    }
 }
 
-fn main(rt: HostRuntime) -> Result<(), anyhow::Error> {
-    let lines = io::read_to_string(rt.alloc(), rt.reader())?;
-    let out = answers(rt.alloc(), &lines)?;
-    print!(rt; "{out}")?;
-    Ok(())
+fn main(rt: HostRuntime) -> io::Result<()> {
+    answer_rows(&rt, &mut Rows::new(rt.alloc())?)
 }

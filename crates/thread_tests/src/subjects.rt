@@ -1,8 +1,8 @@
 // Base subjects.
 use mail_header::as_text;
 use std::alloc::{AllocError, Global};
+use test_rows::{first_number, octets_of, put_octets};
 use thread_rule::{base_of, base_subject};
-use told_dialogues::{first_number, octets_of, put_octets};
 
 /// Of `TIMES FRONT|BACK` the front so many times, and then the back as often.
 fn nested(alloc: Global, text: &str) -> Result<Vec<u8>, AllocError> {

@@ -1,7 +1,7 @@
 // Threads of Emails as they arrive.
 use std::alloc::{AllocError, Global};
+use test_rows::{first_number, first_word};
 use thread_rule::{Ids, Named, ThreadBook, base_subject, push_id};
-use told_dialogues::{first_number, first_word};
 
 /// So many ids, of eight octets each.
 fn numbered(alloc: Global, count: u64) -> Result<Ids, AllocError> {
@@ -38,21 +38,30 @@ fn named_of(alloc: Global, email: u64, text: &str) -> Result<Named, AllocError> 
     })
 }
 
-/// The Thread that is found for an Email, which is put into it if it isn't there yet.
-fn arrive(alloc: Global, book: &mut ThreadBook, email: u64, text: &str) -> Result<u64, AllocError> {
+/// What the books go by: any number will do.
+const SECRET: u64 = 7;
+
+/// The Thread of an Email that arrives; none where it is there already.
+fn arrive(
+    alloc: Global,
+    book: &mut ThreadBook,
+    email: u64,
+    text: &str,
+) -> Result<Option<u64>, AllocError> {
     let new = named_of(alloc, email, text)?;
-    let thread = book.find(&new);
-    if !book.contains(new.email) {
-        book.put(new, thread)?;
+    if book.contains(new.email) {
+        return Ok(None);
     }
-    Ok(thread)
+    let thread = book.join(new)?;
+    Ok(Some(thread))
 }
 
-fn put_thread(email: u64, thread: u64, out: &mut String) -> Result<(), AllocError> {
-    if thread == email {
-        return out.push_str(" -> its own");
+fn put_thread(email: u64, thread: Option<u64>, out: &mut String) -> Result<(), AllocError> {
+    match thread {
+        None => out.push_str(" -> there already"),
+        Some(thread) if thread == email => out.push_str(" -> its own"),
+        Some(thread) => write!(out, " -> {thread}"),
     }
-    write!(out, " -> {thread}")
 }
 
 /// Emails in their Threads, and mail that arrives in one order and another.
@@ -66,7 +75,7 @@ pub(crate) struct Threads {
 impl Threads {
     pub(crate) fn new(alloc: Global) -> Threads {
         Threads {
-            book: ThreadBook::new(alloc),
+            book: ThreadBook::new(alloc, SECRET),
             mail: Vec::new(alloc),
             alloc,
         }
@@ -83,7 +92,7 @@ impl Threads {
         let mut told = None;
         for email in first..=last {
             let thread = arrive(self.alloc, &mut self.book, email, text)?;
-            let tells = Some((thread != email).then_some(thread));
+            let tells = Some((thread != Some(email)).then_some(thread));
             if tells != told {
                 put_thread(email, thread, out)?;
             }
@@ -94,11 +103,12 @@ impl Threads {
 
     /// Whether the mail that is kept comes into the Thread of the first in this order of arrival.
     fn is_one_thread(&self, order: &str) -> Result<bool, AllocError> {
-        let mut book = ThreadBook::new(self.alloc);
+        let mut book = ThreadBook::new(self.alloc, SECRET);
         let mut one = true;
         for (place, letter) in order.as_bytes().iter().enumerate() {
             one &= match self.mail.get(letter.wrapping_sub(b'a') as usize) {
-                Some(text) => arrive(self.alloc, &mut book, place as u64, text.as_str())? == 0,
+                Some(text) => arrive(self.alloc, &mut book, place as u64, text.as_str())?
+                    == Some(0),
                 None => false,
             };
         }
@@ -132,8 +142,9 @@ impl Threads {
         match word {
             "arrive" => self.arrive(first, last, rest, out),
             "find" => {
-                let new = named_of(self.alloc, first, rest)?;
-                put_thread(first, self.book.find(&new), out)
+                let thread = arrive(self.alloc, &mut self.book, first, rest)?;
+                self.book.forget(first);
+                put_thread(first, thread, out)
             }
             "forget" => {
                 for email in first..=last {

@@ -6,7 +6,7 @@ use change_list::{ChangeList, Changes, Entry, Kind, SinceError};
 use octets::Listed;
 use std::alloc::{AllocError, Global};
 use std::collections::BTreeSet;
-use told_dialogues::first_number;
+use test_rows::first_number;
 
 /// How many touches are kept.
 const KEPT: usize = 8192;

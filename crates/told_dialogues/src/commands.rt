@@ -1,11 +1,16 @@
 // Commands by their texts.
-use crate::texts::{bytes_of, first_uid, first_word};
 use imap_commands::Command;
-use octets::Names;
+use octets::{Bytes, Names};
 use std::alloc::{AllocError, Global};
+use test_rows::{first_uid, first_word, octets_of};
 
 /// When messages are told to have come: 2 January 2024, 09:00:00 UTC.
 const DATE: i64 = 1_704_186_000;
+
+/// The octets of a text, in which `%` and two hexadecimal digits stand for one octet.
+pub fn bytes_of(alloc: Global, text: &str) -> Result<Bytes, AllocError> {
+    Bytes::from_vec(octets_of(alloc, text)?)
+}
 
 fn select_of(alloc: Global, name: &str) -> Result<Command, AllocError> {
     Ok(Command::Select {

@@ -271,7 +271,8 @@ none_messages hs n xs j e =
       | Some x ↦ λ f. let w = messages_from hs n xs j x f in absurd (some_is_not_none w.0 (sym w.1 ∙ e))
     ] refl
 
-with_messages_next : (m : Mail) (n : ℕ) (xs : List Message) (nm : ℕ) → Ascends uid_of xs → IsOnce (mark_in (with_messages m.folders n xs))
+-- mail with other messages in a folder can follow, where their marks differ from all
+pub with_messages_next : (m : Mail) (n : ℕ) (xs : List Message) (nm : ℕ) → Ascends uid_of xs → IsOnce (mark_in (with_messages m.folders n xs))
     → ((p : ℕ × ℕ) (k : ℕ) → mark_in (with_messages m.folders n xs) p ≡ Some k → k < nm) → IsMail m
     → IsNextMail m (record { folders = with_messages m.folders n xs; next_mark = nm; next_folder = m.next_folder })
 with_messages_next m n xs nm up once below i = next_by m (record { folders = with_messages m.folders n xs; next_mark = nm; next_folder = m.next_folder })

@@ -2,13 +2,14 @@
 use Rattle.std.proofs.Common.{◌≡◌, ◌≢◌, ℕ, ℤ, ◌+◌, ◌≤◌, ◌<◌, ◌^◌, Bool, true, false, not, List, [], ◌∷◌, ◌++◌, Option, Some, None, refl, ◌∙◌, subst, arith, filter}
 use Rattle.std.proofs.Common.{leb, leb-true, ltb, eqb, is_some, unwrap_or, if◌then◌else◌}
 use Rattle.std.specs.List.{AllByRecursion, filter_map, cons_option, list_any}
+use Rattle.std.specs.Option.{option_map}
 use Rattle.imap_types.specs.declared.command.Command.{Command}
 use Rattle.imap_types.specs.declared.command.Command.TheVariants as command
 use Rattle.imap_types.specs.declared.response.FetchItems.{FetchItems}
 use Rattle.imap_types.specs.declared.response.Response.{Response}
 use Rattle.imap_types.specs.declared.response.Response.TheVariants as response
 use Rattle.imap_types.specs.Items.{kept}
-use Rattle.told_folder.specs.Folders.{folder_number, uid_of, held_in, messages_of, messages_in, with_messages}
+use Rattle.told_folder.specs.Folders.{folder_number, uid_of, held_in, messages_of, messages_in, message_in, with_messages}
 use Rattle.told_folder.specs.Keyed.{with_key, put_keyed, cut_keyed, last_of}
 use Rattle.told_folder.specs.Select.{after_closed, is_closed, modseq_told, last_told, validity_in, under, with_modseq}
 use Rattle.told_folder.specs.Tell.{Telling, tell_uid, tell_fetch, tell_response, tell_responses, with_flags, with_new, new_message, kept_header, covers}
@@ -28,6 +29,10 @@ use Rattle.told_mail.specs.Lists as lists
 use Rattle.told_mail.specs.Lists.{is_name, line_of, line_for, put_listed, listed, new_folder, new_names, with_new_folder, with_new_folders, tell_list}
 use Rattle.told_mail.specs.Mail.{Mail, named, is_same, IsWellFormedFolder, IsWellFormedMessage, IsWellFormedHeld, IsWellFormed, with_folder, with_message, without_folder}
 use Rattle.told_mail.specs.Mail.{without_message}
+use Rattle.told_mail.specs.Mail.{IsKept, with_flags_of, with_attributes_of, folder_in}
+use Rattle.told_mail.specs.Renames.{with_name, with_renamed, renamed_folders}
+use Rattle.told_mail.specs.Lists.{is_inbox}
+use Rattle.told_mail.specs.reading.Renaming.{name_of, named_by}
 use Rattle.told_mail.proofs.SpelledLemmas.{AreFine, fetch_fine, list_fine}
 
 -- ---- lists of which each element has a property
@@ -48,7 +53,8 @@ all_filter P p [] a = tt
 all_filter P p (x ∷ xs) a =
     elim (p x) as (λ b. AllByRecursion P (if b then x ∷ filter p xs else filter p xs)) [ true ↦ (a.0, all_filter P p xs a.1) | false ↦ all_filter P p xs a.1 ]
 
-all_found : (P : Message → Type 0) (u : ℕ) (xs : List Message) (x : Message) → AllByRecursion P xs → with_key uid_of u xs ≡ Some x → P x
+-- what holds of all messages holds of one that is found
+pub all_found : (P : Message → Type 0) (u : ℕ) (xs : List Message) (x : Message) → AllByRecursion P xs → with_key uid_of u xs ≡ Some x → P x
 all_found P u [] x a e = absurd (cc)
 all_found P u (y ∷ ys) x a e =
     elim (eqb y.uid u) as (λ b. (if b then Some y else with_key uid_of u ys) ≡ Some x → P x) [
@@ -319,7 +325,8 @@ well_formed m x fits sp w = by x.status
 
 -- ---- what is put and cut
 
-all_messages : (hs : List Held) (n : ℕ) → AllByRecursion IsWellFormedHeld hs → AllByRecursion IsWellFormedMessage (messages_in hs n)
+-- the messages of a folder of well-formed mail are well formed
+pub all_messages : (hs : List Held) (n : ℕ) → AllByRecursion IsWellFormedHeld hs → AllByRecursion IsWellFormedMessage (messages_in hs n)
 all_messages [] n a = tt
 all_messages (h ∷ hs) n a =
     elim (eqb (folder_number h) n) as (λ b. AllByRecursion IsWellFormedMessage (messages_of (if b then Some h else held_in hs n))) [
@@ -378,3 +385,84 @@ well_without_message m p w = record {
   numbered = w.numbered;
   numbers = w.numbers;
 }
+
+-- ---- other flags, attributes and names
+
+-- a message that is found in well-formed mail is well formed
+pub placed_message : (m : Mail) (n uid : ℕ) (x : Message) → message_in m.folders n uid ≡ Some x → IsWellFormed m → IsWellFormedMessage x
+placed_message m n uid x found w = all_found IsWellFormedMessage uid (messages_in m.folders n) x (all_messages m.folders n w.folders) found
+
+-- well-formed mail is still so with other flags of a message, in kept form
+pub well_with_flags : (m : Mail) (n uid : ℕ) (flags : List (List ℕ)) (o : Option Message) → IsKept flags → message_in m.folders n uid ≡ o → IsWellFormed m
+    → IsWellFormed (with_flags_of m n flags o)
+well_with_flags m n uid flags None kept_is found w = w
+well_with_flags m n uid flags (Some x) kept_is found w =
+    let fine : IsWellFormedMessage x = placed_message m n uid x found w in
+    let y : Message = record x { flags = flags } in
+    let good : IsWellFormedMessage y = record { marked = fine.marked; mark = fine.mark; flags = kept_is } in
+    record {
+      folders = all_with_messages m.folders n (put_keyed uid_of y (messages_in m.folders n)) w.folders
+          (all_put uid_of IsWellFormedMessage y (messages_in m.folders n) good (all_messages m.folders n w.folders));
+      marked = w.marked;
+      marks = w.marks;
+      numbered = w.numbered;
+      numbers = w.numbers;
+    }
+
+well_folder_in : (hs : List Held) (n : ℕ) (f : Folder) → folder_in hs n ≡ Some f → AllByRecursion IsWellFormedHeld hs → IsWellFormedFolder f
+well_folder_in [] n f e a = absurd (cc)
+well_folder_in (h ∷ hs) n f e a =
+    elim (eqb (folder_number h) n) as (λ b. option_map (λ (z : Held). z.folder) (if b then Some h else held_in hs n) ≡ Some f → IsWellFormedFolder f) [
+      | true ↦ λ g. subst IsWellFormedFolder (some_same h.folder f g) a.0.folder
+      | false ↦ λ g. well_folder_in hs n f g a.1
+    ] e
+
+-- well-formed mail is still so with other attributes of a folder, in kept form
+pub well_with_attributes : (m : Mail) (n : ℕ) (attributes : List (List ℕ)) (o : Option Folder) → IsKept attributes → folder_in m.folders n ≡ o → IsWellFormed m
+    → IsWellFormed (with_attributes_of m attributes o)
+well_with_attributes m n attributes None kept_is found w = w
+well_with_attributes m n attributes (Some f) kept_is found w =
+    let fine : IsWellFormedFolder f = well_folder_in m.folders n f found w.folders in
+    well_with_folder m (record f { attributes = attributes }) (record {
+      numbered = fine.numbered;
+      number = fine.number;
+      delimiter = fine.delimiter;
+      attributes = kept_is;
+      begun = fine.begun;
+      next = fine.next;
+    }) w
+
+well_with_name : (name : List ℕ) (h : Held) → IsWellFormedHeld h → IsWellFormedHeld (with_name name h)
+well_with_name name h w = record {
+  folder = record {
+    numbered = w.folder.numbered;
+    number = w.folder.number;
+    delimiter = w.folder.delimiter;
+    attributes = w.folder.attributes;
+    begun = w.folder.begun;
+    next = w.folder.next;
+  };
+  messages = w.messages;
+}
+
+well_names : (name : Held → Option (List ℕ)) (hs : List Held) → AllByRecursion IsWellFormedHeld hs → AllByRecursion IsWellFormedHeld (named_by name hs)
+well_names name [] a = tt
+well_names name (h ∷ hs) a =
+    elim (name h) as (λ o. AllByRecursion IsWellFormedHeld (cons_option (option_map (λ q. with_name q h) o) (named_by name hs))) [
+      | None ↦ well_names name hs a.1
+      | Some q ↦ (well_with_name q h a.0, well_names name hs a.1)
+    ]
+
+-- well-formed mail is still so after a RENAME
+pub well_with_renamed : (m : Mail) (from to : List ℕ) → IsWellFormed m → IsWellFormed (with_renamed m from to)
+well_with_renamed m from to w =
+    elim (is_inbox from) as (λ b. IsWellFormed (if b then m else record m { folders = renamed_folders from to m.folders })) [
+      | true ↦ w
+      | false ↦ record {
+        folders = well_names (name_of from to m.folders) m.folders w.folders;
+        marked = w.marked;
+        marks = w.marks;
+        numbered = w.numbered;
+        numbers = w.numbers;
+      }
+    ]

@@ -4,3 +4,4 @@ pub mod Lines
 pub mod Names
 pub mod Numbers
 pub mod Rises
+pub mod Renaming

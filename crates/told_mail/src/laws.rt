@@ -4,6 +4,8 @@ ghost use Rattle.std.specs.Prelude.{◌≢◌, ℕ, List, Some, fold};
 ghost use Rattle.told_folder.specs.Folders.{mark_in};
 ghost use Rattle.told_mail.specs.Mail.{Mail, with_folder, with_message, without_folder, without_message, IsWellFormed, IsWellFormedFolder, IsWellFormedMessage};
 ghost use Rattle.told_mail.specs.Mail.{no_mail, IsMail, IsNextMail, IsHeldOrNew, NameIsFree};
+ghost use Rattle.told_mail.specs.Mail.{with_attributes, with_flags, IsKept};
+ghost use Rattle.told_mail.specs.Renames.{with_renamed};
 ghost use Rattle.told_mail.specs.Spelled.{AllSpelled, FitsSlice};
 
 use crate::{Exchange, Folder, Message};
@@ -70,4 +72,18 @@ pub fn next_mail_joins()
 /// Well-formed mail can follow where there was none.
 pub fn mail_begins()
     ensures { (m : Mail) → IsMail m → IsWellFormed m → IsNextMail no_mail m }
+{}
+
+/// Mail with other flags of a message, with other attributes of a folder or after a RENAME can follow.
+pub fn setting_goes_on()
+    ensures flags { (m : Mail) → IsMail m → (n uid : ℕ) (flags : List (List ℕ)) → IsNextMail m (with_flags m n uid flags) }
+    ensures attributes { (m : Mail) → IsMail m → (n : ℕ) (attributes : List (List ℕ)) → IsNextMail m (with_attributes m n attributes) }
+    ensures renames { (m : Mail) (from to : List ℕ) → IsMail m → IsNextMail m (with_renamed m from to) }
+{}
+
+/// Mail stays well formed where a message gets flags in kept form, or a folder attributes, and where folders are renamed.
+pub fn setting_keeps_well_formed()
+    ensures flags { (m : Mail) (n uid : ℕ) (flags : List (List ℕ)) → IsKept flags → IsWellFormed m → IsWellFormed (with_flags m n uid flags) }
+    ensures attributes { (m : Mail) (n : ℕ) (attributes : List (List ℕ)) → IsKept attributes → IsWellFormed m → IsWellFormed (with_attributes m n attributes) }
+    ensures renames { (m : Mail) (from to : List ℕ) → IsWellFormed m → IsWellFormed (with_renamed m from to) }
 {}

@@ -8,7 +8,8 @@ use octets::Bytes;
 use std::alloc::{AllocError, Global};
 use std::collections::BTreeMap;
 
-fn is_inbox(name: &[u8]) -> bool
+/// Whether it is the name of INBOX, as folders have it.
+pub fn is_inbox(name: &[u8]) -> bool
     ensures { result ≡ lists.is_inbox name.now }
 {
     name == b"INBOX".as_slice()

@@ -2,7 +2,7 @@
 use crate::playing::{Played, Setting, play};
 use crate::sent::Sent;
 use std::alloc::{AllocError, Global};
-use told_dialogues::{first_number, first_uid, octets_of};
+use test_rows::{first_number, first_uid, octets_of};
 
 /// The most octets that a read gives, where nothing else is said.
 const PIECE: usize = 100_000;

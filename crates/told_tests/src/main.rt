@@ -21,7 +21,7 @@ use lives::Lives;
 use sent::Sent;
 use std::alloc::{AllocError, Global};
 use std::io;
-use told_dialogues::first_word;
+use test_rows::{TestRows, answer_rows, first_word};
 
 /// What the rows so far have left.
 #[derive(Drop)]
@@ -39,17 +39,18 @@ impl Rows {
             told: Told::new(alloc),
         }
     }
+}
 
-    /// Does what a line says, and adds what comes of it.
+impl TestRows for Rows {
+    fn begin(&mut self) -> Result<(), AllocError> {
+        self.sent.clear();
+        self.lives.clear();
+        Ok(())
+    }
+
     fn take(&mut self, line: &str, out: &mut String) -> Result<(), AllocError> {
         let (word, rest) = first_word(line);
         match word {
-            "" | "#" => Ok(()),
-            "=" => {
-                self.sent.clear();
-                self.lives.clear();
-                writeln!(out, "{line}")
-            }
             "store" | "part" | "repeat" | "open" | "opening" => self.sent.take(word, rest),
             "user" | "password" | "failing" | "body" | "exchange" => self.lives.set(word, rest),
             "life" | "told" | "mail" => self.lives.take(word, rest, &mut self.sent),
@@ -59,19 +60,6 @@ impl Rows {
     }
 }
 
-/// What comes of all lines.
-fn answers(alloc: Global, lines: &str) -> Result<String, AllocError> {
-    let mut rows = Rows::new(alloc);
-    let mut out = String::new(alloc);
-    for line in lines.lines() {
-        rows.take(line, &mut out)?;
-    }
-    Ok(out)
-}
-
-fn main(rt: HostRuntime) -> Result<(), anyhow::Error> {
-    let lines = io::read_to_string(rt.alloc(), rt.reader())?;
-    let out = answers(rt.alloc(), &lines)?;
-    print!(rt; "{out}")?;
-    Ok(())
+fn main(rt: HostRuntime) -> io::Result<()> {
+    answer_rows(&rt, &mut Rows::new(rt.alloc()))
 }

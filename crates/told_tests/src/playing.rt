@@ -7,7 +7,8 @@ use octets::Bytes;
 use scripted_world::{Script, ScriptWorld};
 use std::alloc::{AllocError, Global};
 use std::mem;
-use told_dialogues::{command_of, put_octets};
+use test_rows::put_octets;
+use told_dialogues::command_of;
 use told_mail::Mirror;
 
 /// How lives are played.

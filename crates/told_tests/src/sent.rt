@@ -1,7 +1,7 @@
 // The octets that a store sends, as they are written down.
 use std::alloc::{AllocError, Global};
 use std::mem;
-use told_dialogues::{first_number, octets_of};
+use test_rows::{first_number, octets_of};
 
 /// The octets that a store sends next, and those with which its lives begin.
 #[derive(Drop)]

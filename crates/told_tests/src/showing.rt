@@ -1,7 +1,7 @@
 // Mail as text.
 use octets::Names;
 use std::alloc::{AllocError, Global};
-use told_dialogues::put_octets;
+use test_rows::put_octets;
 use told_mail::{Held, Message, Mirror};
 
 fn put_names(out: &mut String, names: &Names) -> Result<(), AllocError> {

@@ -2,7 +2,7 @@
 use crate::lives::{Lives, Mark};
 use crate::playing::{Played, play};
 use std::alloc::AllocError;
-use told_dialogues::first_number;
+use test_rows::first_number;
 
 /// What has come of a life once the store gave this many octets.
 fn told_after(marks: &[Mark], count: usize) -> Option<&Mark> {

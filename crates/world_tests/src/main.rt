@@ -7,29 +7,36 @@ mod calls;
 mod scripts;
 
 // What they told.
-mod rows;
+mod told;
 
 use std::alloc::{AllocError, Global};
 use std::io;
+use test_rows::{TestRows, answer_rows, first_word};
 
-/// What comes of all lines.
-fn answers(alloc: Global, lines: &str) -> Result<String, AllocError> {
-    let mut out = String::new(alloc);
-    let mut given = String::new(alloc);
-    for line in lines.lines() {
-        let (word, rest) = line.split_once(' ').unwrap_or((line, ""));
-        if word == "script" {
-            given = String::from_str(alloc, rest)?;
-        } else {
-            rows::take(alloc, &given, word, rest, &mut out)?;
-        }
-    }
-    Ok(out)
+/// What the rows so far have left: the words with which scripts begin.
+#[derive(Drop)]
+struct Rows {
+    given: String,
+    alloc: Global,
 }
 
-fn main(rt: HostRuntime) -> Result<(), anyhow::Error> {
-    let lines = io::read_to_string(rt.alloc(), rt.reader())?;
-    let out = answers(rt.alloc(), &lines)?;
-    print!(rt; "{out}")?;
-    Ok(())
+impl TestRows for Rows {
+    fn begin(&mut self) -> Result<(), AllocError> {
+        Ok(())
+    }
+
+    fn take(&mut self, line: &str, out: &mut String) -> Result<(), AllocError> {
+        let (word, rest) = first_word(line);
+        if word == "script" {
+            self.given = String::from_str(self.alloc, rest)?;
+            return Ok(());
+        }
+        told::take(self.alloc, &self.given, word, rest, out)
+    }
+}
+
+fn main(rt: HostRuntime) -> io::Result<()> {
+    let alloc = rt.alloc();
+    let given = String::new(alloc);
+    answer_rows(&rt, &mut Rows { given, alloc })
 }

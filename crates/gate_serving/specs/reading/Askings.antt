@@ -1,7 +1,6 @@
 -- What is asked, as the code has it.
-use Rattle.std.specs.Prelude.{◌≡◌, ℕ, List, Option, Some, None, Result, Ok, Err}
+use Rattle.std.specs.Prelude.{◌≡◌, ℕ, List, Result, Ok, Err}
 use Rattle.gate_world.specs.declared.event.Event.{Event}
-use Rattle.blob_store.specs.Uploads.{blob_id}
 use Rattle.http_requests.specs.declared.asking.AskError.{AskError}
 use Rattle.http_requests.specs.declared.asking.AskError.TheVariants.{Memory}
 use Rattle.http_requests.specs.declared.asking.HttpAsking.{HttpAsking}
@@ -10,22 +9,28 @@ use Rattle.jmap_core.specs.Request.{request_data, requested}
 use Rattle.jmap_core.specs.declared.request.RequestError.{RequestError}
 use Rattle.jmap_core.specs.declared.request.RequestError.TheVariants as error
 use Rattle.gate_serving.specs.declared.asking.Asking.{Asking as Asked}
-use Rattle.gate_serving.specs.declared.asking.Asking.TheVariants as asked
+use Rattle.gate_serving.specs.declared.asking.Asking.TheVariants.{AtOnce, OverMail}
+use Rattle.gate_serving.specs.declared.asking.AskingAtOnce.{AskingAtOnce}
+use Rattle.gate_serving.specs.declared.asking.AskingAtOnce.TheVariants as at_once
+use Rattle.gate_serving.specs.declared.asking.AskingOverMail.{AskingOverMail}
+use Rattle.gate_serving.specs.declared.asking.AskingOverMail.TheVariants as over_mail
 use Rattle.gate_serving.specs.declared.door.Door.{Door}
 use Rattle.gate_serving.specs.Requests.{Asking, Calls, Problem, Session, Upload, Download, Refused, ReadsAsking, asked_by, asked_over_http}
 
-abbrev pub asking_data : Asked → Asking
-asking_data (asked.Calls request) = Calls (request_data request)
-asking_data (asked.Problem error) = Problem error
-asking_data asked.Session = Session
-asking_data (asked.Upload upload) = Upload upload.media upload.octets
-asking_data (asked.Download blob media) = Download blob media
-asking_data (asked.Refused refusal) = Refused refusal
+abbrev pub at_once_data : AskingAtOnce → Asking
+at_once_data (at_once.Calls calls) = Calls (request_data calls.request)
+at_once_data (at_once.Problem error) = Problem error
+at_once_data at_once.Session = Session
+at_once_data (at_once.Upload upload) = Upload upload.media upload.octets
+at_once_data (at_once.Refused refusal) = Refused refusal
 
--- the id of what is to be kept, where something is
-abbrev pub id_asked : Asking → Option (List ℕ)
-id_asked (Upload media octets) = Some (blob_id octets)
-id_asked _ = None
+abbrev pub over_mail_data : AskingOverMail → Asking
+over_mail_data (over_mail.Calls calls) = Calls (request_data calls.request)
+over_mail_data (over_mail.Download blob media) = Download blob media
+
+abbrev pub asking_data : Asked → Asking
+asking_data (AtOnce asking) = at_once_data asking
+asking_data (OverMail asking) = over_mail_data asking
 
 abbrev pub read_data : Result Asked AskError → Result Asking AskError
 read_data (Ok asking) = Ok (asking_data asking)
@@ -39,7 +44,7 @@ AsksInBody body (Err e) = e ≡ Memory
 -- what is asked by a body that is no request
 abbrev pub IsNoRequest : RequestError → Result Asked AskError → Type 0
 IsNoRequest error.Memory result = result ≡ Err Memory
-IsNoRequest e result = result ≡ Ok (asked.Problem e)
+IsNoRequest e result = result ≡ Ok (AtOnce (at_once.Problem e))
 
 -- what is asked over HTTP, or memory ran out
 abbrev pub AsksOf : HttpAsking → Result Asked AskError → Type 0

@@ -1,13 +1,14 @@
 -- What the parts of answering a client add.
 use Rattle.std.specs.Prelude.{◌≡◌, ◌≢◌, ◌⊎◌, ◌++◌, ℕ, List, [], ◌∷◌, Option, Some, None, Result, Ok, Err}
 use Rattle.std.specs.declared.alloc.AllocError.{AllocError}
-use Rattle.gate_world.specs.Causes.{Faults, Rose}
+use Rattle.gate_world.specs.Causes.{Faults, Hidden, Rose}
 use Rattle.gate_world.specs.Sending.{Sends}
 use Rattle.gate_world.specs.declared.event.Event.{Event}
 use Rattle.gate_world.specs.declared.event.Event.TheVariants.{Accepted}
 use Rattle.gate_world.specs.declared.outside.Failed.{Failed}
 use Rattle.http_requests.specs.declared.asking.AskError.TheVariants as unread
 use Rattle.email_bodies.specs.Asking.{BodyAsk, AreDue}
+use Rattle.jmap_arguments.specs.declared.method_error.MethodError.TheVariants.{ServerUnavailable}
 use Rattle.imap_exchange.specs.Answering.{HangsUp}
 use Rattle.gate_machine.specs.Fetching.{CallsAsk}
 use Rattle.gate_machine.specs.Progress.{Progress, Bears, is_up}
@@ -17,11 +18,13 @@ use Rattle.gate_machine.specs.declared.machine.Machine.{Machine}
 use Rattle.gate_machine.specs.declared.standing.MailStatus.TheVariants.{OutOfMemory}
 use Rattle.gate_calls.specs.Mailings.{mail_at}
 use Rattle.gate_serving.specs.declared.door.Door.{Door}
+use Rattle.gate_serving.specs.declared.gate.Gate.{Gate}
 use Rattle.gate_serving.specs.declared.response.Response.{Response}
 use Rattle.gate_serving.specs.declared.outcomes.ClientOutcome.{ClientOutcome}
 use Rattle.gate_serving.specs.declared.outcomes.ClientOutcome.TheVariants as served
 use Rattle.gate_serving.specs.Answers.{Answer, KeepsUpload, MayKeepUpload, TakesMemory, spelled}
 use Rattle.gate_serving.specs.GateState.{GateState}
+use Rattle.gate_serving.specs.Gates.{account_by}
 use Rattle.gate_serving.specs.Requests.{Account, Asking, ReadsAsking}
 use Rattle.gate_serving.specs.Segment.{Replies, Segment, reply_blamed, blamed, went}
 use Rattle.gate_serving.specs.RequestWork.{RequestWork}
@@ -54,6 +57,11 @@ pub record Finishes (door : Door) (account : Account) (uploads : List (List ℕ)
   pub held : HoldsMachine (machine_left result answered.machine) kept
   pub bears : Bears answered.blamed was now
   pub made : IsMadeOver door account uploads asking begun asks answered result
+
+-- the response to what needs no mail, by a gate that keeps what is uploaded
+abbrev pub MakesAtOnce : Asking → Gate → Gate → Response → Type 0
+MakesAtOnce asking before after response = KeepsUpload asking before.uploads after.uploads × ((secrets : Hidden) → (asks : List BodyAsk)
+    × IsResponse after.door (account_by after secrets) (record { mail = Err ServerUnavailable; uploads = after.uploads }) asking asks (text_sent response))
 
 -- the response, by the work on it; or there was no memory for one that takes memory
 abbrev pub IsMade : Door → Account → Asking → GateState → GateState → List Event → Progress → Result Response AllocError → Type 0

@@ -7,7 +7,7 @@ use Rattle.std.specs.BTreeMap.{is_at}
 use Rattle.text_words.specs.Octets.{is_same_text}
 use Rattle.thread_rule.specs.declared.member.Member.{Member}
 use Rattle.thread_rule.specs.Threads.{Members, member_at, is_among}
-use Rattle.thread_rule.specs.reading.Keys.{base_digest, keys_under}
+use Rattle.thread_rule.specs.reading.Keys.{base_hasher, keys_under}
 
 abbrev pub Entry : Type 0
 Entry = ℕ × ℕ
@@ -46,18 +46,18 @@ emails_at index key = numbers_at key (list_at index (front key))
 abbrev pub has_entry : EntryLists → ℕ → ℕ → Bool
 has_entry index key email = list_any (is_at (entry_cmp (key, email))) (list_at index (front key))
 
--- the keys of an Email's ids under its base subject
-abbrev pub keys_of : Option Member → List ℕ
-keys_of None = []
-keys_of (Some member) = keys_under (base_digest member.base) member.ids
+-- the keys of an Email's ids under its base subject, with this secret
+abbrev pub keys_of : ℕ → Option Member → List ℕ
+keys_of secret None = []
+keys_of secret (Some member) = keys_under (base_hasher secret member.base) member.ids
 
 -- whether the key is among these
 abbrev pub has_key : List ℕ → ℕ → Bool
 has_key keys key = list_any (λ k. key == k) keys
 
 -- an Email is in the index at a key exactly where it is one of the Email's keys
-abbrev pub IsIndexOf : EntryLists → Members → Type 0
-IsIndexOf index members = (key email : ℕ) → has_entry index key email ≡ has_key (keys_of (member_at members email)) key
+abbrev pub IsIndexOf : ℕ → EntryLists → Members → Type 0
+IsIndexOf secret index members = (key email : ℕ) → has_entry index key email ≡ has_key (keys_of secret (member_at members email)) key
 
 -- the index has the same Emails at each key
 abbrev pub SameIndex : EntryLists → EntryLists → Type 0

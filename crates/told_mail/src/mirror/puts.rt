@@ -1,5 +1,5 @@
 // Folders and messages that are put into a mirror and cut out of it.
-ghost use Rattle.std.specs.Prelude.{◌≡◌, ◌≢◌, ℕ, ◌+◌, ◌^◌, ◌<◌, ◌≤◌, None, Some, length, IsSome, OnOk, OnErr, IfSome, OnSome, IfNone, take, drop, ◌++◌};
+ghost use Rattle.std.specs.Prelude.{◌≡◌, ◌≢◌, ℕ, ◌+◌, ◌^◌, ◌<◌, ◌≤◌, max, None, Some, length, IsSome, OnOk, OnErr, IfSome, OnSome, IfNone, take, drop, ◌++◌};
 ghost use Rattle.told_folder.specs.Folders.{folder_number, folder_in, held_in, message_in, mark_in};
 ghost use Rattle.told_folder.specs.Places.{IsHeldAt, IsFreeAt};
 ghost use Rattle.told_folder.specs.declared.telling.TheConstants.{MAX_MARK};
@@ -17,15 +17,22 @@ use told_folder::puts::{cut_at, one_more, put_in};
 use told_folder::telling::clear_marks;
 use told_folder::uids::AllUids;
 
+/// The next mark, once this one is given.
+fn next_after(next: u64, mark: u64) -> u64
+    requires { MAX_MARK < mark → mark < next }
+    ensures { result ≡ max next (mark + 1) }
+{
+    if mark < next { next } else { mark + 1 }
+}
+
 impl Mirror {
-    /// Puts a message into a folder. A refusal changes nothing.
+    /// Puts a message into a folder: one of a mark up to the last one, or of a mark that was given before. A refusal changes
+    /// nothing.
     pub fn put_message(&mut self, folder: u64, message: Message) -> Result<(), AllocError>
         requires there { IsSome (held_in self.old.mail.folders folder) }
         requires new_uid { message_in self.old.mail.folders folder message.uid ≡ None }
         requires new_mark { (p : ℕ × ℕ) → mark_in self.old.mail.folders p ≢ Some message.mark }
-        requires positive { 0 < message.mark }
-        requires mark { message.mark ≤ MAX_MARK }
-        requires flags { IsKept message.flags }
+        requires mark { MAX_MARK < message.mark → message.mark < self.old.mail.next_mark }
         ensures ok { OnOk result (self.new.mail ≡ with_message self.old.mail folder message) }
         ensures counted { OnOk result (self.new.changes ≡ counted_up self.old.changes) }
         ensures err { OnErr result (self.new ≡ self.old) }
@@ -39,7 +46,7 @@ impl Mirror {
         let held = &mut self.folders[at];
         match put_in(self.alloc, held, message) {
             Ok(()) => {
-                self.next_mark = self.next_mark.max(mark + 1);
+                self.next_mark = next_after(self.next_mark, mark);
                 self.changes = one_more(self.changes);
                 Ok(())
             }

@@ -14,7 +14,7 @@ returns-in_err-responses g c =
 
 pub returns : goal.returns
 returns g c =
-    calls_made g.B.BodySource.answers g.B.BodySource.lacks _ _ c.args.door c.args.user.now c.args.base.now c.args.over.now (request_data c.args.request.now) _
+    calls_made g.B.BodySource.answers g.B.BodySource.lacks _ _ c.args.door c.args.account.now.user c.args.account.now.base c.args.over.now (request_data c.args.request.now) _
     (map call_data c.in_ok-responses.responses.items) _ c.responses_answer.result
     (ap (λ (cs : List Call). map call_data cs) c.as_slice.ensures.value) (ap (λ (cs : List Call). map call_data cs) c.as_slice-2.ensures.value)
     c.in_ok-responses.ensures.meant c.responses_answer.ensures

@@ -5,9 +5,9 @@ use Rattle.gate_serving.specs.Gates.{account_by}
 use Rattle.gateway.proofs.Performing.{Attends, attends, performs_once, performs_unopened}
 use Rattle.gateway.proofs.program.once.Goals as goal
 
-pub returns-in-Err-Memory-clause-run : goal.returns-in-Err-Memory-clause-run
-returns-in-Err-Memory-clause-run g c = widen _ c.in-Err-Memory.ensures.run
-    (λ x opens. performs_unopened _ c.args.place.now c.in-Err-Memory.field-0 refl c.in-Err-Memory.ensures.cause opens)
+pub returns-in-Err-clause-run : goal.returns-in-Err-clause-run
+returns-in-Err-clause-run g c = widen _ c.in-Err.ensures.run
+    (λ x opens. performs_unopened _ c.args.place.now refl c.in-Err.ensures.cause opens)
 
 pub returns-in-Ok-clause-run : goal.returns-in-Ok-clause-run
 returns-in-Ok-clause-run g c =

@@ -16,12 +16,8 @@ returns c =
     let b = c.next_piece.ensures.piece in
     record {
       kind = (mime_lexemes first, has_front t first more b, c.in_ok-first_token.ensures);
-      extended_octets = c.in_ok-line.line;
-      has_extended = record {
-        octets = c.in_ok-octets.octets;
-        has = has_parameter (codes "filename*") t first more c.in_ok-octets.octets b c.in_ok-octets.ensures;
-        value_is = c.in_ok-line.ensures;
-      };
+      extended_octets = c.in_ok-octets.octets;
+      has_extended = has_parameter (codes "filename*") t first more c.in_ok-octets.octets b c.in_ok-octets.ensures;
       extended = c.in_ok-extended.ensures;
       file = has_parameter (codes "filename") t first more c.in_ok-parameter.field-0 b c.in_ok-parameter.ensures;
     }

@@ -17,7 +17,7 @@ returns-clause-run g c =
     let same = world_same g c in
     adds_at _ (ap (λ (w : g.row.W.Denot). g.W.Taped.tape w) same)
     (widen _ c.leave.ensures.tape (λ es hangs p was how came is.
-    finished_untold c.args.error c.unless_lacking.result c.requires.needs came is hangs
+    finished_untold c.args.error c.unless_lacking.result came is hangs
     (ap (λ (w : g.row.W.Denot). g.W.Taped.faults w) same ∙ c.leave.ensures.cause)
     (made_untold _ _ _ _ _ c.response_over-made.result c.unless_lacking.result (λ (h : Hidden). account_by c.args.self.now h) (g.W.Taped.hidden c.args.world.now)
     c.unless_lacking.ensures.made c.response_over-made.ensures)

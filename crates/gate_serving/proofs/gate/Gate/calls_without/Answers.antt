@@ -9,7 +9,7 @@ use Rattle.gate_serving.proofs.gate.Gate.calls_without.Goals as goal
 
 pub returns-clause-made : goal.returns-clause-made
 returns-clause-made g c =
-    calls_without _ _ c.args.self.now.door (λ (h : Hidden). account_by c.args.self.now h) c.args.self.now.user c.args.self.now.base _
+    calls_without _ _ c.args.self.now.door (λ (h : Hidden). account_by c.args.self.now h) c.args.self.now.account.user c.args.self.now.account.base _
     (record { mail = Err ServerUnavailable; uploads = c.args.self.now.uploads }) (request_data c.args.request.now) c.calls_response.result (λ h. (refl, refl))
     (record { mail = refl; uploads = refl }) c.calls_response.ensures
 

@@ -1,0 +1,2 @@
+mod HeadEnds
+mod Looking

@@ -1,0 +1,43 @@
+// Numbers that are no integers. Core/echo of jmap_arguments asks the same of its arguments, by functions of its own.
+ghost use Rattle.std.specs.Prelude.{◌≡◌};
+ghost use Rattle.serde_json.specs.View.{view, items_view, members_view};
+ghost use Rattle.serde_json.specs.Written.{has_float, items_have_float, members_have_float};
+
+use serde_json::{Map, Value};
+
+/// Whether a number in it, at any depth, is no integer.
+#[cycle(fractions)]
+pub(crate) fn has_fraction(value: &Value) -> bool
+    ensures { result ≡ has_float (view value.now) }
+{
+    match value {
+        Value::Null | Value::Bool(_) | Value::String(_) => false,
+        Value::Number(number) => number.is_f64(),
+        Value::Array(items) => items_have_fraction(items),
+        Value::Object(members) => members_have_fraction(members),
+    }
+}
+
+#[cycle(fractions)]
+fn items_have_fraction(items: &Vec<Value>) -> bool
+    ensures { result ≡ items_have_float (items_view items.now.items) }
+{
+    for item in items {
+        if has_fraction(item) {
+            return true;
+        }
+    }
+    false
+}
+
+#[cycle(fractions)]
+fn members_have_fraction(members: &Map<String, Value>) -> bool
+    ensures { result ≡ members_have_float (members_view members.now.entries) }
+{
+    for (_key, member) in members.iter() {
+        if has_fraction(member) {
+            return true;
+        }
+    }
+    false
+}

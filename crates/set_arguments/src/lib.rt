@@ -1,0 +1,11 @@
+//! What Email/set and Mailbox/set ask, or the refusal by their arguments (RFC 8620 section 5.3, RFC 8621 sections 2.5 and 4.6).
+#![tactic(auto)]
+
+mod arguments;
+mod asked;
+mod fractions;
+mod set_method;
+
+pub use arguments::{MAX_OBJECTS_IN_SET, set_asked};
+pub use asked::{Keyed, SetAsked};
+pub use set_method::SetMethod;

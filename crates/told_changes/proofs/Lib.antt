@@ -1,0 +1,9 @@
+pub mod Changing
+pub mod FirstCodes
+pub mod Keeping
+pub mod Moving
+pub mod Passing
+pub mod Reading
+mod Rows
+pub mod Steps
+pub mod Storing
