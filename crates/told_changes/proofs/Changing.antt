@@ -68,7 +68,8 @@ moved_from_next : (m : Mail) (o : Option Held) (uid : ℕ) (l : Landing) → IsM
 moved_from_next m None uid l i = stays m i
 moved_from_next m (Some h) uid l i = moved_next m (folder_number h) uid l (message_in m.folders (folder_number h) uid) refl i
 
-appended_next : (m : Mail) (l : Landing) (flags : List (List ℕ)) (date : ℤ) (message : List ℕ) → IsMail m
+-- mail with a message under the next mark can follow
+pub appended_next : (m : Mail) (l : Landing) (flags : List (List ℕ)) (date : ℤ) (message : List ℕ) → IsMail m
     → IsNextMail m (with_message m l.folder (appended_message m.next_mark l.uid flags date message))
 appended_next m l flags date message i =
     with_message_next m l.folder (appended_message m.next_mark l.uid flags date message) i

@@ -41,7 +41,7 @@ moved_from_well m None uid l w = w
 moved_from_well m (Some h) uid l w = moved_well m (folder_number h) uid l (message_in m.folders (folder_number h) uid) refl w
 
 -- where an APPEND lands a mark was left
-mark_left : (m : Mail) (name : List ℕ) (flags : List (List ℕ)) (date : ℤ) (message : List ℕ) (rs : List Response) (c : Code) (o : Option Folder) (l : Landing)
+pub mark_left : (m : Mail) (name : List ℕ) (flags : List (List ℕ)) (date : ℤ) (message : List ℕ) (rs : List Response) (c : Code) (o : Option Folder) (l : Landing)
     → landing_in m.next_mark (command.Append name flags date message) rs c o ≡ Some l → m.next_mark ≤ MAX_MARK
 mark_left m name flags date message rs c None l e = absurd (cc)
 mark_left m name flags date message rs c (Some f) l e =

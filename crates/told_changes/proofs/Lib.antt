@@ -1,4 +1,6 @@
+pub mod Appending
 pub mod Changing
+pub mod EmptyLines
 pub mod FirstCodes
 pub mod Keeping
 pub mod Moving

@@ -119,6 +119,22 @@ module _ (m : Mail) (i : IsMail m) where
       by status.Ok f = landing_at x l (landing m x) refl f
       by _ f = absurd (some_is_not_none l (sym f))
 
+-- what is told is what the code says
+landing_told : (m : Mail) (x : Exchange) (l : Landing) (o : Option Landing) → unless_contradicted m x.command o ≡ Some l → o ≡ Some l
+landing_told m x l None e = e
+landing_told m x l (Some k) e =
+    elim (is_contradicted m (target_of m x.command) k) as (λ b. (if b then None else Some k) ≡ Some l → Some k ≡ Some l) [
+      | true ↦ λ f. absurd (some_is_not_none l (sym f))
+      | false ↦ λ f. f
+    ] e
+
+pub landing_is : (m : Mail) (x : Exchange) (l : Landing) → told_landing m x ≡ Some l → landing m x ≡ Some l
+landing_is m x l e = by x.status e
+  where
+    by : (s : Status) → told_landing_as s m x ≡ Some l → landing m x ≡ Some l
+    by status.Ok f = landing_told m x l (landing m x) f
+    by _ f = absurd (some_is_not_none l (sym f))
+
 -- ---- a message that moves
 
 module _ (a : Told) (i : IsMail a.mail) (from uid : ℕ) (l : Landing) (x y : Message) (found : Some x ≡ message_in a.mail.folders from uid) (mid : Told)

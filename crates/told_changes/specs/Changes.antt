@@ -1,5 +1,5 @@
 -- What changing commands tell besides their responses: messages that went or came, flags, folders.
-use Rattle.std.specs.Prelude.{ℕ, ◌==◌, ◌&&◌, Bool, true, false, List, [], ◌∷◌, Option, Some, None, if◌then◌else◌, is_some, length, ℤ}
+use Rattle.std.specs.Prelude.{ℕ, ◌&&◌, Bool, true, false, List, Option, Some, None, if◌then◌else◌, is_some, length, ℤ}
 use Rattle.std.specs.List.{list_any}
 use Rattle.imap_types.specs.Items.{kept}
 use Rattle.imap_types.specs.declared.command.Command.{Command}
@@ -15,21 +15,9 @@ use Rattle.told_mail.specs.Exchanges.{is_uid}
 use Rattle.told_mail.specs.Mail.{Mail, named, folder_number, message_in, with_message, without_message, without_folder, with_flags_of, with_attributes}
 use Rattle.told_mail.specs.Renames.{with_renamed}
 use Rattle.told_changes.specs.declared.landing.Landing.{Landing}
+use Rattle.told_changes.specs.Headers.{header_of}
 
 -- ---- a message goes, or comes
-
--- the octets up to and with the first empty line; whether a line begins here
-abbrev pub header_from : Bool → List ℕ → List ℕ
-header_from starts [] = []
-header_from starts (c ∷ []) = c ∷ []
-header_from starts (c ∷ d ∷ t) =
-    if starts && c == 10 then c ∷ []
-    else if starts && (c == 13 && d == 10) then c ∷ d ∷ []
-    else c ∷ header_from (c == 10) (d ∷ t)
-
--- the header of a message
-abbrev pub header_of : List ℕ → List ℕ
-header_of message = header_from true message
 
 -- the message that an APPEND put there, with this mark
 abbrev pub appended_message : ℕ → ℕ → List (List ℕ) → ℤ → List ℕ → Message

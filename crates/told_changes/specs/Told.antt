@@ -23,11 +23,6 @@ is_changing (command.Rename from to) = true
 is_changing (command.Subscribe name on) = true
 is_changing _ = false
 
--- whether the command puts a new message into a folder
-abbrev pub is_append : Command → Bool
-is_append (command.Append name flags date message) = true
-is_append _ = false
-
 -- the mail once its message went where it is told
 abbrev pub landed_by : Mail → Exchange → Option Landing → Mail
 landed_by m x None = m

@@ -2,7 +2,9 @@
 #![tactic(auto)]
 
 // Where messages went.
+mod appends;
 mod codes;
+mod headers;
 mod landing;
 mod landings;
 mod moves;

@@ -1,17 +1,18 @@
 // Messages that a command put into a folder.
-ghost use Rattle.std.specs.Prelude.{◌≡◌, None, Some, OnOk, false};
+ghost use Rattle.std.specs.Prelude.{◌≡◌, None, Some, OnOk};
 ghost use Rattle.told_mail.specs.Mail.{held_in, message_in};
 ghost use Rattle.told_changes.specs.Changes as changes;
 ghost use Rattle.told_changes.specs.Changes.{named_by, with_moved, with_moved_from};
 ghost use Rattle.told_changes.specs.Landings as landings;
-ghost use Rattle.told_changes.specs.Told.{is_append, landed_by};
+ghost use Rattle.told_changes.specs.Told.{landed_by};
 ghost use Rattle.told_changes.specs.reading.Steps.{IsFree, Steps};
 
 use crate::Landing;
+use crate::appends::append_message;
 use crate::landings::told_landing;
 use imap_types::Command;
 use octets::Bytes;
-use std::alloc::AllocError;
+use std::alloc::{AllocError, Global};
 use told_mail::{Exchange, Mirror};
 
 /// Gives the message another place, with its mark.
@@ -62,29 +63,42 @@ fn move_selected(
 }
 
 /// Puts the message of a command where it went.
-fn land(mirror: &mut Mirror, exchange: &Exchange, landing: Landing) -> Result<(), AllocError>
-    requires landing { landings.told_landing mirror.old.mail exchange.now ≡ Some landing }
-    requires append { is_append exchange.now.command ≡ false }
+fn land(
+    alloc: Global,
+    mirror: &mut Mirror,
+    exchange: &Exchange,
+    landing: Landing,
+) -> Result<(), AllocError>
+    requires { landings.told_landing mirror.old.mail exchange.now ≡ Some landing }
     ensures ok { OnOk result (mirror.new.mail ≡ changes.landed mirror.old.mail exchange.now.command exchange.now.selected landing) }
     ensures steps { Steps mirror.old mirror.new }
 {
     mirror.each_is_mail();
     match &exchange.command {
         Command::Move { uid, .. } => move_selected(mirror, &exchange.selected, *uid, landing),
+        Command::Append {
+            flags,
+            date,
+            message,
+            ..
+        } => append_message(alloc, mirror, landing, flags, *date, message),
         _ => Ok(()),
     }
 }
 
 /// Puts the message of a command where it went, where the command's code says so.
-pub fn tell_landed(mirror: &mut Mirror, exchange: &Exchange) -> Result<(), AllocError>
-    requires { is_append exchange.now.command ≡ false }
+pub fn tell_landed(
+    alloc: Global,
+    mirror: &mut Mirror,
+    exchange: &Exchange,
+) -> Result<(), AllocError>
     ensures ok { OnOk result (mirror.new.mail ≡ landed_by mirror.old.mail exchange.now (landings.told_landing mirror.old.mail exchange.now)) }
     ensures none { landings.told_landing mirror.old.mail exchange.now ≡ None → mirror.new ≡ mirror.old }
     ensures steps { Steps mirror.old mirror.new }
 {
     mirror.each_is_mail();
     match told_landing(mirror, exchange) {
-        Some(landing) => land(mirror, exchange, landing),
+        Some(landing) => land(alloc, mirror, exchange, landing),
         None => Ok(()),
     }
 }

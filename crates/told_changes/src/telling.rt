@@ -7,7 +7,7 @@ ghost use Rattle.told_mail.specs.Mail.{IsNextMail};
 ghost use Rattle.told_mail.specs.Told.{Counts};
 ghost use Rattle.told_changes.specs.Landings as landings;
 ghost use Rattle.told_changes.specs.Told as changes;
-ghost use Rattle.told_changes.specs.Told.{told, is_append};
+ghost use Rattle.told_changes.specs.Told.{told};
 ghost use Rattle.told_changes.specs.declared.landing.Landing.{Landing};
 ghost use Rattle.told_changes.specs.reading.Steps.{Steps};
 
@@ -38,21 +38,19 @@ pub fn is_changing(command: &Command) -> bool
 /// Where a message went, then the responses, then what the OK says of flags and folders.
 fn tell_ok(alloc: Global, mirror: &mut Mirror, exchange: &Exchange) -> Result<(), ToldError>
     requires status { exchange.now.status ≡ status.Ok }
-    requires append { is_append exchange.now.command ≡ false }
     requires agrees { landings.contradiction mirror.old.mail exchange.now ≡ None }
     ensures ok { OnOk result (mirror.new.mail ≡ told mirror.old.mail exchange.now) }
     ensures err { IfErr result (λ e. e ≡ Memory) }
     ensures known { changes.is_changing exchange.now.command ≡ false → TellsKnown mirror.old.mail exchange.now → OnOk result (mirror.new.changes ≡ mirror.old.changes) }
     ensures steps { Steps mirror.old mirror.new }
 {
-    tell_landed(mirror, exchange)?;
+    tell_landed(alloc, mirror, exchange)?;
     mirror.tell(exchange)?;
     tell_changed(alloc, mirror, exchange)?;
     Ok(())
 }
 
 fn tell_as(alloc: Global, mirror: &mut Mirror, exchange: &Exchange) -> Result<(), ToldError>
-    requires append { is_append exchange.now.command ≡ false }
     requires agrees { landings.contradiction mirror.old.mail exchange.now ≡ None }
     ensures ok { OnOk result (mirror.new.mail ≡ told mirror.old.mail exchange.now) }
     ensures err { IfErr result (λ e. e ≡ Memory) }
@@ -67,9 +65,8 @@ fn tell_as(alloc: Global, mirror: &mut Mirror, exchange: &Exchange) -> Result<()
 }
 
 /// Tells what a completed exchange says of the mail. Where its usable code contradicts the mail, nothing is told. The mail can
-/// follow what it was, also where memory ran out: then the mirror is to be dropped. Of an APPEND nothing is told yet.
+/// follow what it was, also where memory ran out: then the mirror is to be dropped.
 pub fn tell(alloc: Global, mirror: &mut Mirror, exchange: &Exchange) -> Result<(), ToldError>
-    requires { is_append exchange.now.command ≡ false }
     ensures ok { OnOk result (mirror.new.mail ≡ told mirror.old.mail exchange.now) }
     ensures contradicts { (l : Landing) → landings.contradiction mirror.old.mail exchange.now ≡ Some l → (result ≡ Err (Contradicts l.folder l.uid)) × (mirror.new ≡ mirror.old) }
     ensures memory { landings.contradiction mirror.old.mail exchange.now ≡ None → IfErr result (λ e. e ≡ Memory) }
