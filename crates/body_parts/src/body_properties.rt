@@ -12,7 +12,7 @@ ghost use Rattle.body_parts.specs.reading.StepsIf.{StepIf};
 
 use crate::body_values::values_value;
 use crate::leaves::leaves_of;
-use crate::message::Message;
+use crate::message::ParsedMessage;
 use crate::part_objects::{objects_at, part_object};
 use crate::previews::preview_value;
 use email_properties::{BodyWanted, EmailProperty, EmailWanted, PartProperty, email_key};
@@ -23,7 +23,7 @@ use std::alloc::{AllocError, Global};
 /// A message as it is read.
 #[derive(Drop)]
 pub(crate) struct Body<'a> {
-    pub message: &'a Message<'a>,
+    pub message: &'a ParsedMessage<'a>,
     pub root: &'a Part,
     /// The leaves, in the order of their numbers.
     pub leaves: &'a [&'a Part],
@@ -127,7 +127,7 @@ fn put_properties(
 pub fn put_body_properties(
     members: &mut Map<String, Value>,
     alloc: Global,
-    message: &Message<'_>,
+    message: &ParsedMessage<'_>,
     wanted: &EmailWanted<'_>,
 ) -> Result<(), AllocError>
     ensures { OnOk result (AddsBodyProperties (message_data message.now) (email_asked wanted.now) (members_view members.old.entries) (members_view members.new.entries)) }

@@ -24,4 +24,4 @@ mod body_properties;
 pub mod laws;
 
 pub use body_properties::put_body_properties;
-pub use message::Message;
+pub use message::ParsedMessage;

@@ -10,7 +10,7 @@ ghost use Rattle.body_parts.specs.reading.LeafLists.{parts_of, parts_at, IsAllWi
 ghost use Rattle.body_parts.specs.reading.OwnHeaders.{HasHeaderIf, is_of_header};
 
 use crate::leaves::leaf_at;
-use crate::message::Message;
+use crate::message::ParsedMessage;
 use crate::own_headers::own_fields;
 use crate::part_values::property_value;
 use email_properties::{PartProperty, part_key};
@@ -23,7 +23,7 @@ use std::alloc::{AllocError, Global};
 fn put_property(
     members: &mut Map<String, Value>,
     alloc: Global,
-    message: &Message<'_>,
+    message: &ParsedMessage<'_>,
     part: &Part,
     fields: &NamedFields<'_>,
     property: &PartProperty<'_>,
@@ -39,7 +39,7 @@ fn put_property(
 /// The asked properties of a part, but for the parts in it. Its header is read once, where one of them needs it.
 fn own_members(
     alloc: Global,
-    message: &Message<'_>,
+    message: &ParsedMessage<'_>,
     part: &Part,
     asked: &[PartProperty<'_>],
 ) -> Result<Map<String, Value>, AllocError>
@@ -71,7 +71,7 @@ fn with_sub_parts(
 #[cycle(objects)]
 pub(crate) fn part_object(
     alloc: Global,
-    message: &Message<'_>,
+    message: &ParsedMessage<'_>,
     part: &Part,
     asked: &[PartProperty<'_>],
 ) -> Result<Value, AllocError>
@@ -90,7 +90,7 @@ pub(crate) fn part_object(
 #[cycle(objects)]
 fn part_objects(
     alloc: Global,
-    message: &Message<'_>,
+    message: &ParsedMessage<'_>,
     parts: &[Part],
     asked: &[PartProperty<'_>],
 ) -> Result<Vec<Value>, AllocError>
@@ -107,7 +107,7 @@ fn part_objects(
 /// The objects of the leaves of these numbers.
 pub(crate) fn objects_at(
     alloc: Global,
-    message: &Message<'_>,
+    message: &ParsedMessage<'_>,
     leaves: &[&Part],
     numbers: &[u64],
     asked: &[PartProperty<'_>],

@@ -10,7 +10,7 @@ ghost use Rattle.body_parts.specs.PartObjects as objects;
 ghost use Rattle.body_parts.specs.reading.OwnHeaders.{HasHeaderIf, is_of_header};
 
 use crate::languages::language_value;
-use crate::message::Message;
+use crate::message::ParsedMessage;
 use email_properties::PartProperty;
 use field_values::{NamedFields, header_property, headers_value};
 use json_texts::{optional_text_value, owned_text_value, text_value};
@@ -67,7 +67,7 @@ fn size_value(octets: &[u8], part: &Part) -> Value
 /// property needs them.
 pub(crate) fn property_value(
     alloc: Global,
-    message: &Message<'_>,
+    message: &ParsedMessage<'_>,
     part: &Part,
     fields: &NamedFields<'_>,
     property: &PartProperty<'_>,

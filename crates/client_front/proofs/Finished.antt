@@ -1,4 +1,4 @@
--- A client whose response is whole.
+-- A client whose response has ended.
 use Rattle.std.proofs.Common.{◌≡◌, ℕ, List, Bool, subst}
 use Rattle.std.specs.Prelude.{Option, Some}
 use Rattle.client_front.specs.Finishing.{EndsResponse}

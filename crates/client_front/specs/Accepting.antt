@@ -3,11 +3,11 @@ use Rattle.std.specs.Prelude.{◌≡◌, ◌≢◌, ◌<◌, ◌+◌, ◌-◌, �
 use Rattle.client_front.specs.Deadlines.{begun}
 use Rattle.client_front.specs.Scanning.{IsComing, unscanned}
 use Rattle.client_front.specs.Waiting.{Admits, Expires, Held, IsAsked, MakesRoom, held, newcomer}
-use Rattle.client_streams.specs.Lingering.{GoOn}
+use Rattle.client_streams.specs.Leaving.{AllGoOn, Open, nobody_open, open_of}
 use Rattle.client_streams.specs.Patience.{untaken}
+use Rattle.client_streams.specs.Sending.{nothing_kept}
 use Rattle.client_front.specs.declared.acceptor.TheConstants.{LOOK_AGAIN_MILLISECONDS, SPARED_CLIENTS}
 use Rattle.client_front.specs.declared.acceptor.Acceptor.{Acceptor}
-use Rattle.client_streams.specs.declared.finished.Finished.{Finished}
 use Rattle.client_front.specs.declared.scan.Coming.{Coming}
 use Rattle.client_front.specs.declared.scan.Coming.TheVariants.{Never}
 use Rattle.client_front.specs.declared.serving.Serving.{Serving}
@@ -16,13 +16,14 @@ use Rattle.client_front.specs.declared.sockets.Next.{Next}
 use Rattle.client_front.specs.declared.sockets.Next.TheVariants.{Client, Nobody, Refused}
 use Rattle.client_front.specs.declared.waiting.TheConstants.{MAX_HELD_CLIENTS}
 
--- The listener, the clock, the next client's key, those who wait, and those whose response is whole and that are open yet.
+-- The listener, the clock, the next client's key, those who wait, what is kept for the client that is served, and those whose response has
+-- ended.
 pub record State (L C S : Type 0) : Type 0 where
   pub listener : L
   pub clock : C
   pub key : ℕ
   pub held : Held S
-  pub lingering : List (Finished S)
+  pub leaving : Open S
 
 abbrev pub state : {L C S : Type 0} → Acceptor L C S → State L C S
 state acceptor = record {
@@ -30,25 +31,37 @@ state acceptor = record {
   clock = acceptor.clock;
   key = acceptor.next_key;
   held = held acceptor.waiting;
-  lingering = acceptor.lingering.clients.items;
+  leaving = open_of acceptor.leaving;
 }
 
 -- nobody has come
 abbrev pub nobody_yet : {L C S : Type 0} → L → C → State L C S
-nobody_yet listener clock = record { listener = listener; clock = clock; key = 0; held = record { idle = []; asking = [] }; lingering = [] }
+nobody_yet listener clock = record { listener = listener; clock = clock; key = 0; held = record { idle = []; asking = [] }; leaving = nobody_open }
 
--- What a stream shows, what closing it comes to, what it gives at once, what a clock reads, what waiting at a listener gives, and who comes to it.
+-- What a stream shows, what closing it comes to, what it gives and takes at once, what ending its output comes to, what a clock reads, what
+-- waiting at a listener gives, and who comes to it.
 pub record World (L C S : Type 0) : Type 1 where
   pub shows : S → ℕ → Option (List ℕ) → Type 0
   pub closes : S → Type 0
   pub gives : S → ℕ → Option (List ℕ) → S → Type 0
+  pub takes : S → List ℕ → Option ℕ → S → Type 0
+  pub ends : S → S → Type 0
   pub reads : C → Option ℕ → C → Type 0
   pub waits : L → ℕ → ℕ → Option (List ℕ) → L → Type 0
   pub comes : L → ℕ → Next S → L → Type 0
 
 abbrev pub world : {L C S : Type 0} → (S → ℕ → Option (List ℕ) → Type 0) → (S → Type 0) → (S → ℕ → Option (List ℕ) → S → Type 0)
-    → (C → Option ℕ → C → Type 0) → (L → ℕ → ℕ → Option (List ℕ) → L → Type 0) → (L → ℕ → Next S → L → Type 0) → World L C S
-world shows closes gives reads waits comes = record { shows = shows; closes = closes; gives = gives; reads = reads; waits = waits; comes = comes }
+    → (S → List ℕ → Option ℕ → S → Type 0) → (S → S → Type 0) → (C → Option ℕ → C → Type 0) → (L → ℕ → ℕ → Option (List ℕ) → L → Type 0) → (L → ℕ → Next S → L → Type 0) → World L C S
+world shows closes gives takes ends reads waits comes = record {
+  shows = shows;
+  closes = closes;
+  gives = gives;
+  takes = takes;
+  ends = ends;
+  reads = reads;
+  waits = waits;
+  comes = comes;
+}
 
 abbrev pub next_key : ℕ → ℕ
 next_key key = (key + 1) % (2 ^ 64)
@@ -104,7 +117,7 @@ pub data Asked {S : Type 0} (shows : S → ℕ → Option (List ℕ) → Type 0)
       → Asked shows closes now old (keys ++ key ∷ []) new
 
 -- A wait of `LOOK_AGAIN_MILLISECONDS` at most, for `WAIT_KEYS` keys at most, and a look of the clock after it: those that have come are held, those that have sent
--- something are looked at, those that are late are looked at, and those whose response is whole go on.
+-- something are looked at, those that are late are looked at, and those whose response has ended go on.
 pub record Looks {L C S : Type 0} (world : World L C S) (old new : State L C S) : Type 0 where
   pub keys : List ℕ
   pub listener : L
@@ -117,8 +130,8 @@ pub record Looks {L C S : Type 0} (world : World L C S) (old new : State L C S) 
   pub after : Held S
   pub asked : Asked world.shows world.closes now came.held keys after
   pub expired : Expires world.shows world.closes now after new.held
-  pub went_on : GoOn world.gives world.closes now came.lingering new.lingering
-  pub after_all : new ≡ record came { held = new.held; lingering = new.lingering }
+  pub went_on : AllGoOn world.takes world.ends world.gives world.closes now came.leaving new.leaving
+  pub after_all : new ≡ record came { held = new.held; leaving = new.leaving }
 
 -- the wait failed, or the look of the clock after it
 abbrev pub LookFails : {L C S : Type 0} → World L C S → State L C S → State L C S → Type 0
@@ -138,7 +151,7 @@ abbrev pub PassesBy : {L C S : Type 0} → World L C S → State L C S → State
 PassesBy {L} {C} {S} world old new = (stream : S) × FirstLeaves world stream Never old new × world.closes stream
 
 -- The client that asked first is handed on, unless none comes of it any more, and its request begins at a look of the clock, at which those
--- whose response is whole go on.
+-- whose response has ended go on; nothing is kept for it.
 pub record HandsOn {L C S : Type 0} (world : World L C S) (old new : State L C S) (serving : Serving S) : Type 0 where
   pub left : State L C S
   pub it : Coming
@@ -146,8 +159,9 @@ pub record HandsOn {L C S : Type 0} (world : World L C S) (old new : State L C S
   pub comes : it ≢ Never
   pub now : ℕ
   pub is_now : world.reads left.clock (Some now) new.clock
-  pub went_on : GoOn world.gives world.closes now left.lingering new.lingering
-  pub after : new ≡ record left { clock = new.clock; lingering = new.lingering }
+  pub gone_on : Open S
+  pub went_on : AllGoOn world.takes world.ends world.gives world.closes now left.leaving gone_on
+  pub after : new ≡ record left { clock = new.clock; leaving = record gone_on { kept = nothing_kept } }
   pub begins : serving.progress ≡ begun now
   pub unsent : serving.taking ≡ untaken
 

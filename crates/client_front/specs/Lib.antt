@@ -4,5 +4,7 @@ pub mod Finishing
 pub mod FirstOctet
 pub mod Handing
 pub mod HeadEnd
+pub mod Reached
 pub mod Scanning
+pub mod Served
 pub mod Waiting

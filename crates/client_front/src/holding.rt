@@ -96,14 +96,7 @@ impl<S: Drop> Waiting<S> {
         None
     }
 
-    /// Whether a head is whole.
-    pub(crate) fn has_asking(&self) -> bool
-        ensures { IsTrue result ↔ (0 < length self.now.asking.items) }
-    {
-        !self.asking.is_empty()
-    }
-
-    /// The client whose head was whole first.
+    /// The client that was seen first to have a whole head.
     pub(crate) fn next_asking(&mut self) -> Option<S>
         ensures some { IfSome result (λ stream. self.old.asking.items ≡ stream ∷ self.new.asking.items) }
         ensures none { IfNone result (self.old.asking.items ≡ []) }

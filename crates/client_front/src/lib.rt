@@ -24,10 +24,13 @@ mod serving;
 mod acceptor;
 mod front;
 
+// What is proved of the definitions.
+pub mod laws;
+
 pub use client_streams::{
-    ClientStream, DRAIN_MILLISECONDS, MAX_DRAIN_OCTETS, MAX_LINGERING_CLIENTS,
-    MIN_OCTETS_PER_MILLISECOND, PATIENCE_MILLISECONDS, STALL_MILLISECONDS, TcpClient, read_once,
-    write_once,
+    ClientStream, DRAIN_MILLISECONDS, MAX_DRAIN_OCTETS, MAX_FLUSHING_CLIENTS, MAX_KEPT_OCTETS,
+    MAX_LINGERING_CLIENTS, MIN_OCTETS_PER_MILLISECOND, PATIENCE_MILLISECONDS, STALL_MILLISECONDS,
+    TcpClient, read_once, write_once,
 };
 pub use clock::Ticks;
 pub use front::ClientFront;

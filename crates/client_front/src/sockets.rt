@@ -35,8 +35,8 @@ pub trait ClientListener {
     fn next_client(&mut self, key: u64) -> Next<Self::Stream>
         ensures { comes self.old key result self.new };
 
-    /// Waits until a client comes, or one that is watched has sent something or ended, at most that many milliseconds. It
-    /// puts the keys of the latter at the front of the room: how many. None where the listener failed.
+    /// Waits until a client comes, or one that is watched has sent something, has ended or takes octets again, at most that many
+    /// milliseconds. It puts the keys of the latter at the front of the room: how many. None where the listener failed.
     fn wait(&mut self, limit: u64, room: &mut [u64]) -> Option<usize>
         ensures bound { IfSome result (λ n. n ≤ length room.new) }
         ensures waited { waits self.old (length room.old) limit (option_map (λ n. take n room.new) result) self.new };

@@ -56,7 +56,7 @@ impl TcpClients {
             .register(
                 &mut SourceFd(&stream.as_raw_fd()),
                 Token(key as usize),
-                Interest::READABLE,
+                Interest::READABLE | Interest::WRITABLE,
             )
             .ok()?;
         Some(TcpClient::new(stream))

@@ -1,46 +1,11 @@
 -- Clients that go on, one after another.
-use Rattle.std.proofs.Common.{◌≡◌, ◌+◌, ◌<◌, ◌++◌, ℕ, zero, List, [], ◌∷◌, length, take, drop, suc, get_or, sym, ap, subst, ◌∙◌, refl, add-one, true, false, arith, inl, inr}
-use Rattle.std.specs.Prelude.{Option, Some}
-use Rattle.std.proofs.Math.Seq.{drop-cons, drop-length, take-length, take-suc}
+use Rattle.std.proofs.Common.{◌≡◌, ◌+◌, ◌<◌, ◌++◌, ℕ, List, [], ◌∷◌, length, take, drop, sym, ap, subst, ◌∙◌, refl, true, false, inl, inr}
+use Rattle.std.specs.Prelude.{Option}
+use Rattle.std.proofs.Math.Seq.{drop-length, take-length}
 use Rattle.std.proofs.lemmas.List.{append_assoc, append-nil}
-use Rattle.client_streams.specs.Lingering.{FirstGoesOn, GoOn, Leaves, Nobody, Stays, StaysOpen}
+use Rattle.client_streams.proofs.Turning.{has-some, next-left, next-taken, some-left}
+use Rattle.client_streams.specs.Lingering.{FirstGoesOn, GoOn, Leaves, Nobody, RemainsOpen, StaysOpen}
 use Rattle.client_streams.specs.declared.finished.Finished.{Finished}
-
-head-is : {A : Type 0} (a b : A) (xs ys : List A) → a ∷ xs ≡ b ∷ ys → a ≡ b
-head-is a b xs ys same = cc
-
-tail-is : {A : Type 0} (a b : A) (xs ys : List A) → a ∷ xs ≡ b ∷ ys → xs ≡ ys
-tail-is a b xs ys same = cc
-
-no-cons : {A : Type 0} (b : A) (ys : List A) → [] ≡ b ∷ ys → ⊥
-no-cons b ys same = cc
-
-module _ {A : Type 0} where
-  -- the one that comes next, and those behind it
-  next-both : (all kept rest : List A) (turn : ℕ) (next : A) → turn < length all → next ∷ rest ≡ drop turn all ++ kept
-      → next ∷ rest ≡ get_or all turn next ∷ (drop (suc turn) all ++ kept)
-  next-both all kept rest turn next within is = is ∙ ap (λ (l : List A). l ++ kept) (drop-cons all turn next within)
-
-  next-left : (all kept rest : List A) (turn : ℕ) (next : A) → turn < length all → next ∷ rest ≡ drop turn all ++ kept
-      → rest ≡ drop (turn + 1) all ++ kept
-  next-left all kept rest turn next within is =
-      tail-is next (get_or all turn next) rest (drop (suc turn) all ++ kept) (next-both all kept rest turn next within is)
-      ∙ ap (λ (n : ℕ). drop n all ++ kept) (sym (add-one turn))
-
-  next-taken : (all kept rest : List A) (turn : ℕ) (next : A) → turn < length all → next ∷ rest ≡ drop turn all ++ kept
-      → take turn all ++ next ∷ [] ≡ take (turn + 1) all
-  next-taken all kept rest turn next within is =
-      ap (λ (a : A). take turn all ++ a ∷ [])
-      (head-is next (get_or all turn next) rest (drop (suc turn) all ++ kept) (next-both all kept rest turn next within is))
-      ∙ sym (take-suc all turn next within) ∙ ap (λ (n : ℕ). take n all) (sym (add-one turn))
-
-  some-left : (all kept : List A) (turn : ℕ) (next : A) → turn < length all → [] ≡ drop turn all ++ kept → ⊥
-  some-left all kept turn next within is =
-      no-cons (get_or all turn next) (drop (suc turn) all ++ kept) (is ∙ ap (λ (l : List A). l ++ kept) (drop-cons all turn next within))
-
-  has-some : (all : List A) (turn : ℕ) → turn < length all → A
-  has-some [] turn within = absurd (omega (arith, within))
-  has-some (first ∷ rest) turn within = first
 
 module _ {S : Type 0} (gives : S → ℕ → Option (List ℕ) → S → Type 0) (closes : S → Type 0) (now : ℕ) where
   -- those that go on next stand before those that stay
@@ -61,7 +26,7 @@ module _ {S : Type 0} (gives : S → ℕ → Option (List ℕ) → S → Type 0)
     stays.2 ∙ ap (λ (l : List (Finished S)). l ++ stays.0 ∷ []) (next-left all turned.0 rest turn first within turned.1)
         ∙ append_assoc (drop (turn + 1) all) turned.0 (stays.0 ∷ []),
     subst (λ (l : List (Finished S)). GoOn gives closes now l (turned.0 ++ stays.0 ∷ [])) (next-taken all turned.0 rest turn first within turned.1)
-        (Stays turned.2 stays.1),
+        (RemainsOpen turned.2 stays.1),
   )
   one-turned all (first ∷ rest) new turn within turned (inr leaves) = (
     turned.0,

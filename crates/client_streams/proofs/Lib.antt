@@ -1,1 +1,4 @@
+pub mod Buffered
+pub mod FlushedOn
 pub mod GoneOn
+pub mod Turning

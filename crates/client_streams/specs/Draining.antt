@@ -1,10 +1,10 @@
--- A client whose response is whole: what it still sends is dropped as it comes.
+-- A client whose response has ended: what it still sends is dropped as it comes.
 use Rattle.std.specs.Prelude.{◌≡◌, ◌+◌, ◌-◌, ◌<◌, ◌≤◌, ◌⊎◌, ℕ, Bool, true, false, List, length, min, Option, None, Some}
 use Rattle.client_streams.specs.Patience.{capped}
 use Rattle.client_streams.specs.declared.finished.Finished.{Finished}
 use Rattle.client_streams.specs.declared.finished.TheConstants.{DRAIN_MILLISECONDS, DRAIN_PIECE_OCTETS, MAX_DRAIN_OCTETS, MAX_DRAIN_PIECES}
 
--- a client whose response is whole now: it is closed `DRAIN_MILLISECONDS` later, if it isn't earlier
+-- a client whose response ends now: it is closed `DRAIN_MILLISECONDS` later, if it isn't earlier
 abbrev pub finished : {S : Type 0} → ℕ → S → Finished S
 finished now stream = record { due = capped (now + DRAIN_MILLISECONDS); dropped = 0; stream = stream }
 

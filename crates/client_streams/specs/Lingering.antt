@@ -1,4 +1,4 @@
--- Clients whose response is whole, until they are closed.
+-- Clients whose response has ended, until they are closed.
 use Rattle.std.specs.Prelude.{◌≡◌, ◌<◌, ◌≤◌, ◌++◌, ◌⊎◌, ℕ, Bool, true, false, List, [], ◌∷◌, Option, length}
 use Rattle.client_streams.specs.Draining.{DropsAll}
 use Rattle.client_streams.specs.declared.finished.Finished.{Finished}
@@ -26,7 +26,7 @@ module _ {S : Type 0} (gives : S → ℕ → Option (List ℕ) → S → Type 0)
   -- is passed over.
   pub data GoOn : List (Finished S) → List (Finished S) → Type 0 where
     Nobody : GoOn [] []
-    Stays : {olds news : List (Finished S)} {old new : Finished S} → GoOn olds news → StaysOpen gives now true old new → GoOn (olds ++ old ∷ []) (news ++ new ∷ [])
+    RemainsOpen : {olds news : List (Finished S)} {old new : Finished S} → GoOn olds news → StaysOpen gives now true old new → GoOn (olds ++ old ∷ []) (news ++ new ∷ [])
     Leaves : {olds news : List (Finished S)} {old : Finished S} → GoOn olds news → (left : Finished S) → StaysOpen gives now false old left
         → closes left.stream → GoOn (olds ++ old ∷ []) news
 

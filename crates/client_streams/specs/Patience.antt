@@ -25,6 +25,7 @@ send_limit taking = min (patience taking.octets - taking.waited) STALL_MILLISECO
 abbrev pub untaken : Taking
 untaken = record { waited = 0; octets = 0 }
 
--- it took octets, for which it was waited for between these moments: what passes between two sends doesn't count
+-- It took octets, for which it was waited for between these moments. It counts the time that its caller says: of the client that is served
+-- not that between two sends, which is the gateway's own; of one that takes what is left, that between two looks.
 abbrev pub taken_more : ℕ → ℕ → ℕ → Taking → Taking
 taken_more count since now taking = record { waited = capped (taking.waited + (now - since)); octets = capped (taking.octets + count) }

@@ -17,6 +17,10 @@ pub trait ClientStream: Drop {
     /// failed.
     ghost gives: { Self → ℕ → Option (List ℕ) → Self → Type 0 };
 
+    /// What giving these octets without a wait may come to: how many of them are taken, from their front, 0 where none is now, or None
+    /// where the stream failed.
+    ghost takes: { Self → List ℕ → Option ℕ → Self → Type 0 };
+
     /// What ending what is sent comes to.
     ghost ends: { Self → Self → Type 0 };
 
@@ -47,6 +51,12 @@ pub trait ClientStream: Drop {
     fn send(&mut self, from: &[u8], limit: u64) -> Option<usize>
         ensures bound { IfSome result (λ n. (0 < n) × (n ≤ length from.now)) }
         ensures taken { sends self.old from.now limit result self.new };
+
+    /// Gives the client some of the octets, from their front: how many it took, 0 where it takes none now. None where the stream
+    /// failed. It does not wait.
+    fn send_now(&mut self, from: &[u8]) -> Option<usize>
+        ensures bound { IfSome result (λ n. n ≤ length from.now) }
+        ensures taken { takes self.old from.now result self.new };
 
     /// Tells the client that nothing more is sent.
     fn end_writing(&mut self)

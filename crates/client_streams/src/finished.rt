@@ -1,4 +1,4 @@
-// A client whose response is whole: what it still sends is dropped as it comes.
+// A client whose response has ended: what it still sends is dropped as it comes.
 ghost use Rattle.std.specs.Prelude.{◌≡◌, ◌<◌, IfNone, IfSome};
 ghost use Rattle.client_streams.specs.Draining as spec;
 ghost use Rattle.client_streams.specs.Draining.{DropsAll, DropsPiece, EndsInput};
@@ -18,7 +18,7 @@ const DRAIN_PIECE_OCTETS: usize = 8_192;
 /// How many of them one look drops at most: as many as all those octets are.
 const MAX_DRAIN_PIECES: usize = 128;
 
-/// A client whose response is whole.
+/// A client whose response has ended.
 #[derive(Drop)]
 pub struct Finished<S: Drop> {
     /// When it is closed at the latest, in milliseconds of the monotonic clock.
@@ -29,7 +29,7 @@ pub struct Finished<S: Drop> {
 }
 
 impl<S: ClientStream> Finished<S> {
-    /// A client whose response is whole now.
+    /// A client whose response ends now.
     pub fn new(stream: S, now: u64) -> Finished<S>
         ensures { result ≡ spec.finished now stream }
     {

@@ -1,4 +1,4 @@
-// Clients whose response is whole and that have not ended what they send: they are closed a short time after it.
+// Clients whose response has ended and that have not ended what they send: they are closed a short time after it.
 ghost use Rattle.std.specs.Prelude.{◌≡◌, ◌<◌, ◌≤◌, ◌↔◌, [], IsTrue, IfOk};
 ghost use Rattle.std.specs.VecDeque.{deque_capacity, deque_len};
 ghost use Rattle.client_streams.specs.declared.lingering.TheConstants.{MAX_LINGERING_CLIENTS};

@@ -4,8 +4,9 @@ ghost use Rattle.client_streams.specs.Patience as spec;
 
 use crate::pace::{STALL_MILLISECONDS, left, patience};
 
-/// For how long a client was waited for as it was given octets, and how many it took. The time between two sends is the
-/// gateway's own, and doesn't count.
+/// For how long a client was waited for as it was given octets, and how many it took. It counts the time that its caller says: of
+/// the client that is served not that between two sends, which is the gateway's own; of one that takes what is left, that between two
+/// looks.
 #[derive(Clone, Copy, Debug, PartialEq, Eq)]
 pub struct Taking {
     /// Milliseconds in all.

@@ -1,6 +1,6 @@
 // The toolchain's stream of a client.
-ghost use Rattle.std.specs.Prelude.{◌<◌, ◌≤◌, length, take, IfSome};
-ghost use Rattle.std.specs.Io.KnownBytes.{Appends, Consumes};
+ghost use Rattle.std.specs.Prelude.{◌≡◌, ◌<◌, ◌≤◌, length, take, IfNone, IfSome};
+ghost use Rattle.std.specs.Io.KnownBytes.{Appends, Consumes, IsAtEnd, Keeps};
 
 use crate::client_stream::ClientStream;
 use crate::streams::{read_once, write_once};
@@ -31,6 +31,8 @@ impl ClientStream for TcpClient {
     ghost sends = { λ _ _ _ _ _. ⊤ };
 
     ghost gives = { λ _ _ _ _. ⊤ };
+
+    ghost takes = { λ _ _ _ _. ⊤ };
 
     ghost ends = { λ _ _. ⊤ };
 
@@ -63,6 +65,10 @@ impl ClientStream for TcpClient {
         send_over(&mut self.stream, from, limit)
     }
 
+    fn send_now(&mut self, from: &[u8]) -> Option<usize> {
+        send_now_over(&mut self.stream, from)
+    }
+
     fn end_writing(&mut self) {
         let _ = self.stream.shutdown(Shutdown::Write);
     }
@@ -70,10 +76,11 @@ impl ClientStream for TcpClient {
     fn close(self) {}
 }
 
-/// One read of a stream that waits at most `limit` milliseconds.
+/// One read of a stream that waits at most `limit` milliseconds: 0 at its end alone, where there is room.
 fn receive_over<S: Read + OpenStream>(stream: &mut S, into: &mut [u8], limit: u64) -> Option<usize>
     ensures bound { IfSome result (λ n. n ≤ length into.new) }
-    ensures octets { IfSome result (λ n. Consumes (S.remaining stream.old) (S.remaining stream.new) (take n into.new)) }
+    ensures octets { IfSome result (λ n. Consumes (S.remaining stream.old) (S.remaining stream.new) (take n into.new)
+        × (n ≡ 0 → 0 < length into.new → IsAtEnd (S.remaining stream.new))) }
 {
     stream.set_nonblocking(false).ok()?;
     stream
@@ -85,15 +92,16 @@ fn receive_over<S: Read + OpenStream>(stream: &mut S, into: &mut [u8], limit: u6
     }
 }
 
-/// One read of a stream that doesn't wait: 0 where it would. None where the stream ended or failed.
+/// One read of a stream that doesn't wait: 0 where it would. None where the stream ended or failed. Nothing is read at either.
 fn receive_now_over<S: Read + OpenStream>(stream: &mut S, into: &mut [u8]) -> Option<usize>
     ensures bound { IfSome result (λ n. n ≤ length into.new) }
-    ensures octets { IfSome result (λ n. 0 < n → Consumes (S.remaining stream.old) (S.remaining stream.new) (take n into.new)) }
+    ensures octets { IfSome result (λ n. Consumes (S.remaining stream.old) (S.remaining stream.new) (take n into.new)) }
+    ensures none { IfNone result (Keeps (S.remaining stream.old) (S.remaining stream.new)) }
 {
     stream.set_nonblocking(true).ok()?;
     match read_once(stream, into) {
         Ok(0) => None,
-        Ok(count) => Some(count),
+        Ok(read) => Some(read),
         Err(error) if error.kind() == ErrorKind::WouldBlock => Some(0),
         Err(_) => None,
     }
@@ -103,13 +111,29 @@ fn receive_now_over<S: Read + OpenStream>(stream: &mut S, into: &mut [u8]) -> Op
 fn send_over<S: Write + OpenStream>(stream: &mut S, from: &[u8], limit: u64) -> Option<usize>
     ensures bound { IfSome result (λ n. (0 < n) × (n ≤ length from.now)) }
     ensures octets { IfSome result (λ n. Appends (S.contents stream.old) (S.contents stream.new) (take n from.now)) }
+    ensures none { IfNone result (Keeps (S.contents stream.old) (S.contents stream.new)) }
 {
     stream.set_nonblocking(false).ok()?;
     stream
         .set_write_timeout(Some(Duration::from_millis(limit)))
         .ok()?;
     match write_once(stream, from) {
-        Ok(0) | Err(_) => None,
+        Ok(0) => None,
         Ok(count) => Some(count),
+        Err(_) => None,
+    }
+}
+
+/// One write of a stream that doesn't wait: 0 where it would, and nothing is written then, nor where the stream failed.
+fn send_now_over<S: Write + OpenStream>(stream: &mut S, from: &[u8]) -> Option<usize>
+    ensures bound { IfSome result (λ n. n ≤ length from.now) }
+    ensures octets { IfSome result (λ n. Appends (S.contents stream.old) (S.contents stream.new) (take n from.now)) }
+    ensures none { IfNone result (Keeps (S.contents stream.old) (S.contents stream.new)) }
+{
+    stream.set_nonblocking(true).ok()?;
+    match write_once(stream, from) {
+        Ok(taken) => Some(taken),
+        Err(error) if error.kind() == ErrorKind::WouldBlock => Some(0),
+        Err(_) => None,
     }
 }

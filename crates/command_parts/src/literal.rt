@@ -7,7 +7,7 @@ ghost use Rattle.command_parts.specs.reading.Steps.{ReadingGives};
 use crate::follow::{Follow, may_follow};
 use crate::lexeme::{Lexeme, LexemeStep, read_lexeme};
 use crate::no_command::NoCommand;
-use imap_keywords::{COUNT_DIGITS, LITERAL_LIMIT, is_digit};
+use imap_keywords::{COUNT_DIGITS, MAX_LITERAL_OCTETS, is_digit};
 use imap_values::{before, behind};
 
 /// The head of a literal behind its brace, as far as it was read.
@@ -26,7 +26,7 @@ fn digits(value: u32, count: u8, c: u8) -> LexemeStep<LiteralHead>
 {
     if is_digit(c as u16) {
         let next = 10 * value as u64 + (c - b'0') as u64;
-        if count < COUNT_DIGITS && next <= LITERAL_LIMIT as u64 {
+        if count < COUNT_DIGITS && next <= MAX_LITERAL_OCTETS as u64 {
             LexemeStep::On(LiteralHead::Digits(next as u32, count + 1))
         } else {
             LexemeStep::Fail

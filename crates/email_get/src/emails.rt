@@ -59,6 +59,7 @@ fn asked_of<'a>(alloc: Global, arguments: &'a Value) -> Result<Asked<'a>, Method
 pub fn check_email_get(alloc: Global, arguments: &Value) -> Result<(), MethodError>
     ensures { Agrees Memory (λ u. u) result (get_emails_refused (view arguments.now)) }
 {
+    // (only whether it is refused is told)
     let _asked = asked_of(alloc, arguments)?;
     Ok(())
 }

@@ -19,7 +19,7 @@ ghost use Rattle.email_get.specs.reading.Gathered.{GathersThese};
 use crate::blobs::blob_octets;
 use crate::refusals::error_of;
 use blob_store::BlobStore;
-use body_parts::Message;
+use body_parts::ParsedMessage;
 use email_bodies::BodySource;
 use email_objects::parsed_value;
 use email_properties::{Defaults, EmailWanted, email_wanted};
@@ -66,6 +66,7 @@ fn asked_of<'a>(alloc: Global, arguments: &'a Value) -> Result<Asked<'a>, Method
 pub fn check_email_parse(alloc: Global, arguments: &Value) -> Result<(), MethodError>
     ensures { Agrees Memory (λ u. u) result (parse_refused (view arguments.now)) }
 {
+    // (only whether it is refused is told)
     let _asked = asked_of(alloc, arguments)?;
     Ok(())
 }
@@ -93,7 +94,7 @@ fn message_value(
         (email_asked wanted.now) (view value)) }
     ensures whole { IfOk result (λ value. has_float (view value) ≡ false) }
 {
-    let message = Message {
+    let message = ParsedMessage {
         octets: octets.as_slice(),
         id: message_id(blob, id),
     };

@@ -7,7 +7,7 @@ ghost use Rattle.email_properties.specs.Wanted.{email_asked};
 ghost use Rattle.body_parts.specs.Messages.{message_data};
 ghost use Rattle.email_objects.specs.EmailObjects.{AddsBody};
 
-use body_parts::{Message, put_body_properties};
+use body_parts::{ParsedMessage, put_body_properties};
 use email_properties::{EmailWanted, needs_body};
 use serde_json::{Map, Value};
 use std::alloc::{AllocError, Global};
@@ -16,7 +16,7 @@ use std::alloc::{AllocError, Global};
 pub(crate) fn put_body(
     members: &mut Map<String, Value>,
     alloc: Global,
-    message: &Message<'_>,
+    message: &ParsedMessage<'_>,
     wanted: &EmailWanted<'_>,
 ) -> Result<(), AllocError>
     ensures { OnOk result (AddsBody (Some (message_data message.now)) (email_asked wanted.now) (members_view members.old.entries) (members_view members.new.entries)) }
@@ -44,7 +44,7 @@ pub(crate) fn put_row_body(
         None => Ok(()),
         Some(octets) => {
             let id = Some(id);
-            put_body(members, alloc, &Message { octets, id }, wanted)
+            put_body(members, alloc, &ParsedMessage { octets, id }, wanted)
         }
     }
 }

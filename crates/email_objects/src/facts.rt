@@ -8,7 +8,7 @@ ghost use Rattle.email_objects.specs.Facts as spec;
 ghost use Rattle.email_objects.specs.reading.Views.{facts_data};
 
 use crate::header_needs::{needs_header, needs_index};
-use body_parts::Message;
+use body_parts::ParsedMessage;
 use email_properties::EmailProperty;
 use field_values::NamedFields;
 use mail_header::{Fields, fields};
@@ -79,7 +79,7 @@ pub(crate) fn row_facts<'a>(
 pub(crate) fn message_facts<'a>(
     alloc: Global,
     blob_id: Option<&'a [u8]>,
-    message: &Message<'a>,
+    message: &ParsedMessage<'a>,
     properties: &[EmailProperty<'_>],
 ) -> Result<Facts<'a>, AllocError>
     ensures facts { IfOk result (λ e. facts_data e ≡ spec.message_facts (option_copied blob_id.entry) (message_data message.now) e.fields) }

@@ -18,5 +18,6 @@ mod shown;
 // Laws.
 pub mod laws;
 
+pub use metadata::keywords;
 pub use objects::{email_value, parsed_value};
 pub use shown::email_object;

@@ -102,7 +102,7 @@ fn keyword_members(alloc: Global, keywords: &[Bytes]) -> Result<Map<String, Valu
 }
 
 /// `keywords`
-pub(crate) fn keywords(alloc: Global, row: Option<&EmailRow>) -> Result<Value, AllocError>
+pub fn keywords(alloc: Global, row: Option<&EmailRow>) -> Result<Value, AllocError>
     ensures { IfOk result (λ value. view value ≡ spec.keywords_data (option_copied row.entry)) }
 {
     match row {

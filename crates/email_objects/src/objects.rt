@@ -13,7 +13,7 @@ ghost use Rattle.email_objects.specs.reading.ToldMembers.{TellsMessage, TellsRow
 use crate::bodies::{put_body, put_row_body};
 use crate::facts::{message_facts, row_facts};
 use crate::properties::{put_properties, put_property};
-use body_parts::Message;
+use body_parts::ParsedMessage;
 use email_properties::{EmailProperty, EmailWanted};
 use jmap_arguments::id_text;
 use mail_maps::EmailRow;
@@ -42,7 +42,7 @@ fn row_members(
 fn message_members(
     alloc: Global,
     blob_id: Option<&[u8]>,
-    message: &Message<'_>,
+    message: &ParsedMessage<'_>,
     properties: &[EmailProperty<'_>],
 ) -> Result<Map<String, Value>, AllocError>
     ensures { IfOk result (λ members. TellsMessage (option_copied blob_id.entry) (message_data message.now) properties.now (members_view members.entries)) }
@@ -77,7 +77,7 @@ pub fn email_value(
 pub fn parsed_value(
     alloc: Global,
     blob_id: Option<&[u8]>,
-    message: &Message<'_>,
+    message: &ParsedMessage<'_>,
     wanted: &EmailWanted<'_>,
 ) -> Result<Value, AllocError>
     ensures object { IfOk result (λ value. IsParsedObject (option_copied blob_id.entry) (message_data message.now) (email_asked wanted.now) (view value)) }

@@ -7,7 +7,7 @@ ghost use Rattle.email_objects.specs.EmailObjects.{IsParsedObject, IsShownObject
 
 use crate::objects::parsed_value;
 use blob_store::blob_id::blob_id;
-use body_parts::Message;
+use body_parts::ParsedMessage;
 use email_properties::{BodyWanted, Defaults, EmailWanted, email_defaults, part_defaults};
 use serde_json::Value;
 use std::alloc::{AllocError, Global};
@@ -41,7 +41,7 @@ fn shown_value(alloc: Global, octets: &[u8], id: &[u8]) -> Result<Value, AllocEr
 {
     let wanted = shown_wanted(alloc)?;
     let id = Some(id);
-    parsed_value(alloc, id, &Message { octets, id }, &wanted)
+    parsed_value(alloc, id, &ParsedMessage { octets, id }, &wanted)
 }
 
 /// The object of octets that are no Email, as an Email/parse answers it (RFC 8621 section 4.9) with its default properties and all values

@@ -9,8 +9,8 @@ use Rattle.gate_machine.specs.Fetching.{AsksBody, IsKept, IsTold, Ends, HasEnded
 use Rattle.gate_machine.specs.History.{KnownMail}
 use Rattle.gate_machine.specs.Obeying.{AreAsksObeyed}
 use Rattle.gate_machine.specs.Progress.{Progress}
-use Rattle.gate_machine.specs.declared.standing.MailStatus.{MailStatus}
-use Rattle.gate_machine.specs.declared.standing.MailStatus.TheVariants as standing
+use Rattle.gate_machine.specs.declared.mail_status.MailStatus.{MailStatus}
+use Rattle.gate_machine.specs.declared.mail_status.MailStatus.TheVariants as standing
 use Rattle.gate_machine.proofs.Asking.{StaysKnown, bodies_stay}
 use Rattle.gate_calls.specs.Mailings.{Mailing, history_of, mail_at, mailing_by}
 

@@ -1,5 +1,5 @@
 -- The bodies that calls ask are due.
-use Rattle.std.proofs.Common.{◌≡◌, ◌∙◌, ◌++◌, ℕ, List, [], ◌∷◌, append-nil, append_assoc, Result, Ok, Err, refl, sym, ap}
+use Rattle.std.proofs.Common.{◌≡◌, ◌∙◌, ◌++◌, List, [], ◌∷◌, append-nil, append_assoc, Result, Ok, Err, refl, sym, ap}
 use Rattle.serde_json.specs.Data.{Data}
 use Rattle.email_bodies.specs.Asking.{BodyAsk, AreDue}
 use Rattle.email_bodies.proofs.Due.{none_due, no_asks_due, due_more, due_after}

@@ -1,6 +1,8 @@
 pub mod Meaning
 pub mod Due
 pub mod Calling
+pub mod Sources
+pub mod Serving
 pub mod OneAnswer
 pub mod Bodies
 pub mod Threading

@@ -1,24 +1,18 @@
 -- What a call gave, and what is meant by the bodies that were asked.
-use Rattle.std.proofs.Common.{Bor, ◌≡◌, ◌≢◌, ◌⊎◌, ◌++◌, ℕ, List, [], refl, sym, ap, inl, inr, Option, Result, Ok, Err, subst}
+use Rattle.std.proofs.Common.{◌≡◌, ◌≢◌, ◌⊎◌, ℕ, List, [], refl, sym, ap, inl, inr, Option, Result, Ok, Err, subst}
 use Rattle.serde_json.specs.declared.value.Value.{Value}
 use Rattle.serde_json.specs.Data.{Data}
 use Rattle.serde_json.specs.View.{view}
-use Rattle.email_bodies.specs.Asking.{BodyAsk, NoneAsked}
+use Rattle.email_bodies.specs.Asking.{NoneAsked}
 use Rattle.email_bodies.specs.declared.source.MessagePlace.{MessagePlace}
-use Rattle.email_bodies.proofs.Joins.{asks_join, vain_at_once, vain_more}
-use Rattle.email_get.specs.Asked.{AsksAnd, AsksAndMeets, FailsAfter}
+use Rattle.email_bodies.proofs.Joins.{vain_at_once}
+use Rattle.email_get.specs.Asked.{AsksAndMeets, FailsAfter}
 use Rattle.jmap_arguments.specs.Outcome.{Agrees, IsJust, Meets}
 use Rattle.jmap_arguments.specs.declared.method_error.MethodError.{MethodError}
 use Rattle.jmap_arguments.specs.declared.method_error.MethodError.TheVariants.{Memory}
 use Rattle.jmap_arguments.specs.declared.method_error.MethodError.TheVariants as error
-use Rattle.mail_state.specs.History.{MailHistory}
-use Rattle.mail_state.specs.State.{IsStateOf}
-use Rattle.mail_state.specs.declared.state.MailState.{MailState}
-use Rattle.gate_calls.specs.declared.mail.Mail.{Mail}
-use Rattle.gate_calls.specs.declared.mail.Mail.TheVariants as code
-use Rattle.gate_calls.specs.declared.mail.CallContext.{CallContext}
 use Rattle.gate_calls.specs.declared.method.Method.{Method}
-use Rattle.gate_calls.specs.Mailings.{Mailing, MailAndUploads, IsMailOf, AreOf}
+use Rattle.gate_calls.specs.Mailings.{MailAndUploads}
 use Rattle.gate_calls.specs.Methods.{AtOnce, RepliesTo, unless_refused}
 
 -- ---- results
@@ -88,57 +82,9 @@ known_meant : (e : MethodError) (P : Type 0) → e ≢ Memory → (e ≡ Memory)
 known_meant e P other (inl out) = absurd (other out)
 known_meant e P other (inr meant) = meant
 
--- ---- what is known of the code's mail
-
--- where the mail can't be told
-pub over_untold : (m : Method) (d : Data) (asks : List BodyAsk) (r : Result Data MethodError) (o : MailAndUploads) (over : CallContext) (e : MethodError)
-    → ((mail : Mailing) → IsMailOf mail over.mail → mail ≡ Err e) → AreOf o over
-    → RepliesTo m (record { mail = Err e; uploads = o.uploads }) d asks r → RepliesTo m o d asks r
-over_untold m d asks r o over e untold of so =
-    subst (λ (mail : Mailing). RepliesTo m (record { mail = mail; uploads = o.uploads }) d asks r) (sym (untold o.mail of.mail)) so
-
--- where it is told
-pub over_told : (m : Method) (d : Data) (asks : List BodyAsk) (r : Result Data MethodError) (over : CallContext) (state : Bor MailState) → over.mail ≡ code.Told state
-    → ((h : MailHistory) → IsStateOf h state.now → RepliesTo m (record { mail = Ok h; uploads = over.uploads.now }) d asks r) → (o : MailAndUploads) → AreOf o over
-    → RepliesTo m o d asks r
-over_told m d asks r over state is replies o of =
-    subst (λ (u : List (List ℕ)). RepliesTo m (record { mail = o.mail; uploads = u }) d asks r) of.uploads
-    (by o.mail (subst (λ (x : Mail). IsMailOf o.mail x) is of.mail))
-  where
-    by : (mail : Mailing) → IsMailOf mail (code.Told state) → RepliesTo m (record { mail = mail; uploads = over.uploads.now }) d asks r
-    by (Ok h) stands = replies h stands
-    by (Err e) never = absurd never
-
--- the mail that the code can't tell
-pub mail_untold : (m : Mail) (e : MethodError) → m ≡ code.Untold e → (mail : Mailing) → IsMailOf mail m → mail ≡ Err e
-mail_untold m e is mail of = by mail (subst (λ (x : Mail). IsMailOf mail x) is of)
-  where
-    by : (mail : Mailing) → IsMailOf mail (code.Untold e) → mail ≡ Err e
-    by (Ok h) never = absurd never
-    by (Err f) same = ap (λ (x : MethodError). let r : Mailing = Err x in r) (sym same)
-
 -- ---- calls that may ask bodies
 
 module _ {S : Type 0} (Answers : S → MessagePlace → Option (List ℕ) → S → Type 0) (Lacks : S → MessagePlace → S → Type 0) where
-  -- one after another
-  pub asks_then : {P Q R : List BodyAsk → Type 0} (before mid after : S) → AsksAnd Answers Lacks before mid P → AsksAnd Answers Lacks mid after Q
-      → ((xs ys : List BodyAsk) → P xs → Q ys → R (xs ++ ys)) → AsksAnd Answers Lacks before after R
-  asks_then before mid after one two both =
-      record {
-        asks = one.asks ++ two.asks;
-        asked = asks_join Answers before mid after one.asks two.asks one.asked two.asked;
-        meant = both one.asks two.asks one.meant two.meant;
-      }
-
-  -- what is meant may be more
-  pub gives_more : (P Q : List BodyAsk → Result Data MethodError → Type 0) (before after : S) (result : Result Value MethodError)
-      → ((asks : List BodyAsk) (r : Result Data MethodError) → P asks r → Q asks r) → AsksAndMeets Answers Lacks before after Memory view result P
-      → AsksAndMeets Answers Lacks before after Memory view result Q
-  gives_more P Q before after (Ok value) so a = record { asks = a.asks; asked = a.asked; meant = so a.asks (Ok (view value)) a.meant }
-  gives_more P Q before after (Err e) so (inl lacks) =
-      inl (lacks.0, vain_more Answers Lacks (FailsAfter P) (FailsAfter Q) before after (λ asks fails. (fails.0, so asks (Err fails.0) fails.1)) lacks.1)
-  gives_more P Q before after (Err e) so (inr a) = inr (record { asks = a.asks; asked = a.asked; meant = so a.asks (Err e) a.meant })
-
   -- where no body is asked
   pub at_once : {I : Type 0} {J : I → Type 0} (P : I → Result Data MethodError → Type 0) (s : S) (result : Result Value MethodError)
       → ((i : I) → J i → Meets Memory view result (P i))
@@ -147,16 +93,6 @@ module _ {S : Type 0} (Answers : S → MessagePlace → Option (List ℕ) → S 
   at_once {I} {J} P s (Err e) meets = elim (is_memory e) [
     | inl lacks ↦ inl (lacks, vain_at_once Answers Lacks (FailsAfter (λ asks (r : Result Data MethodError). (i : I) → J i → AtOnce (P i) asks r)) s)
     | inr other ↦ inr (record { asks = []; asked = NoneAsked; meant = λ i j. (refl, known_meant e (P i (Err e)) other (meets i j)) })
-  ]
-
-  -- the same for the reply of a method
-  pub replies_once : {I : Type 0} (P : I → List BodyAsk → Result Data MethodError → Type 0) (s : S) (result : Result Value MethodError)
-      → ((i : I) → Meets Memory view result (P i []))
-      → AsksAndMeets Answers Lacks s s Memory view result (λ asks r. (i : I) → P i asks r)
-  replies_once P s (Ok value) meets = record { asks = []; asked = NoneAsked; meant = λ i. meets i }
-  replies_once {I} P s (Err e) meets = elim (is_memory e) [
-    | inl lacks ↦ inl (lacks, vain_at_once Answers Lacks (FailsAfter (λ asks (r : Result Data MethodError). (i : I) → P i asks r)) s)
-    | inr other ↦ inr (record { asks = []; asked = NoneAsked; meant = λ i. known_meant e (P i [] (Err e)) other (meets i) })
   ]
 
   -- a reply of the method that was asked

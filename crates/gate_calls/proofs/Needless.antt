@@ -1,5 +1,5 @@
--- Calls that need no mail are answered the same whatever mail there is.
-use Rattle.std.proofs.Common.{◌≡◌, ◌∙◌, ◌||◌, ℕ, Bool, true, false, not, if◌then◌else◌, bytes_eq, List, [], ◌∷◌, Option, Some, Result, Ok, refl, sym, ap, subst}
+-- Calls that need no mail are answered the same whatever mail there is, and without mail none asks for a body.
+use Rattle.std.proofs.Common.{◌≡◌, ◌∙◌, ◌||◌, ◌++◌, ℕ, Bool, true, false, not, if◌then◌else◌, bytes_eq, List, [], ◌∷◌, Option, Some, Result, Ok, Err, refl, sym, ap, subst}
 use Rattle.std.specs.List.{find, list_any}
 use Rattle.std.proofs.lemmas.List.Folds.{list_any-append}
 use Rattle.serde_json.specs.Data.{Data}
@@ -77,3 +77,32 @@ module _ (uses : Using) (o p : MailAndUploads) where
         answers = one_call (left_false (needs_mail_by next.call.name) false last) next.answers;
       })
       (over_any (left_false (list_any (λ (call : CallData). needs_mail_by call.name) calls) (needs_mail_by next.call.name || false) both) rest)
+
+-- ---- without mail
+
+-- without mail no body is asked
+reply_asks : (m : Method) (e : MethodError) (uploads : List (List ℕ)) (d : Data) (asks : List BodyAsk) (r : Result Data MethodError)
+    → RepliesTo m (record { mail = Err e; uploads = uploads }) d asks r → asks ≡ []
+reply_asks CoreEcho e uploads d asks r replies = replies.0
+reply_asks MailboxGet e uploads d asks r replies = replies.0
+reply_asks MailboxChanges e uploads d asks r replies = replies.0
+reply_asks MailboxQuery e uploads d asks r replies = replies.0
+reply_asks MailboxQueryChanges e uploads d asks r replies = replies.0
+reply_asks ThreadGet e uploads d asks r replies = replies.0
+reply_asks ThreadChanges e uploads d asks r replies = replies.0
+reply_asks EmailGet e uploads d asks r replies = replies.0
+reply_asks EmailChanges e uploads d asks r replies = replies.0
+reply_asks EmailQuery e uploads d asks r replies = replies.0
+reply_asks EmailQueryChanges e uploads d asks r replies = replies.0
+reply_asks EmailParse e uploads d asks r replies = replies.0
+
+call_asks : {uses : Using} {e : MethodError} {uploads : List (List ℕ)} {earlier : List CallData} {call : CallData} {asks : List BodyAsk} {r : Result Data MethodError}
+    → AnswersCall uses (record { mail = Err e; uploads = uploads }) earlier call asks r → asks ≡ []
+call_asks (NoMethod f is) = refl
+call_asks (Unresolved m f is js) = refl
+call_asks {e = e} {uploads = uploads} {asks = asks} {r = r} (Resolved m d is js replies) = reply_asks m e uploads d asks r replies
+
+pub none_asked : {uses : Using} {e : MethodError} {uploads : List (List ℕ)} {calls : List CallData} {asks : List BodyAsk} {responses : List CallData}
+    → AnswersCalls uses (record { mail = Err e; uploads = uploads }) calls asks responses → asks ≡ []
+none_asked NoCalls = refl
+none_asked (MoreCalls next rest) = (λ i. none_asked rest i ++ call_asks next.answers i)

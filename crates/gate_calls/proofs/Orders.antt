@@ -1,13 +1,13 @@
 -- The orders of a query, one by one.
-use Rattle.std.proofs.Common.{◌≡◌, ◌↔◌, ℕ, List, [], ◌∷◌, Bool, true, false, ◌||◌, codes, bytes_eq, Option, Some, None, refl, sym, ap, subst, ◌∙◌}
+use Rattle.std.proofs.Common.{◌≡◌, ◌↔◌, ℕ, List, [], ◌∷◌, Bool, true, false, ◌||◌, codes, bytes_eq, Option, Some, refl, sym, ap, subst, ◌∙◌}
 use Rattle.std.proofs.lemmas.Slice.Eq.{bytes_eq-Decides}
-use Rattle.std.specs.List.{AllByRecursion, list_any}
+use Rattle.std.specs.List.{AllByRecursion}
 use Rattle.serde_json.specs.Data.{Data, string, object, no_members, member}
 use Rattle.query_orders.specs.declared.comparators.EmailComparator.{EmailComparator}
 use Rattle.query_orders.specs.declared.comparators.EmailSort.{EmailSort}
 use Rattle.query_orders.specs.declared.comparators.EmailSort.TheVariants as sort
 use Rattle.query_arguments.specs.Readings.{both_read}
-use Rattle.query_arguments.specs.Sorts.{property_of, property_named, email_sort_named, email_comparator, email_comparator_in, direction}
+use Rattle.query_arguments.specs.Sorts.{property_named, email_sort_named, email_comparator, direction}
 use Rattle.query_arguments.specs.declared.reading.Reading.{Reading}
 use Rattle.query_arguments.specs.declared.reading.Reading.TheVariants.{Wrong, Unsupported, Means}
 use Rattle.jmap_arguments.specs.Arguments.{is_among}

@@ -1,5 +1,5 @@
 -- Calls that read, one after another, are as they are over one mail.
-use Rattle.std.proofs.Common.{◌≡◌, ◌∙◌, ◌++◌, ℕ, List, [], ◌∷◌, map, append-nil, append_assoc, Option, Result}
+use Rattle.std.proofs.Common.{◌≡◌, ◌∙◌, ◌++◌, ℕ, List, [], ◌∷◌, map, append-nil, append_assoc, Result}
 use Rattle.std.proofs.Common.{refl, sym, ap, subst, inl, inr}
 use Rattle.std.proofs.lemmas.List.{map-append, same_from_push}
 use Rattle.gate_world.specs.declared.event.Event.{Event}
@@ -156,7 +156,7 @@ module _ {uses : Using} {uploads : List (List ℕ)} where
       → AnsweredOverOne uses uploads s calls asks responses events t → DoesCalls uses uploads s calls asks responses events t
   apart_of {s} {t} {calls} {responses} {events = events} a =
       subst (λ (l : List Asked). DoesCalls uses uploads s calls l responses events t) (sym a.asks_are)
-      (subst (λ (ids : Option Ids). DoesCalls uses uploads s calls (map Body a.bodies) responses events (record { progress = t.progress; created = ids })) (sym a.created)
+      (subst (λ (ids : Ids). DoesCalls uses uploads s calls (map Body a.bodies) responses events (record { progress = t.progress; created = ids })) (sym a.created)
       (apart s a.answers t.progress a.asked))
 
   -- memory runs out before a body was asked

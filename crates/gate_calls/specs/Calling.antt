@@ -1,6 +1,6 @@
 -- The calls of a request one after another, in the work on the request: each is answered over the mail that is served at its moment and with the ids
 -- that were created before it, and leaves both to the next one (RFC 8620 sections 3.2 to 3.7 and 5.3).
-use Rattle.std.specs.Prelude.{◌≡◌, ◌++◌, ℕ, List, [], ◌∷◌, map, All, Option, Result}
+use Rattle.std.specs.Prelude.{◌≡◌, ◌++◌, ℕ, List, [], ◌∷◌, map, All, Result}
 use Rattle.gate_world.specs.declared.event.Event.{Event}
 use Rattle.serde_json.specs.Data.{Data}
 use Rattle.email_bodies.specs.Asking.{BodyAsk, AreDue}
@@ -14,10 +14,10 @@ use Rattle.gate_machine.specs.Progress.{Progress}
 use Rattle.gate_calls.specs.Calls.{AnswersCall, answered_call}
 use Rattle.gate_calls.specs.Mailings.{MailAndUploads, mail_at}
 
--- how far the work is, and the ids that were created so far, where the request has some
+-- how far the work is, and the ids of what was created by then, by creation id: those that the request gives, and those of its own creations since
 pub record CallsState : Type 0 where
   pub progress : Progress
-  pub created : Option Ids
+  pub created : Ids
 
 -- the mail that is served then, beside the uploads
 abbrev pub over_at : List (List ℕ) → CallsState → MailAndUploads

@@ -1,5 +1,5 @@
--- Calls has what calls come to, one after another over one mail; Calling the calls of a request, each over the mail of its moment; Asking how bodies
--- are asked meanwhile; Places is for the law that this is one list.
+-- Calls has what calls come to, one after another over one mail; Calling the calls of a request, each over the mail of its moment; Sources what comes of
+-- calls that a source answers, of which LentMail is one; Places is for the law that this is one list.
 pub mod MethodNames
 pub mod Mailings
 pub mod Methods
@@ -7,7 +7,8 @@ pub mod Calls
 pub mod Calling
 pub mod OneMail
 pub mod ToldBodies
-pub mod Asking
+pub mod Sources
+pub mod LentMail
 pub mod Places
 pub mod reading
 pub mod SortOptions

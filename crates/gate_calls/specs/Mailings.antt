@@ -1,18 +1,14 @@
 -- The mail over which the calls of a request are answered (RFC 8620 section 3.6.2).
-use Rattle.std.specs.Prelude.{◌≡◌, ℕ, List, Option, Some, None, Result, Ok, Err}
+use Rattle.std.specs.Prelude.{ℕ, List, Option, Some, None, Result, Ok, Err}
 use Rattle.jmap_arguments.specs.declared.method_error.MethodError.{MethodError}
 use Rattle.jmap_arguments.specs.declared.method_error.MethodError.TheVariants.{ServerUnavailable, ServerFail}
 use Rattle.mail_state.specs.History.{MailHistory}
-use Rattle.mail_state.specs.State.{IsStateOf}
 use Rattle.gate_machine.specs.History.{KnownMail}
 use Rattle.gate_machine.specs.Progress.{Progress}
-use Rattle.gate_machine.specs.declared.standing.MailFailure.{MailFailure}
-use Rattle.gate_machine.specs.declared.standing.MailFailure.TheVariants.{Linked, Spent}
-use Rattle.gate_machine.specs.declared.standing.MailStatus.{MailStatus}
-use Rattle.gate_machine.specs.declared.standing.MailStatus.TheVariants as standing
-use Rattle.gate_calls.specs.declared.mail.Mail.{Mail}
-use Rattle.gate_calls.specs.declared.mail.Mail.TheVariants as code
-use Rattle.gate_calls.specs.declared.mail.CallContext.{CallContext}
+use Rattle.gate_machine.specs.declared.mail_status.MailFailure.{MailFailure}
+use Rattle.gate_machine.specs.declared.mail_status.MailFailure.TheVariants.{Linked, Spent, Broken}
+use Rattle.gate_machine.specs.declared.mail_status.MailStatus.{MailStatus}
+use Rattle.gate_machine.specs.declared.mail_status.MailStatus.TheVariants as standing
 
 -- what has become of the mail; or the error of each call that isn't refused by its name or its arguments
 abbrev pub Mailing : Type 0
@@ -22,6 +18,7 @@ Mailing = Result MailHistory MethodError
 abbrev pub error_of : MailFailure → MethodError
 error_of (Linked e) = ServerUnavailable
 error_of Spent = ServerFail
+error_of Broken = ServerUnavailable
 
 abbrev pub history_of : Option KnownMail → Mailing
 history_of (Some k) = Ok k.history
@@ -41,15 +38,3 @@ mail_at p = mailing_by p.standing p.machine.known
 pub record MailAndUploads : Type 0 where
   pub mail : Mailing
   pub uploads : List (List ℕ)
-
--- ---- the code's mail
-
--- the state that stands for what has become of the mail; or the same error
-abbrev pub IsMailOf : Mailing → Mail → Type 0
-IsMailOf (Ok h) (code.Told state) = IsStateOf h state.now
-IsMailOf (Err e) (code.Untold error) = error ≡ e
-IsMailOf _ _ = ⊥
-
-pub record AreOf (over : MailAndUploads) (c : CallContext) : Type 0 where
-  pub mail : IsMailOf over.mail c.mail
-  pub uploads : c.uploads.now ≡ over.uploads

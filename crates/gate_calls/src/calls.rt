@@ -2,21 +2,17 @@
 ghost use Rattle.std.specs.Prelude.{◌≡◌, Err, Ok, IfOk, All, map, false};
 ghost use Rattle.serde_json.specs.View.{view};
 ghost use Rattle.serde_json.specs.Written.{has_float};
-ghost use Rattle.email_get.specs.Asked.{AsksAndMeets, FailsAfter};
 ghost use Rattle.jmap_arguments.specs.declared.using.Using.{Using as using_type};
-ghost use Rattle.jmap_arguments.specs.declared.method_error.MethodError.TheVariants.{Memory};
 ghost use Rattle.result_references.specs.Call.{call_data};
 ghost use Rattle.jmap_core.specs.Response.{IsWhole};
-ghost use Rattle.gate_calls.specs.Asking.{AsksAndMakes};
-ghost use Rattle.gate_calls.specs.Mailings.{AreOf, MailAndUploads};
 ghost use Rattle.gate_calls.specs.MethodNames.{method_asked};
-ghost use Rattle.gate_calls.specs.Calls.{AnswersCall, AnswersCalls, FirstCallsAsk, answered_call};
-ghost use Rattle.gate_calls.specs.reading.Responding.{IsResponseTo, RespondsTo};
+ghost use Rattle.gate_calls.specs.Calls.{answered_call};
+ghost use Rattle.gate_calls.specs.Sources.{CallGives, CallLacks, CallsMake, Gives};
+ghost use Rattle.gate_calls.specs.reading.Responding.{IsResponseTo, Responds};
 
-use crate::mail::CallContext;
 use crate::method::{Method, method_named};
-use crate::methods::reply;
-use email_bodies::BodySource;
+use crate::source::CallSource;
+use blob_store::BlobStore;
 use jmap_arguments::{MethodError, Using, error_arguments};
 use octets::Text;
 use result_references::{Call, resolve};
@@ -24,42 +20,42 @@ use serde_json::Value;
 use std::alloc::{AllocError, Global};
 
 // What a call of this method comes to.
-fn method_result<W, B: BodySource<W>>(
+fn method_result<W, C: CallSource<W>>(
     alloc: Global,
-    over: &CallContext<'_>,
-    bodies: &mut B,
+    source: &mut C,
     world: &mut W,
+    uploads: &BlobStore,
     method: Method,
     earlier: &[Call],
     call: &Call,
 ) -> Result<Value, MethodError>
     ensures meant { (uses : using_type) → method_asked uses call.now.name ≡ Ok method
-        → AsksAndMeets B.answers B.lacks (bodies.old, world.old) (bodies.new, world.new) Memory view result
-        (λ asks r. (o : MailAndUploads) → AreOf o over.now → AnswersCall uses o (map call_data earlier.now) (call_data call.now) asks r) }
+        → Gives (λ r. CallGives (C.answers uploads.now) uses (map call_data earlier.now) (call_data call.now) (source.old, world.old) r (source.new, world.new))
+        (CallLacks (C.answers uploads.now) (C.lacks uploads.now) uses (map call_data earlier.now) (call_data call.now) (source.old, world.old) (source.new, world.new)) result }
     ensures whole { IfOk result (λ value. has_float (view value) ≡ false) }
 {
     match resolve(alloc, &call.arguments, earlier) {
-        Ok(arguments) => reply(alloc, over, bodies, world, method, arguments),
+        Ok(arguments) => source.reply(alloc, world, uploads, method, arguments),
         Err(error) => Err(error),
     }
 }
 
 // What a call comes to.
-fn call_result<W, B: BodySource<W>>(
+fn call_result<W, C: CallSource<W>>(
     alloc: Global,
-    over: &CallContext<'_>,
-    bodies: &mut B,
+    source: &mut C,
     world: &mut W,
+    uploads: &BlobStore,
     uses: Using,
     earlier: &[Call],
     call: &Call,
 ) -> Result<Value, MethodError>
-    ensures meant { AsksAndMeets B.answers B.lacks (bodies.old, world.old) (bodies.new, world.new) Memory view result
-        (λ asks r. (o : MailAndUploads) → AreOf o over.now → AnswersCall uses o (map call_data earlier.now) (call_data call.now) asks r) }
+    ensures meant { Gives (λ r. CallGives (C.answers uploads.now) uses (map call_data earlier.now) (call_data call.now) (source.old, world.old) r (source.new, world.new))
+        (CallLacks (C.answers uploads.now) (C.lacks uploads.now) uses (map call_data earlier.now) (call_data call.now) (source.old, world.old) (source.new, world.new)) result }
     ensures whole { IfOk result (λ value. has_float (view value) ≡ false) }
 {
     match method_named(uses, call.name.as_str()) {
-        Ok(method) => method_result(alloc, over, bodies, world, method, earlier, call),
+        Ok(method) => method_result(alloc, source, world, uploads, method, earlier, call),
         Err(error) => Err(error),
     }
 }
@@ -102,41 +98,46 @@ fn response_of(
 }
 
 // The one response to a call.
-fn response_to<W, B: BodySource<W>>(
+fn response_to<W, C: CallSource<W>>(
     alloc: Global,
-    over: &CallContext<'_>,
-    bodies: &mut B,
+    source: &mut C,
     world: &mut W,
+    uploads: &BlobStore,
     uses: Using,
     earlier: &[Call],
     call: &Call,
 ) -> Result<Call, AllocError>
-    ensures meant { AsksAndMakes B.answers B.lacks (bodies.old, world.old) (bodies.new, world.new) result
-        (λ r asks. (o : MailAndUploads) → AreOf o over.now → RespondsTo uses o (map call_data earlier.now) (call_data call.now) asks (call_data r))
-        (λ asks. (o : MailAndUploads) → AreOf o over.now → FailsAfter (AnswersCall uses o (map call_data earlier.now) (call_data call.now)) asks) }
+    ensures meant { Responds (C.answers uploads.now) (C.lacks uploads.now) uses (map call_data earlier.now) (call_data call.now) (source.old, world.old) (source.new, world.new) result }
     ensures whole { IfOk result IsWhole }
 {
-    let came = call_result(alloc, over, bodies, world, uses, earlier, call);
+    let came = call_result(alloc, source, world, uploads, uses, earlier, call);
     response_of(alloc, call, came)
 }
 
-/// The responses to calls, in order. Bodies are asked of the source, in the outside, as the calls need them.
-pub fn responses_to<W, B: BodySource<W>>(
+/// The responses to calls, in order. The source answers each at its moment, beside the uploads that are kept.
+pub fn responses_to<W, C: CallSource<W>>(
     alloc: Global,
-    over: &CallContext<'_>,
-    bodies: &mut B,
+    source: &mut C,
     world: &mut W,
+    uploads: &BlobStore,
     uses: Using,
     calls: &[Call],
 ) -> Result<Vec<Call>, AllocError>
-    ensures meant { AsksAndMakes B.answers B.lacks (bodies.old, world.old) (bodies.new, world.new) result
-        (λ v asks. (o : MailAndUploads) → AreOf o over.now → AnswersCalls uses o (map call_data calls.now) asks (map call_data v.items))
-        (λ asks. (o : MailAndUploads) → AreOf o over.now → FirstCallsAsk uses o (map call_data calls.now) asks) }
+    ensures meant { CallsMake (C.answers uploads.now) (C.lacks uploads.now) uses (source.old, world.old) (source.new, world.new) (map call_data calls.now) result
+        (λ v responses. map call_data v.items ≡ responses) }
     ensures whole { IfOk result (λ v. All IsWhole v.items) }
 {
     let mut responses = Vec::with_capacity(alloc, calls.len())?;
     for call in calls {
-        let response = response_to(alloc, over, bodies, world, uses, responses.as_slice(), call)?;
+        let response = response_to(
+            alloc,
+            source,
+            world,
+            uploads,
+            uses,
+            responses.as_slice(),
+            call,
+        )?;
         responses.push(response)?;
     }
     Ok(responses)

@@ -1,10 +1,12 @@
 //! The calls of a request: whether they need the mail, and what each is answered over the mail that is served at its moment.
 #![tactic(auto)]
 
-// Methods, and what they are answered over.
-mod mail;
+// Methods, and what answers them.
+mod lent_mail;
 mod method;
 mod methods;
+mod no_mail;
+mod source;
 
 // Calls, one after another.
 mod calls;
@@ -15,6 +17,8 @@ mod laws;
 
 pub use calls::responses_to;
 pub use laws::{calls_have_one_course, orders_offered_are_taken, reading_calls_have_one_mail};
-pub use mail::{CallContext, Mail};
+pub use lent_mail::LentMail;
 pub use method::{Method, method_named, name_needs_mail};
 pub use needs::needs_mail;
+pub use no_mail::NoMail;
+pub use source::CallSource;

@@ -8,10 +8,8 @@ ghost use Rattle.jmap_arguments.specs.declared.method_error.MethodError.{MethodE
 ghost use Rattle.jmap_arguments.specs.declared.method_error.MethodError.TheVariants.{Memory};
 ghost use Rattle.mail_state.specs.History.{MailHistory};
 ghost use Rattle.mail_state.specs.State.{IsStateOf};
-ghost use Rattle.gate_calls.specs.Mailings.{AreOf, MailAndUploads};
 ghost use Rattle.gate_calls.specs.Methods.{AtOnce, RepliesTo, unless_refused};
 
-use crate::mail::{CallContext, Mail};
 use crate::method::Method;
 use blob_store::BlobStore;
 use email_bodies::BodySource;
@@ -41,8 +39,8 @@ fn refusal_or(refused: Result<(), MethodError>, error: MethodError) -> Result<Va
     }
 }
 
-// A method where the mail can't be told: the call is refused by its arguments alone, or has the error.
-fn reply_without(
+/// A method where the mail can't be told: the call is refused by its arguments alone, or has the error.
+pub(crate) fn reply_without(
     alloc: Global,
     method: Method,
     error: MethodError,
@@ -71,8 +69,8 @@ fn reply_without(
     }
 }
 
-// A method over the mail that is served.
-fn reply_over<W, B: BodySource<W>>(
+/// A method over the mail that is served.
+pub(crate) fn reply_over<W, B: BodySource<W>>(
     alloc: Global,
     state: &MailState,
     uploads: &BlobStore,
@@ -98,34 +96,5 @@ fn reply_over<W, B: BodySource<W>>(
         Method::EmailQuery => email_query(alloc, state, &arguments),
         Method::EmailQueryChanges => email_query_changes(alloc, state, &arguments),
         Method::EmailParse => email_parse(alloc, state, uploads, bodies, world, &arguments),
-    }
-}
-
-/// A method over its arguments.
-pub fn reply<W, B: BodySource<W>>(
-    alloc: Global,
-    over: &CallContext<'_>,
-    bodies: &mut B,
-    world: &mut W,
-    method: Method,
-    arguments: Value,
-) -> Result<Value, MethodError>
-    ensures meant { AsksAndMeets B.answers B.lacks (bodies.old, world.old) (bodies.new, world.new) Memory view result
-        (λ asks r. (o : MailAndUploads) → AreOf o over.now → RepliesTo method o (view arguments) asks r) }
-    ensures whole { IfOk result (λ value. has_float (view value) ≡ false) }
-{
-    match &over.mail {
-        Mail::Told(state) => {
-            reply_over(
-                alloc,
-                *state,
-                over.uploads,
-                bodies,
-                world,
-                method,
-                arguments,
-            )
-        }
-        Mail::Untold(error) => reply_without(alloc, method, *error, arguments),
     }
 }

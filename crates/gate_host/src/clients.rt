@@ -54,7 +54,8 @@ pub trait Clients: Drop {
         ensures err { OnErr result (client_faults self.new ≡ one_more (client_faults self.old)) }
         ensures later { client_faults self.old ≤ client_faults self.new };
 
-    /// Gives the client some of the octets, from their front. Where it fails, none of them.
+    /// Gives the client some of the octets, from their front. Where it fails none of them counts as taken, and what is kept of earlier
+    /// ones may be dropped.
     fn send(&mut self, from: &[u8]) -> Result<usize, Failed>
         ensures bound { IfOk result (λ n. (0 < n) × (n ≤ length from.now)) }
         ensures octets { WriteAppends (takes self.old) (takes self.new) result from.now }
@@ -70,8 +71,8 @@ pub trait Clients: Drop {
         ensures finishes { finishes self.old self.new }
         ensures faults { client_faults self.new ≡ client_faults self.old };
 
-    /// For the end of a program: waits for those whose answer is whole and that have not read it yet, for a short time. Those that
-    /// come meanwhile aren't served.
+    /// For the end of a program: waits for those whose answer has ended and that have not taken it yet, or are open yet, no longer than
+    /// their time. Those that come meanwhile aren't served.
     fn end(&mut self)
         ensures ends { ends self.old self.new }
         ensures faults { client_faults self.new ≡ client_faults self.old };

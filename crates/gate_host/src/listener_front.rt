@@ -56,28 +56,29 @@ impl<L: ClientListener + Drop, C: Ticks + Drop> Clients for ListenerFront<L, C> 
     ghost use Rattle.std.specs.Prelude.{◌≡◌, true, IsNone, MatchResult};
     ghost use Rattle.client_front.specs.Accepting.{HandsOnFirst, HandsOnNobody, state, world};
     ghost use Rattle.client_front.specs.Finishing.{ClosesServed, Ends, Finishes};
-    ghost use Rattle.client_front.specs.Handing.{BothSo, IfServed, NoneOrBothSo, ReceivesInTime, ReceivesNothing, SendsInTime, SendsNothing};
+    ghost use Rattle.client_front.specs.Handing.{BothSo, IfServed, NoneOrBothSo, ReceivesInTime, ReceivesNothing};
+    ghost use Rattle.client_front.specs.Served.{AcceptsAt, AcceptsNothingAt, with_kept};
 
-    // The client is the first whose head was whole; where none is given there is no listener, or it or the clock failed.
+    // The client is the first that was seen to have a whole head; where none is given there is no listener, or it or the clock failed.
     ghost accepts = { λ old result new. MatchResult result
-        (λ came. (came ≡ true) × BothSo (λ before after. IfServed (HandsOnFirst (world L.Stream.shows L.Stream.closes L.Stream.gives C.reads L.waits L.comes) (state before.acceptor) (state after.acceptor)) after.current × ClosesServed L.Stream.closes before.current) old.clients new.clients)
-        (λ _. NoneOrBothSo (λ before after. HandsOnNobody (world L.Stream.shows L.Stream.closes L.Stream.gives C.reads L.waits L.comes) (state before.acceptor) (state after.acceptor) × IsNone after.current × ClosesServed L.Stream.closes before.current) old.clients new.clients) };
+        (λ came. (came ≡ true) × BothSo (λ before after. IfServed (HandsOnFirst (world L.Stream.shows L.Stream.closes L.Stream.gives L.Stream.takes L.Stream.ends C.reads L.waits L.comes) (state before.acceptor) (state after.acceptor)) after.current × ClosesServed L.Stream.closes before.current) old.clients new.clients)
+        (λ _. NoneOrBothSo (λ before after. HandsOnNobody (world L.Stream.shows L.Stream.closes L.Stream.gives L.Stream.takes L.Stream.ends C.reads L.waits L.comes) (state before.acceptor) (state after.acceptor) × IsNone after.current × ClosesServed L.Stream.closes before.current) old.clients new.clients) };
 
-    // The octets are just those that came for the client that is served, or that it took, in time. The listener and those who wait stay as they
-    // are.
+    // The octets are just those that came for the client that is served in time, or that it took, or that are kept for it. The listener and
+    // those who wait stay as they are.
     ghost receives = { λ old room octets new. BothSo (λ before after. BothSo (ReceivesInTime L.Stream.receives C.reads room octets before.acceptor.clock after.acceptor.clock) before.current after.current × (after.acceptor ≡ record before.acceptor { clock = after.acceptor.clock })) old.clients new.clients };
 
-    ghost sends = { λ old from count new. BothSo (λ before after. BothSo (SendsInTime L.Stream.sends C.reads from count before.acceptor.clock after.acceptor.clock) before.current after.current × (after.acceptor ≡ record before.acceptor { clock = after.acceptor.clock })) old.clients new.clients };
+    ghost sends = { λ old from count new. BothSo (λ before after. BothSo (AcceptsAt L.Stream.takes L.Stream.sends C.reads from count (state before.acceptor) (state after.acceptor)) before.current after.current × (state after.acceptor ≡ with_kept (state after.acceptor).clock (state after.acceptor).leaving.kept (state before.acceptor))) old.clients new.clients };
 
     ghost receives_nothing = { λ old room new. NoneOrBothSo (λ before after. NoneOrBothSo (ReceivesNothing L.Stream.receives C.reads room before.acceptor.clock after.acceptor.clock) before.current after.current × (after.acceptor ≡ record before.acceptor { clock = after.acceptor.clock })) old.clients new.clients };
 
-    ghost sends_nothing = { λ old from new. NoneOrBothSo (λ before after. NoneOrBothSo (SendsNothing L.Stream.sends C.reads from before.acceptor.clock after.acceptor.clock) before.current after.current × (after.acceptor ≡ record before.acceptor { clock = after.acceptor.clock })) old.clients new.clients };
+    ghost sends_nothing = { λ old from new. NoneOrBothSo (λ before after. NoneOrBothSo (AcceptsNothingAt L.Stream.takes L.Stream.sends C.reads from (state before.acceptor) (state after.acceptor)) before.current after.current × (state after.acceptor ≡ with_kept (state after.acceptor).clock (state after.acceptor).leaving.kept (state before.acceptor))) old.clients new.clients };
 
     // Who waits, the listener and the next key stay as they are, and nobody is served.
     ghost finishes = { λ old new. NoneOrBothSo (λ before after. Finishes L.Stream.ends L.Stream.closes L.Stream.gives C.reads before.current (state before.acceptor) (state after.acceptor) × IsNone after.current) old.clients new.clients };
 
-    // Clients are looked at until none is open whose response is whole, or the listener or the clock failed.
-    ghost ends = { λ old new. NoneOrBothSo (λ before after. Ends (world L.Stream.shows L.Stream.closes L.Stream.gives C.reads L.waits L.comes) (state before.acceptor) (state after.acceptor) × IsNone after.current × ClosesServed L.Stream.closes before.current) old.clients new.clients };
+    // Clients are looked at until none is open whose response has ended, or the listener or the clock failed.
+    ghost ends = { λ old new. NoneOrBothSo (λ before after. Ends (world L.Stream.shows L.Stream.closes L.Stream.gives L.Stream.takes L.Stream.ends C.reads L.waits L.comes) (state before.acceptor) (state after.acceptor) × IsNone after.current × ClosesServed L.Stream.closes before.current) old.clients new.clients };
 
     fn accept(&mut self) -> Result<bool, Failed> {
         let accepted = match &mut self.clients {

@@ -17,7 +17,7 @@ use Rattle.gate_machine.specs.Fetching.{AsksStore, after_asking, AsksBody, IsKep
 use Rattle.gate_machine.specs.Machine.{MachineState}
 use Rattle.gate_machine.specs.Obeying.{IsFetchObeyed, IsAskObeyed, AreAsksObeyed, HasCome, AllCame}
 use Rattle.gate_machine.specs.Progress.{Progress, is_up, lost_by, blame_link, standing_by}
-use Rattle.gate_machine.specs.declared.standing.MailStatus.TheVariants.{Stands}
+use Rattle.gate_machine.specs.declared.mail_status.MailStatus.TheVariants.{Stands}
 use Rattle.gate_machine.proofs.Owed.{Law, settles_from}
 
 -- what is proved of rounds, and of fetches of bodies

@@ -222,7 +222,7 @@ goes_asked {before} {after} {events} asks =
     (goes_by asks.result before.machine (hearing before.machine asks.known asks.told) events
     (goes_hearing before.machine asks.known asks.told events asks.ready))
 
-goes_settled : {before after : Progress} {events : List Event} → Settles before events after → MachineGoesOn before.machine events after.machine
+pub goes_settled : {before after : Progress} {events : List Event} → Settles before events after → MachineGoesOn before.machine events after.machine
 goes_settled {before} {after} {events} (Same k stands known same none is) = goes_still before.machine after.machine events (ap (λ (p : Progress). p.machine) is)
 goes_settled {before} {after} {events} (Moves new next goes room none is) =
     record {
@@ -270,7 +270,7 @@ goes_on_way user password before events after p =
 -- ---- bodies
 
 -- where the history that is known stays
-goes_known : (m n : MachineState) (k l : KnownMail) (es : List Event) → m.known ≡ Some k → n.known ≡ Some l → l.history ≡ k.history → MachineGoesOn m es n
+pub goes_known : (m n : MachineState) (k l : KnownMail) (es : List Event) → m.known ≡ Some k → n.known ≡ Some l → l.history ≡ k.history → MachineGoesOn m es n
 goes_known m n k l es was now same =
     record {
       history = λ i j first last.

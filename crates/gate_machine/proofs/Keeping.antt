@@ -12,7 +12,7 @@ use Rattle.mail_state.specs.declared.error.StateError.TheVariants.{Spent}
 use Rattle.mail_state.specs.declared.touches.Advance.{Advance}
 use Rattle.gate_machine.specs.History.{KnownMail, known_mail, Advanced, Commits, IsNewMail, IsSpent, served_anew}
 use Rattle.gate_machine.specs.Kept.{KeptMail, IsKeptOf}
-use Rattle.gate_machine.specs.declared.standing.CommitEnd.{CommitEnd}
+use Rattle.gate_machine.specs.declared.mail_status.CommitEnd.{CommitEnd}
 
 not_there : (f : Folder) → Some f ≡ None → ⊥
 not_there f is = cc

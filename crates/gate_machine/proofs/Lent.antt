@@ -8,7 +8,7 @@ use Rattle.gate_machine.specs.Kept.{KeptMail, ServedMail}
 use Rattle.gate_machine.specs.Lending.{HoldsSource, IsLentOf, SourceState}
 use Rattle.gate_machine.specs.Progress.{CameTo, Progress}
 use Rattle.gate_machine.specs.declared.machine.Machine.{Machine}
-use Rattle.gate_machine.specs.declared.standing.MailStatus.TheVariants as standing
+use Rattle.gate_machine.specs.declared.mail_status.MailStatus.TheVariants as standing
 use Rattle.gate_machine.proofs.Stages.{held_ready}
 
 pub lent : (machine : Machine) (a : KeptMail) (client : ClientState) (served : ServedMail) (source : SourceState) → machine.known ≡ Some a → served.state ≡ a.state

@@ -4,8 +4,9 @@ mod Coming
 mod Unequal
 mod Keeping
 pub mod Going
+pub mod Reading
 pub mod Sources
-mod ServedFolders
+pub mod ServedFolders
 pub mod Asking
 mod KeptBodies
 mod Fetched

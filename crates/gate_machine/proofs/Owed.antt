@@ -25,8 +25,8 @@ use Rattle.gate_machine.specs.History.{KnownMail, IsSpent, served_anew}
 use Rattle.gate_machine.specs.Machine.{MachineState}
 use Rattle.gate_machine.specs.Obeying.{given_by, ObeysIn, Welcomes, IsRoundObeyed, IsObeyedBeginning, IsServed}
 use Rattle.gate_machine.specs.Progress.{Progress, standing_by, lost_by, blame_link}
-use Rattle.gate_machine.specs.declared.standing.MailFailure.TheVariants.{Linked}
-use Rattle.gate_machine.specs.declared.standing.MailStatus.TheVariants.{Stands, Unserved, OutOfMemory}
+use Rattle.gate_machine.specs.declared.mail_status.MailFailure.TheVariants.{Linked}
+use Rattle.gate_machine.specs.declared.mail_status.MailStatus.TheVariants.{Stands, Unserved, OutOfMemory}
 
 -- how a plan that is obeyed ends
 abbrev pub EndsWell : Result (Unit {0}) LinkEnd → Type 0

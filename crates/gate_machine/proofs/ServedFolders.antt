@@ -5,7 +5,7 @@ use Rattle.std.proofs.lemmas.List.Elements.{All-contains, All-weaker}
 use Rattle.gate_world.specs.declared.event.Event.{Event}
 use Rattle.told_folder.specs.Folders.{messages_of, uid_of}
 use Rattle.told_folder.specs.Keyed.{with_key}
-use Rattle.told_folder.specs.declared.message.Held.{Held}
+use Rattle.told_folder.specs.declared.message.NumberedFolder.{NumberedFolder}
 use Rattle.told_folder.specs.declared.message.Message.{Message}
 use Rattle.told_mail.specs.Mail.{Mail, SameMail, folder_in, held_in}
 use Rattle.mail_maps.specs.declared.row.EmailRow.{EmailRow}
@@ -27,8 +27,9 @@ use Rattle.gate_machine.specs.Machine.{MachineState}
 use Rattle.gate_machine.specs.Progress.{Progress}
 use Rattle.gate_machine.specs.ServedFolders.{Serves, HasFoldersTold, TellsServedFolders}
 use Rattle.gate_machine.specs.Sources.{KnowsExchanges}
-use Rattle.gate_machine.specs.declared.standing.MailStatus.TheVariants.{OutOfMemory, Stands}
-use Rattle.gate_machine.proofs.Sources.{knows_on_way}
+use Rattle.gate_machine.specs.declared.mail_status.MailStatus.TheVariants.{OutOfMemory, Stands}
+use Rattle.gate_machine.proofs.Reading.{ReadingTells}
+use Rattle.gate_machine.proofs.Sources.{knows_on_way, knows_settled}
 
 one_known : (j k : KnownMail) → Some j ≡ Some k → j ≡ k
 one_known j k is = cc
@@ -94,13 +95,13 @@ tells_nothing : (m : MachineState) → m.known ≡ None → TellsServedFolders m
 tells_nothing m none = λ k there. absurd (none_known k (sym there ∙ none))
 
 -- what is told of an Email's message has its folder
-message_has_folder : (found : Option Held) (u : ℕ) (x : Message) → with_key uid_of u (messages_of found) ≡ Some x → IsSome (option_map (λ h. h.folder) found)
+message_has_folder : (found : Option NumberedFolder) (u : ℕ) (x : Message) → with_key uid_of u (messages_of found) ≡ Some x → IsSome (option_map (λ h. h.folder) found)
 message_has_folder None u x is = absurd (cc is)
 message_has_folder (Some h) u x is = refl
 
-row_told : (hs gs : List Held) → hs ≡ gs → (e : ℕ × EmailRow) → HasItsMessage hs e → IsSome (folder_in gs e.1.folder)
+row_told : (hs gs : List NumberedFolder) → hs ≡ gs → (e : ℕ × EmailRow) → HasItsMessage hs e → IsSome (folder_in gs e.1.folder)
 row_told hs gs same e has =
-    subst (λ (l : List Held). IsSome (folder_in l e.1.folder)) same (message_has_folder (held_in hs e.1.folder) e.1.uid has.message has.there)
+    subst (λ (l : List NumberedFolder). IsSome (folder_in l e.1.folder)) same (message_has_folder (held_in hs e.1.folder) e.1.uid has.message has.there)
 
 -- the mail that is served is the one that was told
 settled_same : {before after : Progress} {events : List Event} → Settles before events after → after.standing ≡ Stands → (k : KnownMail) → after.machine.known ≡ Some k
@@ -121,14 +122,23 @@ asked_same {before} {after} a standing k there = elim a.settles [
   | inr settles ↦ settled_same settles standing k there
 ]
 
--- once a round stands
-pub prepared_tells : HaveMessages → (user password : List ℕ) (before : MachineState) (events : List Event) (after : Progress)
-    → PreparesMail user password before events after → KnowsExchanges before → after.standing ≡ Stands → TellsServedFolders after.machine
-prepared_tells law user password before events after p knows standing k there =
-    let of = knows_on_way user password before events after p knows k there in
-    let same = asked_same p.asks standing k there in
+-- what is served is what was told
+same_tells : HaveMessages → (m : MachineState) → KnowsExchanges m → ((k : KnownMail) → m.known ≡ Some k → SameMail k.history.mail k.told.mail) → TellsServedFolders m
+same_tells law m knows same k there =
+    let of = knows k there in
     All-weaker (HasItsMessage k.history.mail.folders) (λ (e : ℕ × EmailRow). IsSome (folder_in k.told.mail.folders e.1.folder))
-    (row_told k.history.mail.folders k.told.mail.folders same) k.history.numbered.rows (law k.history of.history)
+    (row_told k.history.mail.folders k.told.mail.folders (same k there)) k.history.numbered.rows (law k.history of.history)
+
+-- once a round stands
+pub prepared_tells : HaveMessages → ReadingTells → (user password : List ℕ) (before : MachineState) (events : List Event) (after : Progress)
+    → PreparesMail user password before events after → KnowsExchanges before → after.standing ≡ Stands → TellsServedFolders after.machine
+prepared_tells law reading user password before events after p knows standing =
+    same_tells law after.machine (knows_on_way reading user password before events after p knows) (asked_same p.asks standing)
+
+-- once what was told is served
+pub settled_tells : HaveMessages → {before after : Progress} {events : List Event} → Settles before events after → KnowsExchanges before.machine → after.standing ≡ Stands
+    → TellsServedFolders after.machine
+settled_tells law {before} {after} settles knows standing = same_tells law after.machine (knows_settled settles knows) (settled_same settles standing)
 
 -- after the fetch of a body
 fetched_tells : FoldersStay → {message : MessagePlace} {before : Progress} {result : Result (List ℕ) LinkEnd} {events : List Event}

@@ -4,9 +4,9 @@ use Rattle.std.proofs.lemmas.List.Sums.{fold-append}
 use Rattle.gate_world.specs.declared.event.Event.{Event}
 use Rattle.change_list.specs.declared.list.TheConstants.{MAX_PLACE}
 use Rattle.told_folder.specs.declared.exchange.Exchange.{Exchange}
-use Rattle.told_mail.specs.Exchanges.{tell}
 use Rattle.told_mail.specs.Mail.{Mail}
 use Rattle.told_mail.specs.Told.{Told}
+use Rattle.told_changes.specs.Told as changes
 use Rattle.mail_state.specs.History.{MailHistory, Advances, HasRoom, first_history}
 use Rattle.mail_state.specs.Telling.{Begins, Goes}
 use Rattle.imap_exchange.specs.declared.link_end.LinkEnd.{LinkEnd}
@@ -21,6 +21,7 @@ use Rattle.gate_machine.specs.Machine.{MachineState, hearing, opened}
 use Rattle.gate_machine.specs.Progress.{Progress, machine_by}
 use Rattle.gate_machine.specs.Beginning.{Readies, Ready, Restart, LacksRoom, RunsRound, Settles, Same, Moves, Spends, Lacks, AsksThen, Dials, PreparesMail}
 use Rattle.gate_machine.specs.Sources.{IsOfExchanges, KnowsExchanges}
+use Rattle.gate_machine.proofs.Reading.{ReadingTells, round_told, fetch_told}
 
 one_known : (j k : KnownMail) → Some j ≡ Some k → j ≡ k
 one_known j k is = cc
@@ -31,7 +32,7 @@ none_known k is = cc
 -- ---- machines
 
 -- this is known
-knows_this : (m : MachineState) (j : KnownMail) → m.known ≡ Some j → IsOfExchanges j → KnowsExchanges m
+pub knows_this : (m : MachineState) (j : KnownMail) → m.known ≡ Some j → IsOfExchanges j → KnowsExchanges m
 knows_this m j is of = λ k there. subst (λ (l : KnownMail). IsOfExchanges l) (one_known j k (sym is ∙ there)) of
 
 -- nothing is
@@ -58,13 +59,13 @@ knows_first epoch =
 -- ---- what is told
 
 -- further exchanges tell it
-heard : (k : KnownMail) (told : Told) (xs : List Exchange) → IsOfExchanges k → told.mail ≡ fold tell k.told.mail xs → IsOfExchanges (record k { told = told })
+pub heard : (k : KnownMail) (told : Told) (xs : List Exchange) → IsOfExchanges k → told.mail ≡ fold changes.told k.told.mail xs → IsOfExchanges (record k { told = told })
 heard k told xs of is =
     record {
       history = of.history;
       room = of.room;
       exchanges = of.exchanges ++ xs;
-      since = is ∙ ap (λ (m : Mail). fold tell m xs) of.since ∙ sym (fold-append tell k.history.mail of.exchanges xs);
+      since = is ∙ ap (λ (m : Mail). fold changes.told m xs) of.since ∙ sym (fold-append changes.told k.history.mail of.exchanges xs);
     }
 
 knows_by : (result : Result (Unit {0}) LinkEnd) (m : MachineState) → (result ≢ Err end.Memory → KnowsExchanges m) → KnowsExchanges (machine_by result m)
@@ -82,7 +83,7 @@ knows_by (Err end.Memory) m knows = knows_nothing (machine_by (Err end.Memory) m
 -- the history goes on to it
 went_on : (k : KnownMail) (next : MailHistory) → IsOfExchanges k → Advances k.history k.told.mail next → HasRoom next → IsOfExchanges (served_anew k next)
 went_on k next of advances room =
-    let to : Advances k.history (fold tell k.history.mail of.exchanges) next = subst (λ (m : Mail). Advances k.history m next) of.since advances in
+    let to : Advances k.history (fold changes.told k.history.mail of.exchanges) next = subst (λ (m : Mail). Advances k.history m next) of.since advances in
     record {
       history = Goes k.history next of.exchanges of.history to;
       room = room;
@@ -104,14 +105,14 @@ knows_dialed {before = before} {after = after} dials knows =
     knows_same (machine_by dials.result before.machine) after.machine (ap (λ (p : Progress). p.machine) dials.after_is)
     (knows_by dials.result before.machine (λ well. knows))
 
-knows_asked : {before after : Progress} {events : List Event} → RunsRound before events after → KnowsExchanges before.machine → KnowsExchanges after.machine
-knows_asked {before} {after} asks knows =
+knows_asked : ReadingTells → {before after : Progress} {events : List Event} → RunsRound before events after → KnowsExchanges before.machine → KnowsExchanges after.machine
+knows_asked law {before} {after} asks knows =
     knows_same (machine_by asks.result (hearing before.machine asks.known asks.told)) after.machine (ap (λ (p : Progress). p.machine) asks.after_is)
     (knows_by asks.result (hearing before.machine asks.known asks.told) (λ well.
     knows_this (hearing before.machine asks.known asks.told) (record asks.known { told = asks.told }) refl
-    (heard asks.known asks.told asks.rounds.exchanges (knows asks.known asks.ready) (asks.rounds.told well))))
+    (heard asks.known asks.told asks.rounds.exchanges (knows asks.known asks.ready) (round_told law asks.rounds well))))
 
-knows_settled : {before after : Progress} {events : List Event} → Settles before events after → KnowsExchanges before.machine → KnowsExchanges after.machine
+pub knows_settled : {before after : Progress} {events : List Event} → Settles before events after → KnowsExchanges before.machine → KnowsExchanges after.machine
 knows_settled {before} {after} (Same k stands known same none is) knows = knows_same before.machine after.machine (ap (λ (p : Progress). p.machine) is) knows
 knows_settled {before} {after} (Moves new next goes room none is) knows =
     knows_this after.machine (served_anew new.known next) (ap (λ (p : Progress). p.machine.known) is)
@@ -119,11 +120,11 @@ knows_settled {before} {after} (Moves new next goes room none is) knows =
 knows_settled {before} {after} (Spends new spent none is) knows = knows_nothing after.machine (ap (λ (p : Progress). p.machine.known) is)
 knows_settled {before} {after} (Lacks stands none is) knows = knows_nothing after.machine (ap (λ (p : Progress). p.machine.known) is)
 
-knows_asking : {before after : Progress} {events : List Event} → AsksThen before events after → KnowsExchanges before.machine → KnowsExchanges after.machine
-knows_asking {before} {after} a knows =
+knows_asking : ReadingTells → {before after : Progress} {events : List Event} → AsksThen before events after → KnowsExchanges before.machine → KnowsExchanges after.machine
+knows_asking law {before} {after} a knows =
     let told : KnowsExchanges a.told.machine = elim a.asks [
       | inl skips ↦ knows_same before.machine a.told.machine (ap (λ (p : Progress). p.machine) skips.2) knows
-      | inr asks ↦ knows_asked asks knows
+      | inr asks ↦ knows_asked law asks knows
     ] in
     elim a.settles [
       | inl skips ↦ knows_same a.told.machine after.machine (ap (λ (p : Progress). p.machine) skips.2) told
@@ -131,16 +132,16 @@ knows_asking {before} {after} a knows =
     ]
 
 -- the whole way to the mail
-pub knows_on_way : (user password : List ℕ) (before : MachineState) (events : List Event) (after : Progress) → PreparesMail user password before events after
+pub knows_on_way : ReadingTells → (user password : List ℕ) (before : MachineState) (events : List Event) (after : Progress) → PreparesMail user password before events after
     → KnowsExchanges before
     → KnowsExchanges after.machine
-knows_on_way user password before events after p knows =
+knows_on_way law user password before events after p knows =
     let ready : KnowsExchanges p.ready.machine = knows_readied p.readies knows in
     let connected : KnowsExchanges p.connected.machine = elim p.dials [
       | inl skips ↦ knows_same p.ready.machine p.connected.machine (ap (λ (q : Progress). q.machine) skips.2) ready
       | inr dials ↦ knows_dialed dials ready
     ] in
-    knows_asking p.asks connected
+    knows_asking law p.asks connected
 
 -- ---- bodies
 
@@ -149,27 +150,27 @@ kept_other : (k : KnownMail) (bodies : Bodies) → IsOfExchanges k → IsOfExcha
 kept_other k bodies of = record { history = of.history; room = of.room; exchanges = of.exchanges; since = of.since }
 
 -- what a fetch told
-knows_fetched : {message : MessagePlace} {before : Progress} {result : Result (List ℕ) LinkEnd} {events : List Event} (asks : AsksStore message before result events)
+knows_fetched : ReadingTells → {message : MessagePlace} {before : Progress} {result : Result (List ℕ) LinkEnd} {events : List Event} (asks : AsksStore message before result events)
     → result ≢ Err end.Memory → KnowsExchanges before.machine → IsOfExchanges (record asks.kept.known { told = asks.told })
-knows_fetched asks well knows =
-    heard asks.kept.known asks.told asks.fetches.exchanges (knows asks.kept.known asks.kept.ready) (asks.fetches.told well)
+knows_fetched law asks well knows =
+    heard asks.kept.known asks.told asks.fetches.exchanges (knows asks.kept.known asks.kept.ready) (fetch_told law asks.fetches well)
 
-knows_body : {message : MessagePlace} {before after : Progress} {body : Option (List ℕ)} {events : List Event} → AsksBody message before body events after
+knows_body : ReadingTells → {message : MessagePlace} {before after : Progress} {body : Option (List ℕ)} {events : List Event} → AsksBody message before body events after
     → KnowsExchanges before.machine → KnowsExchanges after.machine
-knows_body {after = after} (IsKept octets kept body_is none is) knows =
+knows_body law {after = after} (IsKept octets kept body_is none is) knows =
     knows_this after.machine _ (ap (λ (p : Progress). p.machine.known) is) (kept_other kept.known _ (knows kept.known kept.ready))
-knows_body {after = after} (IsTold octets asks body_is is) knows =
-    knows_this after.machine _ (ap (λ (p : Progress). p.machine.known) is) (kept_other _ _ (knows_fetched asks (λ no. cc) knows))
-knows_body {after = after} (Ends e asks other body_is is) knows =
+knows_body law {after = after} (IsTold octets asks body_is is) knows =
+    knows_this after.machine _ (ap (λ (p : Progress). p.machine.known) is) (kept_other _ _ (knows_fetched law asks (λ no. cc) knows))
+knows_body law {after = after} (Ends e asks other body_is is) knows =
     knows_this after.machine _ (ap (λ (p : Progress). p.machine.known) is)
-    (knows_fetched asks (λ same. other (let e_is : e ≡ end.Memory = cc in e_is)) knows)
-knows_body {before = before} {after = after} (HasEnded kept ended body_is none is) knows =
+    (knows_fetched law asks (λ same. other (let e_is : e ≡ end.Memory = cc in e_is)) knows)
+knows_body law {before = before} {after = after} (HasEnded kept ended body_is none is) knows =
     knows_same before.machine after.machine (ap (λ (p : Progress). p.machine) is) knows
 
-pub knows_bodies : {before after : Progress} {asks : List BodyAsk} {events : List Event} → AsksBodies before asks events after → KnowsExchanges before.machine
+pub knows_bodies : ReadingTells → {before after : Progress} {asks : List BodyAsk} {events : List Event} → AsksBodies before asks events after → KnowsExchanges before.machine
     → KnowsExchanges after.machine
-knows_bodies NoBodies knows = knows
-knows_bodies (MoreBodies next bodies) knows = knows_body next.asks (knows_bodies bodies knows)
+knows_bodies law NoBodies knows = knows
+knows_bodies law (MoreBodies next bodies) knows = knows_body law next.asks (knows_bodies law bodies knows)
 
 knows_lacking : {message : MessagePlace} {before after : Progress} {events : List Event} → LacksBody message before events after → KnowsExchanges after.machine
 knows_lacking {after = after} (fetching.Unasked none is) = knows_nothing after.machine (ap (λ (p : Progress). p.machine.known) is)
@@ -177,7 +178,7 @@ knows_lacking {after = after} (fetching.Asked asks is) = knows_nothing after.mac
 knows_lacking {after = after} (fetching.NotKept octets asks is) = knows_nothing after.machine (ap (λ (p : Progress). p.machine.known) is)
 
 -- what the calls of a request ask
-pub knows_calls : (before : Progress) (asks : List BodyAsk) (events : List Event) (after : Progress) → CallsAsk before asks events after
+pub knows_calls : ReadingTells → (before : Progress) (asks : List BodyAsk) (events : List Event) (after : Progress) → CallsAsk before asks events after
     → KnowsExchanges before.machine → KnowsExchanges after.machine
-knows_calls before asks events after (AllAsked bodies) knows = knows_bodies bodies knows
-knows_calls before asks events after (RunsShort short) knows = knows_lacking short.lacks
+knows_calls law before asks events after (AllAsked bodies) knows = knows_bodies law bodies knows
+knows_calls law before asks events after (RunsShort short) knows = knows_lacking short.lacks

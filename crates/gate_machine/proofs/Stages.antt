@@ -23,9 +23,9 @@ use Rattle.gate_machine.specs.Machine.{MachineState, opened, hearing, committed,
 use Rattle.gate_machine.specs.Progress.{Progress, CameTo, Bears, StandsInLife, idle, ended_after, out_of_memory, is_up, standing_by, machine_by, kept_by, lost_by, blame_link}
 use Rattle.gate_machine.specs.Beginning.{Readies, Ready, Restart, LacksRoom, ReadiesTo, Dials, RunsRound, Settles, Same, Moves, Spends, Lacks, AsksThen, DialsTo, BeginsTo}
 use Rattle.gate_machine.specs.declared.machine.Machine.{Machine}
-use Rattle.gate_machine.specs.declared.standing.MailFailure.TheVariants.{Spent}
-use Rattle.gate_machine.specs.declared.standing.MailStatus.{MailStatus}
-use Rattle.gate_machine.specs.declared.standing.MailStatus.TheVariants as standing
+use Rattle.gate_machine.specs.declared.mail_status.MailFailure.TheVariants.{Spent}
+use Rattle.gate_machine.specs.declared.mail_status.MailStatus.{MailStatus}
+use Rattle.gate_machine.specs.declared.mail_status.MailStatus.TheVariants as standing
 
 -- ---- counts
 

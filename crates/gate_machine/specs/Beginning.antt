@@ -17,9 +17,9 @@ use Rattle.gate_machine.specs.Holding.{HoldsMachine}
 use Rattle.gate_machine.specs.Machine.{MachineState, opened, hearing, committed, forgotten}
 use Rattle.gate_machine.specs.Progress.{Progress, CameTo, idle, ended_after, out_of_memory}
 use Rattle.gate_machine.specs.declared.machine.Machine.{Machine}
-use Rattle.gate_machine.specs.declared.standing.MailFailure.TheVariants.{Spent}
-use Rattle.gate_machine.specs.declared.standing.MailStatus.{MailStatus}
-use Rattle.gate_machine.specs.declared.standing.MailStatus.TheVariants.{Stands, Unserved}
+use Rattle.gate_machine.specs.declared.mail_status.MailFailure.TheVariants.{Spent}
+use Rattle.gate_machine.specs.declared.mail_status.MailStatus.{MailStatus}
+use Rattle.gate_machine.specs.declared.mail_status.MailStatus.TheVariants.{Stands, Unserved}
 
 -- A machine that isn't ready draws an epoch, and begins with no mail; or there is no memory for that.
 pub data Readies (before : MachineState) (events : List Event) (after : Progress) : Type 0 where

@@ -19,7 +19,7 @@ use Rattle.gate_machine.specs.Fetching.{AsksStore, AsksBody, IsKept, IsTold, End
 use Rattle.gate_machine.specs.History.{KnownMail, IsSpent}
 use Rattle.gate_machine.specs.Progress.{Progress}
 use Rattle.gate_machine.specs.Machine.{MachineState}
-use Rattle.gate_machine.specs.declared.standing.MailStatus.TheVariants.{Stands}
+use Rattle.gate_machine.specs.declared.mail_status.MailStatus.TheVariants.{Stands}
 
 -- what these events give of the store's octets
 abbrev pub given_by : List Event → List ℕ

@@ -7,9 +7,9 @@ use Rattle.imap_client.specs.LinkLife.{LinkLife, ClientState, Stands}
 use Rattle.gate_machine.specs.Holding.{HoldsMachine, unready}
 use Rattle.gate_machine.specs.Machine.{MachineState, forgotten}
 use Rattle.gate_machine.specs.declared.machine.Machine.{Machine}
-use Rattle.gate_machine.specs.declared.standing.MailFailure.TheVariants as failure
-use Rattle.gate_machine.specs.declared.standing.MailStatus.{MailStatus}
-use Rattle.gate_machine.specs.declared.standing.MailStatus.TheVariants as standing
+use Rattle.gate_machine.specs.declared.mail_status.MailFailure.TheVariants as failure
+use Rattle.gate_machine.specs.declared.mail_status.MailStatus.{MailStatus}
+use Rattle.gate_machine.specs.declared.mail_status.MailStatus.TheVariants as standing
 
 -- The machine; whether all that was begun stands; the link life as it was left, where there was one; and the faults that are
 -- blamed.

@@ -1,7 +1,7 @@
 -- What is known comes of what exchanges told in its epoch.
 use Rattle.std.specs.Prelude.{◌≡◌, List, fold, Some}
 use Rattle.told_folder.specs.declared.exchange.Exchange.{Exchange}
-use Rattle.told_mail.specs.Exchanges.{tell}
+use Rattle.told_changes.specs.Told.{told}
 use Rattle.mail_state.specs.History.{HasRoom}
 use Rattle.mail_state.specs.Telling.{IsTold}
 use Rattle.gate_machine.specs.History.{KnownMail}
@@ -12,7 +12,7 @@ pub record IsOfExchanges (k : KnownMail) : Type 0 where
   pub history : IsTold k.history
   pub room : HasRoom k.history
   pub exchanges : List Exchange
-  pub since : k.told.mail ≡ fold tell k.history.mail exchanges
+  pub since : k.told.mail ≡ fold told k.history.mail exchanges
 
 -- what the machine knows, where it is ready
 abbrev pub KnowsExchanges : MachineState → Type 0

@@ -1,16 +1,15 @@
 // A request's way to the mail: the machine is ready, the link life begins, the round asks for all mail, and what it told is
 // served.
-ghost use Rattle.std.specs.Prelude.{◌≡◌, [], true, false, IsSome};
+ghost use Rattle.std.specs.Prelude.{◌≡◌, true, false, IsSome};
 ghost use Rattle.gate_world.specs.Causes.{Faults, LinkAlone};
 ghost use Rattle.gate_world.specs.Tape.{Adds};
-ghost use Rattle.imap_client.specs.LinkLife.{ClientState};
 ghost use Rattle.gate_machine.specs.Holding.{HoldsMachine};
 ghost use Rattle.gate_machine.specs.Machine.{MachineState};
 ghost use Rattle.gate_machine.specs.Progress.{Progress, CameTo, idle};
-ghost use Rattle.gate_machine.specs.Beginning.{Dials, RunsRound, Settles, AsksThen, DialsTo, BeginsTo};
+ghost use Rattle.gate_machine.specs.Beginning.{Dials, RunsRound, AsksThen, DialsTo, BeginsTo};
 
 use crate::machine::Machine;
-use crate::standing::{CommitEnd, MailFailure, MailStatus};
+use crate::mail_status::MailStatus;
 use gate_world::{Chance, Link, Secrets};
 use imap_client::Client;
 use std::alloc::Global;
@@ -56,26 +55,6 @@ fn ask<L: Link>(machine: &mut Machine, client: &mut Client, link: &mut L) -> Mai
     machine.end(asked)
 }
 
-// What the round told is served.
-fn settle(machine: &mut Machine) -> MailStatus
-    requires { IsSome machine.old.known }
-    ensures run { (before : Progress) (client : ClientState) (was now : Faults) → CameTo machine.old client MailStatus.Stands was now before
-        → (after : Progress) × Settles before [] after × CameTo machine.new client result was now after }
-    ensures ready { result ≡ MailStatus.Stands → IsSome machine.new.known }
-{
-    let Some(known) = machine.known.take() else {
-        unreachable!()
-    };
-    match known.commit() {
-        Ok(known) => {
-            machine.known = Some(known);
-            MailStatus::Stands
-        }
-        Err(CommitEnd::Spent) => MailStatus::Unserved(MailFailure::Spent),
-        Err(CommitEnd::Memory) => MailStatus::OutOfMemory,
-    }
-}
-
 // The round, and what it told is served.
 fn ask_and_settle<L: Link>(machine: &mut Machine, client: &mut Client, link: &mut L) -> MailStatus
     requires alive { client.old.alive ≡ true }
@@ -88,7 +67,7 @@ fn ask_and_settle<L: Link>(machine: &mut Machine, client: &mut Client, link: &mu
     ensures hidden { L.hidden link.new ≡ L.hidden link.old }
 {
     match ask(machine, client, link) {
-        MailStatus::Stands => settle(machine),
+        MailStatus::Stands => machine.settle(),
         MailStatus::Unserved(why) => MailStatus::Unserved(why),
         MailStatus::OutOfMemory => MailStatus::OutOfMemory,
     }

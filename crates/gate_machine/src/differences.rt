@@ -1,7 +1,7 @@
 // Mail that differs in more than headers, told without reading one.
 ghost use Rattle.std.specs.Prelude.{◌≡◌, ◌≢◌, true};
 
-use told_mail::{Held, Message};
+use told_mail::{Message, NumberedFolder};
 
 // Whether the messages differ in anything but their headers.
 fn message_differs(a: &Message, b: &Message) -> bool
@@ -36,7 +36,7 @@ fn messages_differ(a: &[Message], b: &[Message]) -> bool
     false
 }
 
-fn held_differs(a: &Held, b: &Held) -> bool
+fn held_differs(a: &NumberedFolder, b: &NumberedFolder) -> bool
     ensures { result ≡ true → a.now ≢ b.now }
 {
     if a.folder != b.folder {
@@ -46,7 +46,7 @@ fn held_differs(a: &Held, b: &Held) -> bool
 }
 
 /// Whether the folders differ, or their messages in anything but headers: true only where they do.
-pub fn folders_differ(a: &[Held], b: &[Held]) -> bool
+pub fn folders_differ(a: &[NumberedFolder], b: &[NumberedFolder]) -> bool
     ensures { result ≡ true → a.now ≢ b.now }
 {
     if a.len() != b.len() {

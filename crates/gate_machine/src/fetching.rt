@@ -13,7 +13,8 @@ use std::marker::Model;
 use told_mail::Mirror;
 use told_mail::laws::next_mail_joins;
 
-/// The bodies that are kept, and the store, while the client's link life goes on.
+/// The bodies that are kept, and the store, while the client's link life goes on. A call that changes mail takes it apart: it tells the
+/// mirror what it exchanges, and puts together what is left.
 #[derive(Drop)]
 pub struct Fetching {
     told: Mirror,
@@ -42,7 +43,7 @@ fn error_of(end: LinkEnd) -> BodyError
 
 impl Fetching {
     /// What is told, the bodies that are kept, and the client.
-    pub(crate) fn new(told: Mirror, bodies: BodyCache, client: Client) -> Fetching
+    pub fn new(told: Mirror, bodies: BodyCache, client: Client) -> Fetching
         ensures { result ≡ record { told = told; bodies = bodies; client = client } }
     {
         Fetching {
@@ -53,7 +54,7 @@ impl Fetching {
     }
 
     /// The same, in parts.
-    pub(crate) fn into_parts(self) -> (Mirror, BodyCache, Client)
+    pub fn into_parts(self) -> (Mirror, BodyCache, Client)
         ensures told { result.0 ≡ self.told }
         ensures bodies { result.1 ≡ self.bodies }
         ensures client { result.2 ≡ self.client }

@@ -11,7 +11,7 @@ ghost use Rattle.told_mail.specs.Mail.{SameMail};
 
 use crate::differences::folders_differ;
 use crate::fetching::Fetching;
-use crate::standing::CommitEnd;
+use crate::mail_status::CommitEnd;
 use email_bodies::BodyCache;
 use gate_world::Link;
 use imap_client::{Client, LinkEnd};
@@ -145,13 +145,13 @@ impl Known {
 
 /// The part of what is known that calls over the link leave as it is.
 #[derive(Drop)]
-pub struct Served {
+pub struct ServedPart {
     state: MailState,
     mail: Mirror,
     same_at: u64,
 }
 
-impl Model for Served {
+impl Model for ServedPart {
     ghost use Rattle.gate_machine.specs.Kept.{ServedMail};
 
     ghost Value = { ServedMail };
@@ -159,7 +159,7 @@ impl Model for Served {
     ghost view = { λ m. record { state = m.state; served = m.mail.mail; same_at = m.same_at } };
 }
 
-impl Served {
+impl ServedPart {
     /// What is served.
     pub fn state(&self) -> &MailState
         ensures { result.now ≡ self.now.state }
@@ -170,7 +170,7 @@ impl Served {
 
 impl Known {
     /// What calls may look at, and where they get bodies over this client's link life.
-    pub(crate) fn lend(self, client: Client) -> (Served, Fetching)
+    pub(crate) fn lend(self, client: Client) -> (ServedPart, Fetching)
         ensures state { result.0.state ≡ self.state }
         ensures served { result.0.served ≡ self.served }
         ensures fetching { result.1 ≡ record { told = self.told; bodies = self.bodies; client = client } }
@@ -184,7 +184,7 @@ impl Known {
             bodies,
         } = self;
         let fetching = Fetching::new(told, bodies, client);
-        let served = Served {
+        let served = ServedPart {
             state,
             mail: served,
             same_at,
@@ -193,12 +193,12 @@ impl Known {
     }
 
     /// What was lent is known again, and the client.
-    pub(crate) fn returned(served: Served, fetching: Fetching) -> (Known, Client)
+    pub(crate) fn returned(served: ServedPart, fetching: Fetching) -> (Known, Client)
         requires { IsSameSince served fetching.told }
         ensures known { result.0 ≡ record { state = served.state; served = served.served; told = fetching.told; bodies = fetching.bodies } }
         ensures client { result.1 ≡ fetching.client }
     {
-        let Served {
+        let ServedPart {
             state,
             mail,
             same_at,

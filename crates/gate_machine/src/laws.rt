@@ -19,10 +19,11 @@ ghost use Rattle.gate_machine.specs.Progress.{Progress, is_up};
 ghost use Rattle.gate_machine.specs.ServedFolders.{HasFoldersTold, Serves, TellsServedFolders};
 ghost use Rattle.gate_machine.specs.Sources.{KnowsExchanges};
 ghost use Rattle.gate_machine.specs.Staying.{KeepsMaps, KeepsTouches};
-ghost use Rattle.gate_machine.specs.declared.standing.MailStatus.TheVariants.{OutOfMemory, Stands};
+ghost use Rattle.gate_machine.specs.declared.mail_status.MailStatus.TheVariants.{OutOfMemory, Stands};
 
 use imap_client::{fetches_keep_folders, finished_lives_go_on, obeyed_plans_end_ok};
 use mail_state::laws::emails_have_their_messages;
+use told_changes::reading_tells_as_before;
 
 /// Where the store obeys, a place is left and no fault is blamed, the round stands and what it told is served; or memory
 /// ran out.
@@ -73,6 +74,7 @@ pub fn served_folders_are_told()
         → Contains k.history.numbered.rows e → body_from e.1.folder e.1.uid (body_start selected k.told.mail e.1.folder) [] ≢ due.Fails why }
 {
     emails_have_their_messages();
+    reading_tells_as_before();
     fetches_keep_folders();
 }
 
@@ -90,7 +92,9 @@ pub fn machines_know_what_was_told()
         → PreparesMail user password before events after → KnowsExchanges before → KnowsExchanges after.machine }
     ensures calls { (before : Progress) (asks : List BodyAsk) (events : List Event) (after : Progress)
         → CallsAsk before asks events after → KnowsExchanges before.machine → KnowsExchanges after.machine }
-{}
+{
+    reading_tells_as_before();
+}
 
 /// A body that is kept is what a fetch of that Email's message told: once the mail is prepared none is kept that wasn't before, and after
 /// the calls of a request only such that were, or that were told for them.

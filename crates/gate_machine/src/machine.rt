@@ -1,18 +1,19 @@
 // What the gateway holds between requests.
-ghost use Rattle.std.specs.Prelude.{◌≡◌, IfOk, IsSome, OnOk, OnErr, Err, Some};
+ghost use Rattle.std.specs.Prelude.{◌≡◌, [], IfOk, IsSome, OnOk, OnErr, Err, Some};
 ghost use Rattle.gate_world.specs.Causes.{Faults, NoFault};
 ghost use Rattle.gate_world.specs.Tape.{Adds};
+ghost use Rattle.imap_client.specs.LinkLife.{ClientState};
 ghost use Rattle.gate_machine.specs.Holding.{HoldsMachine, unready};
 ghost use Rattle.gate_machine.specs.History.{KnownMail};
 ghost use Rattle.gate_machine.specs.Kept.{IsSameSince};
 ghost use Rattle.gate_machine.specs.Lending.{HoldsSource, IsLentOf};
 ghost use Rattle.gate_machine.specs.Machine.{MachineState, opened};
 ghost use Rattle.gate_machine.specs.Progress.{CameTo, Progress, standing_by, kept_by};
-ghost use Rattle.gate_machine.specs.Beginning.{ReadiesTo};
+ghost use Rattle.gate_machine.specs.Beginning.{ReadiesTo, Settles};
 
 use crate::fetching::Fetching;
-use crate::known::{Known, Served};
-use crate::standing::{MailFailure, MailStatus};
+use crate::known::{Known, ServedPart};
+use crate::mail_status::{CommitEnd, MailFailure, MailStatus};
 use gate_world::Chance;
 use imap_client::{Client, LinkEnd};
 use std::alloc::{AllocError, Global};
@@ -64,8 +65,29 @@ impl Machine {
         }
     }
 
+    /// What was told is served from now on: where it is new, what has become of the mail goes on to it. Where a place would pass the
+    /// last one, or memory ran out, the machine isn't ready.
+    pub fn settle(&mut self) -> MailStatus
+        requires { IsSome self.old.known }
+        ensures run { (before : Progress) (client : ClientState) (was now : Faults) → CameTo self.old client MailStatus.Stands was now before
+            → (after : Progress) × Settles before [] after × CameTo self.new client result was now after }
+        ensures ready { result ≡ MailStatus.Stands → IsSome self.new.known }
+    {
+        let Some(known) = self.known.take() else {
+            unreachable!()
+        };
+        match known.commit() {
+            Ok(known) => {
+                self.known = Some(known);
+                MailStatus::Stands
+            }
+            Err(CommitEnd::Spent) => MailStatus::Unserved(MailFailure::Spent),
+            Err(CommitEnd::Memory) => MailStatus::OutOfMemory,
+        }
+    }
+
     /// What calls look at, and where they get bodies over this client's link life. The machine isn't ready until it is taken back.
-    pub fn lend(&mut self, client: Client) -> (Served, Fetching)
+    pub fn lend(&mut self, client: Client) -> (ServedPart, Fetching)
         requires { IsSome self.old.known }
         ensures lent { (p : Progress) (was now : Faults) → CameTo self.old client MailStatus.Stands was now p
             → (k : KnownMail) × (p.machine.known ≡ Some k) × IsLentOf k result.0 × HoldsSource p result.1 was now }
@@ -80,10 +102,11 @@ impl Machine {
     }
 
     /// What was lent is known again. It gives the client.
-    pub fn take_back(&mut self, served: Served, fetching: Fetching) -> Client
+    pub fn take_back(&mut self, served: ServedPart, fetching: Fetching) -> Client
         requires { IsSameSince served fetching.told }
         ensures held { (p : Progress) (k : KnownMail) (was now : Faults) → p.machine.known ≡ Some k → IsLentOf k served → HoldsSource p fetching was now
             → HoldsMachine p.machine self.new }
+        ensures ready { IsSome self.new.known }
         ensures client { result ≡ fetching.client }
     {
         let (known, client) = Known::returned(served, fetching);

@@ -11,35 +11,19 @@ use Rattle.gate_world.specs.declared.event.Event.TheVariants.{Accepted, NoMore, 
 use Rattle.gate_world.specs.declared.outside.Failed.{Failed}
 use Rattle.http_requests.specs.declared.asking.AskError.TheVariants as unread
 use Rattle.gate_world.specs.Tape.{Adds}
-use Rattle.gate_world.proofs.Joins.{join}
-use Rattle.email_bodies.specs.Asking.{BodyAsk, AreAsked, NoneAsked, OneMore, AreTried, AllAnswered, LastLacks, AreDue}
-use Rattle.email_bodies.proofs.Due.{none_due}
-use Rattle.email_bodies.specs.declared.source.MessagePlace.{MessagePlace}
 use Rattle.imap_exchange.specs.Answering.{HangsUp}
 use Rattle.imap_client.specs.LinkLife.{ClientState}
-use Rattle.imap_client.specs.Rounds.{CountsOn}
-use Rattle.mail_state.specs.History.{MailHistory}
-use Rattle.mail_state.specs.State.{IsStateOf}
 use Rattle.jmap_arguments.specs.declared.method_error.MethodError.{MethodError}
-use Rattle.jmap_arguments.specs.declared.method_error.MethodError.TheVariants.{ServerUnavailable}
 use Rattle.gate_machine.specs.Progress.{Progress, Bears, CameTo, idle, is_up}
 use Rattle.gate_machine.specs.Beginning.{BeginsTo, PreparesMail}
-use Rattle.gate_machine.specs.Fetching.{AllAsked, NoBodies}
-use Rattle.gate_machine.specs.History.{KnownMail}
-use Rattle.gate_machine.specs.Kept.{ServedMail}
-use Rattle.gate_machine.specs.Lending.{KeepsOutside, HoldsSource, IsLentOf, Moment}
 use Rattle.gate_machine.specs.Holding.{HoldsMachine, unready}
 use Rattle.gate_machine.specs.Machine.{MachineState, forgotten}
 use Rattle.gate_machine.specs.declared.machine.Machine.{Machine}
-use Rattle.gate_machine.specs.declared.standing.MailStatus.{MailStatus}
-use Rattle.gate_machine.specs.declared.standing.MailStatus.TheVariants.{Stands, Unserved, OutOfMemory}
-use Rattle.gate_machine.specs.declared.standing.MailFailure.{MailFailure}
-use Rattle.gate_machine.proofs.Asking.{AsksShort, AsksThese, Answers, Lacks, asked_in_vain, asked_these, bodies_stay}
+use Rattle.gate_machine.specs.declared.mail_status.MailStatus.{MailStatus}
+use Rattle.gate_machine.specs.declared.mail_status.MailStatus.TheVariants.{Unserved, OutOfMemory}
+use Rattle.gate_machine.specs.declared.mail_status.MailFailure.{MailFailure}
 use Rattle.gate_machine.proofs.Stages.{holds_none, stays_borne, up_is}
-use Rattle.gate_calls.specs.declared.mail.CallContext.{CallContext}
-use Rattle.gate_calls.specs.Asking.{AsksAndMakes}
-use Rattle.gate_calls.specs.Mailings.{Mailing, MailAndUploads, AreOf, error_of, mail_at, mailing_by}
-use Rattle.gate_calls.proofs.Calling.{none_asked}
+use Rattle.gate_calls.specs.Mailings.{Mailing, error_of, mail_at, mailing_by}
 use Rattle.gate_serving.specs.declared.door.Door.{Door}
 use Rattle.gate_serving.specs.declared.gate.Gate.{Gate}
 use Rattle.gate_serving.specs.declared.response.Response.{Response}
@@ -53,11 +37,10 @@ use Rattle.gate_serving.specs.Segment.{Replies, Answered, LacksReading, LacksAns
 use Rattle.gate_serving.specs.Segment.{blame_front}
 use Rattle.gate_serving.specs.Run.{AddsSegment}
 use Rattle.gate_serving.specs.RequestWork.{RequestWork, NoMail, WithMail}
-use Rattle.gate_serving.specs.reading.OneMail.{AsksFirst, IsAnswer, IsResponse}
 use Rattle.gate_serving.specs.reading.Replying.{Finishes, IsMade, AnswersTo, MakesAtOnce, machine_left, RepliesToAsking, IsUnread, RepliesBy, SendsReply, Serves}
 use Rattle.gate_serving.specs.Gates.{GateHolds, RestStays, account_by}
 use Rattle.gate_serving.specs.reading.Texts.{text_sent}
-use Rattle.gate_serving.proofs.Doing.{all_asked, does_over_mail, does_without, lacks_over_mail, lacks_without}
+use Rattle.gate_serving.proofs.Doing.{lacks_nothing}
 use Rattle.gate_serving.proofs.Gates.{same_account}
 
 -- ---- counts
@@ -162,22 +145,20 @@ made_over : {door : Door} {account : Account} {asking : Asking} {begun : Progres
     → PreparesMail account.user account.password before.machine xs begun → (finishes : Finishes door account gone asking begun kept was now result ys)
     → IsMade door account asking before after (xs ++ ys) (record finishes.answered { left = None }) result
 made_over {account = account} {asking = asking} {begun = begun} before after gone (Ok r) needs same stays prepares finishes =
-    let response = finishes.made.0 in
-    let is_answer : IsAnswer account (record { mail = mail_at begun; uploads = after.uploads }) asking finishes.asks response.answer =
-    subst (λ (u : List (List ℕ)). IsAnswer account (record { mail = mail_at begun; uploads = u }) asking finishes.asks response.answer) (same ∙ sym stays) response.is_answer in (
-      response.answer,
+    let made = finishes.made in (
+      made.0,
       worked finishes.ending after.uploads needs prepares
-          (does_over_mail account after.uploads asking response.answer needs is_answer (all_asked finishes.calls_ask finishes.made.1)) finishes.hangs_up finishes.whole,
-      response.text_is,
-      finishes.made.1,
+          (subst (λ (u : List (List ℕ)). Does account u asking begun finishes.doing finishes.answered (Some made.0)) (same ∙ sym stays) made.1)
+          finishes.hangs_up finishes.whole,
+      made.2,
+      made.3,
       subst (λ (u : List (List ℕ)). KeepsUpload asking before.uploads u) (sym stays) (keeps_for_mail asking before.uploads needs),
     )
-made_over {asking = asking} {begun = begun} before after gone (Err e) needs same stays prepares finishes =
-    let due : AreDue (AsksFirst (record { mail = mail_at begun; uploads = before.uploads }) asking) finishes.asks =
-    subst (λ (u : List (List ℕ)). AreDue (AsksFirst (record { mail = mail_at begun; uploads = u }) asking) finishes.asks) same finishes.made in (
-      takes_for_mail asking true needs refl,
-      worked finishes.ending before.uploads needs prepares (RunsOut (lacks_over_mail before.uploads asking needs due finishes.calls_ask)) finishes.hangs_up finishes.whole,
-    )
+made_over {account = account} {asking = asking} {begun = begun} before after gone (Err e) needs same stays prepares finishes = (
+  takes_for_mail asking true needs refl,
+  worked finishes.ending before.uploads needs prepares
+      (subst (λ (u : List (List ℕ)). Does account u asking begun finishes.doing finishes.answered None) same finishes.made) finishes.hangs_up finishes.whole,
+)
 
 -- the way to the mail, and then the answer over it
 pub answers_over : {machine : Machine} {client : ClientState} {how : MailStatus} {was then now : Faults} {xs ys : List Event} (gate before : Gate) (secrets : Hidden)
@@ -204,16 +185,14 @@ pub finishes_nothing : {door : Door} {account : Account} {uploads : List (List �
     → HangsUp client.alive ys → NoFault then now → Finishes door account uploads asking p kept was now (Err e) ys
 finishes_nothing {uploads = uploads} {asking = asking} {client = client} {p = p} {was = was} {then = then} {now = now} {ys = ys} kept e came none hangs same =
     record {
-      asks = [];
       answered = p;
-      fetching = [];
+      doing = [];
       ending = ys;
-      calls_ask = AllAsked NoBodies;
       hangs_up = subst (λ (b : Bool). HangsUp b ys) (up_is p.left client came.in_life) hangs;
       whole = refl;
       held = holds_none (forgotten p.machine) kept none;
       bears = stays_borne p.blamed was then now came.bears same;
-      made = none_due (AsksFirst (record { mail = mail_at p; uploads = uploads }) asking);
+      made = RunsOut (lacks_nothing uploads asking p);
     }
 
 -- the way to the mail, and then what finishes the answer, whoever's the user's text and the secrets were called
@@ -237,200 +216,47 @@ pub finishes_lacking : {door : Door} {account : Account} {uploads : List (List �
 finishes_lacking kept (Ok r) is came none hangs same = absurd (let never : Ok r ≡ Err _ = is in cc)
 finishes_lacking kept (Err f) is came none hangs same = finishes_nothing kept f came none hangs same
 
--- ---- over the mail that was told
-
-holds_stands : (p : Progress) (k : KnownMail) → p.standing ≡ Stands → p.machine.known ≡ Some k → mail_at p ≡ Ok k.history
-holds_stands p k stands ready = (λ i. mailing_by (stands i) (ready i))
-
-not_lacking : (p q : Progress) → q.standing ≡ p.standing → p.standing ≡ Stands → q.standing ≢ OutOfMemory
-not_lacking p q same stands out = let both : Stands ≡ OutOfMemory = sym (same ∙ stands) ∙ out in cc
-
--- what was lent, and what was asked of it
-module _ {door : Door} {account : Account} {uploads : List (List ℕ)} {asking : Asking} {machine kept : Machine} {client : ClientState} {served : ServedMail} {over : CallContext}
-    {m n : Moment} {tape : Option (List Event)} {now : Faults}
-    (lent : (p : Progress) (was then : Faults) → CameTo machine client Stands was then p
-    → (k : KnownMail) × (p.machine.known ≡ Some k) × IsLentOf k served × HoldsSource p m.source was then)
-    (is_over : (k : KnownMail) → IsStateOf k.history served.state → AreOf (record { mail = Ok k.history; uploads = uploads }) over)
-    (hang : Adds n.tape tape (HangsUp n.source.client.alive)) (same : NoFault n.faults now) where
-  pub finished_ok : {asks : List BodyAsk} (r : Response) → AsksThese asks m n
-      → ((o : MailAndUploads) → AreOf o over → IsResponse door account o asking asks (text_sent r))
-      → ((p : Progress) (k : KnownMail) (was then : Faults) → p.machine.known ≡ Some k → IsLentOf k served → HoldsSource p n.source was then → HoldsMachine p.machine kept)
-      → Adds m.tape tape (λ es. (p : Progress) (was : Faults) → CameTo machine client Stands was m.faults p
-      → Finishes door account uploads asking p kept was now (Ok r) es)
-  finished_ok {asks} r these made taken =
-      join _ these.run hang (λ es fs run hangs p was came.
-      let l = lent p was m.faults came in
-      let q = run p was l.3 in
-      let stays = bodies_stay l.0 l.1 q.1 in
-      let held : HoldsMachine q.0.machine kept =
-      taken q.0 stays.known was n.faults stays.ready
-      (record {
-        state = subst (λ (h : MailHistory). IsStateOf h served.state) (sym stays.history) l.2.state;
-        served_is = l.2.served_is ∙ ap (λ (h : MailHistory). h.mail) (sym stays.history);
-      }) q.2 in
-      record {
-        asks = asks;
-        answered = q.0;
-        fetching = es;
-        ending = fs;
-        calls_ask = AllAsked q.1;
-        hangs_up = subst (λ (b : Bool). HangsUp b fs) (up_is q.0.left n.source.client q.2.in_life) hangs;
-        whole = refl;
-        held = held;
-        bears = stays_borne q.0.blamed was n.faults now q.2.bears same;
-        made = (
-          subst (λ (x : Mailing). IsResponse door account (record { mail = x; uploads = uploads }) asking asks (text_sent r))
-              (sym (holds_stands p l.0 came.standing_is l.1)) (made (record { mail = Ok l.0.history; uploads = uploads }) (is_over l.0 l.2.state)),
-          not_lacking p q.0 stays.standing came.standing_is,
-        );
-      })
-
-  pub finished_err : {asks : List BodyAsk} (e : AllocError) → AsksShort asks m n
-      → AreDue (λ (l : List BodyAsk). (o : MailAndUploads) → AreOf o over → AsksFirst o asking l) asks → kept.known ≡ None
-      → Adds m.tape tape (λ es. (p : Progress) (was : Faults) → CameTo machine client Stands was m.faults p
-      → Finishes door account uploads asking p kept was now (Err e) es)
-  finished_err {asks} e short due none =
-      join _ short.run hang (λ es fs run hangs p was came.
-      let l = lent p was m.faults came in
-      let q = run p was l.3 in
-      record {
-        asks = asks;
-        answered = q.0;
-        fetching = es;
-        ending = fs;
-        calls_ask = q.1;
-        hangs_up = subst (λ (b : Bool). HangsUp b fs) (up_is q.0.left n.source.client q.2.in_life) hangs;
-        whole = refl;
-        held = holds_none (forgotten q.0.machine) kept none;
-        bears = stays_borne q.0.blamed was n.faults now q.2.bears same;
-        made = subst (λ (x : Mailing). AreDue (AsksFirst (record { mail = x; uploads = uploads }) asking) asks) (sym (holds_stands p l.0 came.standing_is l.1))
-            (λ firsts last is. due firsts last is (record { mail = Ok l.0.history; uploads = uploads }) (is_over l.0 l.2.state));
-      })
-
-  -- the response, or that there was no memory for it
-  pub finished : {S : Type 0} (moment : S → Moment) (a b : S) (result made : Result Response AllocError) (taken : Machine) (answered_by : Hidden → Account) (secrets : Hidden)
-      → m ≡ moment a → n ≡ moment b → answered_by secrets ≡ account → result ≡ made
-      → AsksAndMakes (Answers moment) (Lacks moment) a b made
-      (λ r asks. (h : Hidden) (o : MailAndUploads) → AreOf o over → IsResponse door (answered_by h) o asking asks (text_sent r))
-      (λ asks. (o : MailAndUploads) → AreOf o over → AsksFirst o asking asks)
-      → ((p : Progress) (k : KnownMail) (was then : Faults) → p.machine.known ≡ Some k → IsLentOf k served → HoldsSource p n.source was then → HoldsMachine p.machine taken)
-      → OnOk result (kept ≡ taken) → OnErr result (kept.known ≡ None)
-      → Adds m.tape tape (λ es. (p : Progress) (was : Faults) → CameTo machine client Stands was m.faults p
-      → Finishes door account uploads asking p kept was now result es)
-  finished moment a b (Ok r) (Ok r') taken answered_by secrets m_is n_is same_account is makes held kept_is none =
-      let response : Ok r ≡ Ok r' = is in
-      let r_is : r' ≡ r = cc in
-      finished_ok r
-      (subst (λ (x : Moment). AsksThese makes.asks x n) (sym m_is) (subst (λ (x : Moment). AsksThese makes.asks (moment a) x) (sym n_is) (asked_these moment makes.asked)))
-      (λ o of. subst (λ (x : Account). IsResponse door x o asking makes.asks (text_sent r)) same_account
-      (subst (λ (x : Response). IsResponse door (answered_by secrets) o asking makes.asks (text_sent x)) r_is (makes.meant secrets o of)))
-      (λ p k was then ready of holds. subst (λ (x : Machine). HoldsMachine p.machine x) (sym kept_is) (held p k was then ready of holds))
-  finished moment a b (Err e) (Err f) taken answered_by secrets m_is n_is same_account is makes held kept_is none =
-      finished_err e
-      (subst (λ (x : Moment). AsksShort makes.tried x n) (sym m_is) (subst (λ (x : Moment). AsksShort makes.tried (moment a) x) (sym n_is) (asked_in_vain moment makes)))
-      makes.due none
-  finished moment a b (Ok r) (Err f) taken answered_by secrets m_is n_is same_account is makes held kept_is none = absurd (let never : Ok r ≡ Err f = is in cc)
-  finished moment a b (Err e) (Ok r) taken answered_by secrets m_is n_is same_account is makes held kept_is none = absurd (let never : Err e ≡ Ok r = is in cc)
-
--- what asking did, however it came out
-module _ {S : Type 0} (moment : S → Moment) {X : Type 0} (Means : X → List BodyAsk → Type 0) (AreAll : List BodyAsk → Type 0) (before after : S) where
-  pub counts_of : (result : Result X AllocError) → AsksAndMakes (Answers moment) (Lacks moment) before after result Means AreAll
-      → CountsOn (moment before).source.told (moment after).source.told
-  counts_of (Ok x) makes = (asked_these moment makes.asked).counts
-  counts_of (Err e) makes = (asked_in_vain moment makes).counts
-
-  pub goes_on_of : (result : Result X AllocError) → AsksAndMakes (Answers moment) (Lacks moment) before after result Means AreAll
-      → KeepsOutside (moment before) (moment after)
-  goes_on_of (Ok x) makes = (asked_these moment makes.asked).goes_on
-  goes_on_of (Err e) makes = (asked_in_vain moment makes).goes_on
-
 -- ---- where the mail can't be told
 
--- of no source nothing comes, and it changes nothing
-abbrev pub NoAnswer : {S : Type 0} → S → MessagePlace → Option (List ℕ) → S → Type 0
-NoAnswer before message body after = (body ≡ None) × (after ≡ before)
-
-abbrev pub NoLack : {S : Type 0} → S → MessagePlace → S → Type 0
-NoLack before message after = after ≡ before
-
-none_changed : {S : Type 0} {before after : S} {asks : List BodyAsk} → AreAsked NoAnswer before asks after → after ≡ before
-none_changed NoneAsked = refl
-none_changed (OneMore ask asks answers) = answers.1 ∙ none_changed asks
-
-none_tried : {S : Type 0} {before after : S} {tried : List BodyAsk} → AreTried NoAnswer NoLack before tried after → after ≡ before
-none_tried (AllAnswered asks) = none_changed asks
-none_tried (LastLacks message asks lacks is) = lacks ∙ none_changed asks
-
-pub nothing_changed : {S X : Type 0} (Means : X → List BodyAsk → Type 0) (AreAll : List BodyAsk → Type 0) (before after : S) (result : Result X AllocError)
-    → AsksAndMakes NoAnswer NoLack before after result Means AreAll → after ≡ before
-nothing_changed Means AreAll before after (Ok x) makes = none_changed makes.asked
-nothing_changed Means AreAll before after (Err e) makes = none_tried makes.are_tried
-
-no_asks : (account : Account) (e : MethodError) (uploads : List (List ℕ)) (asking : Asking) (asks : List BodyAsk) (answer : Answer)
-    → IsAnswer account (record { mail = Err e; uploads = uploads }) asking asks answer → asks ≡ []
-no_asks account e uploads (Calls request) asks answer is = none_asked is.1
-no_asks account e uploads (Problem p) asks answer is = is.0
-no_asks account e uploads Session asks answer is = is.0
-no_asks account e uploads (Upload media octets) asks answer is = is.0
-no_asks account e uploads (Download blob media) asks answer is = is.0
-no_asks account e uploads (Refused refusal) asks answer is = is.0
+mail_untold : {machine : Machine} {client : ClientState} {how : MailFailure} {p : Progress} {was then : Faults} (error : MethodError)
+    → CameTo machine client (Unserved how) was then p → error ≡ error_of how → mail_at p ≡ Err error
+mail_untold {p = p} error came is =
+    ap (λ (s : MailStatus). mailing_by s p.machine.known) came.standing_is ∙ ap (λ (x : MethodError). let y : Mailing = Err x in y) (sym is)
 
 -- the response without mail, once the link life is over
-pub finished_untold : {door : Door} {account : Account} {uploads : List (List ℕ)} {asking : Asking} {machine kept : Machine} {client : ClientState} {how : MailFailure} {p : Progress}
-    {was then now : Faults} {ys : List Event} {over : CallContext} (error : MethodError) (result : Result Response AllocError)
-    → CameTo machine client (Unserved how) was then p → error ≡ error_of how → HangsUp client.alive ys → NoFault then now
-    → ((r : Response) → result ≡ Ok r → (asks : List BodyAsk) × ((o : MailAndUploads) → AreOf o over → IsResponse door account o asking asks (text_sent r)))
-    → AreOf (record { mail = Err error; uploads = uploads }) over → HoldsMachine (machine_left result p.machine) kept
-    → Finishes door account uploads asking p kept was now result ys
-finished_untold {uploads = uploads} {asking = asking} {client = client} {p = p} {was = was} {then = then} {now = now} {ys = ys} error
-    (Err e) came is hangs same made of held =
+pub finished_untold : {door : Door} {uploads : List (List ℕ)} {asking : Asking} {machine kept : Machine} {client : ClientState} {how : MailFailure} {p : Progress}
+    {was then now : Faults} {ys : List Event} (account : Hidden → Account) (secrets : Hidden) (error : MethodError) (result made : Result Response AllocError)
+    → CameTo machine client (Unserved how) was then p → error ≡ error_of how → HangsUp client.alive ys → NoFault then now → result ≡ made
+    → IfOk made (λ r. (h : Hidden) (q : Progress) → mail_at q ≡ Err error → (answer : Answer) × Does (account h) uploads asking q [] q (Some answer)
+    × (text_sent r ≡ spelled door answer))
+    → HoldsMachine (machine_left result p.machine) kept → Finishes door (account secrets) uploads asking p kept was now result ys
+finished_untold {uploads = uploads} {asking = asking} {client = client} {p = p} {was = was} {then = then} {now = now} {ys = ys} account secrets error
+    (Err e) made came is hangs same result_is does held =
     record {
-      asks = [];
       answered = p;
-      fetching = [];
+      doing = [];
       ending = ys;
-      calls_ask = AllAsked NoBodies;
       hangs_up = subst (λ (b : Bool). HangsUp b ys) (up_is p.left client came.in_life) hangs;
       whole = refl;
       held = held;
       bears = stays_borne p.blamed was then now came.bears same;
-      made = none_due (AsksFirst (record { mail = mail_at p; uploads = uploads }) asking);
+      made = RunsOut (lacks_nothing uploads asking p);
     }
-finished_untold {door} {account} {uploads} {asking} {client = client} {how = how} {p = p} {was = was} {then = then} {now = now} {ys = ys} error
-    (Ok r) came is hangs same made of held =
-    let so = made r refl in
-    let response : IsResponse door account (record { mail = Err error; uploads = uploads }) asking so.0 (text_sent r) = so.1 (record { mail = Err error; uploads = uploads }) of in
-    let none : so.0 ≡ [] = no_asks account error uploads asking so.0 response.answer response.is_answer in
-    let mail_is : mail_at p ≡ Err error =
-    ap (λ (s : MailStatus). mailing_by s p.machine.known) came.standing_is ∙ ap (λ (x : MethodError). let y : Mailing = Err x in y) (sym is) in
+finished_untold {door} {uploads} {asking} {client = client} {how = how} {p = p} {was = was} {then = then} {now = now} {ys = ys} account secrets error
+    (Ok r) made came is hangs same result_is does held =
+    let so = (subst (λ (x : Result Response AllocError). IfOk x (λ (response : Response). (h : Hidden) (q : Progress) → mail_at q ≡ Err error
+    → (answer : Answer) × Does (account h) uploads asking q [] q (Some answer) × (text_sent response ≡ spelled door answer))) (sym result_is) does)
+    secrets p (mail_untold error came is) in
     record {
-      asks = [];
       answered = p;
-      fetching = [];
+      doing = [];
       ending = ys;
-      calls_ask = AllAsked NoBodies;
       hangs_up = subst (λ (b : Bool). HangsUp b ys) (up_is p.left client came.in_life) hangs;
       whole = refl;
       held = held;
       bears = stays_borne p.blamed was then now came.bears same;
-      made = (
-        subst (λ (x : Mailing). IsResponse door account (record { mail = x; uploads = uploads }) asking [] (text_sent r)) (sym mail_is)
-            (subst (λ (asks : List BodyAsk). IsResponse door account (record { mail = Err error; uploads = uploads }) asking asks (text_sent r)) none response),
-        (λ out. let both : Unserved how ≡ OutOfMemory = sym came.standing_is ∙ out in cc),
-      );
+      made = (so.0, so.1, so.2, (λ out. let both : Unserved how ≡ OutOfMemory = sym came.standing_is ∙ out in cc));
     }
-
--- the response that was made, whoever's account it was called
-pub made_untold : {S : Type 0} (A : S → MessagePlace → Option (List ℕ) → S → Type 0) (L : S → MessagePlace → S → Type 0) (before after : S) {door : Door} {asking : Asking}
-    {over : CallContext} (AreAll : List BodyAsk → Type 0) (made result : Result Response AllocError) (answered_by : Hidden → Account) (secrets : Hidden) → result ≡ made
-    → AsksAndMakes A L before after made (λ r asks. (h : Hidden) (o : MailAndUploads) → AreOf o over → IsResponse door (answered_by h) o asking asks (text_sent r)) AreAll
-    → (r : Response) → result ≡ Ok r
-    → (asks : List BodyAsk) × ((o : MailAndUploads) → AreOf o over → IsResponse door (answered_by secrets) o asking asks (text_sent r))
-made_untold A L before after {door = door} {asking = asking} AreAll (Ok r') result answered_by secrets is makes r r_is =
-    let both : Ok r' ≡ Ok r = sym is ∙ r_is in
-    let same : r' ≡ r = cc in
-    (makes.asks, (λ o of. subst (λ (x : Response). IsResponse door (answered_by secrets) o asking makes.asks (text_sent x)) same (makes.meant secrets o of)))
-made_untold A L before after AreAll (Err e) result answered_by secrets is makes r r_is = absurd (let both : Err e ≡ Ok r = sym is ∙ r_is in cc)
 
 -- the machine that is left holds what it held, or isn't ready
 pub kept_left : {m : MachineState} (taken kept : Machine) (result : Result Response AllocError) → HoldsMachine m taken → OnOk result (kept ≡ taken)
@@ -455,14 +281,13 @@ answers_at_once gate before secrets asking (Err e) f s holds needless rest held 
     machine_is = refl;
     bears = bears_none f f (later_same f f refl);
     may = subst (λ (u : List (List ℕ)). MayKeepUpload asking u gate.uploads) holds.uploads may;
-    made = (takes, NoMail needless (RunsOut (lacks_without s.uploads asking s.machine needless)) refl refl);
+    made = (takes, NoMail needless (RunsOut (lacks_nothing s.uploads asking (idle s.machine))) refl refl);
   },
 )
 answers_at_once gate before secrets asking (Ok r) f s holds needless rest held may made takes =
-    let response = made.1 secrets in
-    let same_answer : IsAnswer (account_by before secrets) (record { mail = Err ServerUnavailable; uploads = gate.uploads }) asking response.0 response.1.answer =
-    subst (λ (a : Account). IsAnswer a (record { mail = Err ServerUnavailable; uploads = gate.uploads }) asking response.0 response.1.answer)
-    (same_account {h = secrets} rest refl) response.1.is_answer in (
+    let so = made.1 secrets s.machine needless in
+    let does : Does (account_by before secrets) gate.uploads asking (idle s.machine) [] (idle s.machine) (Some so.0) =
+    subst (λ (a : Account). Does a gate.uploads asking (idle s.machine) [] (idle s.machine) (Some so.0)) (same_account {h = secrets} rest refl) so.1 in (
       record { machine = s.machine; uploads = gate.uploads },
       record { machine = held; uploads = refl },
       record {
@@ -471,9 +296,9 @@ answers_at_once gate before secrets asking (Ok r) f s holds needless rest held m
         bears = bears_none f f (later_same f f refl);
         may = subst (λ (u : List (List ℕ)). MayKeepUpload asking u gate.uploads) holds.uploads may;
         made = (
-          response.1.answer,
-          NoMail needless (does_without (account_by before secrets) gate.uploads asking s.machine response.0 response.1.answer needless same_answer) refl refl,
-          response.1.text_is ∙ ap (λ (d : Door). spelled d response.1.answer) rest.door,
+          so.0,
+          NoMail needless does refl refl,
+          so.2 ∙ ap (λ (d : Door). spelled d so.0) rest.door,
           (λ out. cc),
           subst (λ (u : List (List ℕ)). KeepsUpload asking u gate.uploads) holds.uploads made.0,
         );
@@ -509,12 +334,12 @@ at_once gate mid before secrets asking (Err e) made f needless rest same is gate
 -- what needs no mail is answered so, by a gate that keeps what is uploaded
 pub made_for : (before gate : Gate) (asking asked : Asking) (answer : Answer) (result : Result Response AllocError) → asked ≡ asking
     → KeepsUpload asking before.uploads gate.uploads
-    → ((s : Hidden) → IsAnswer (account_by gate s) (record { mail = Err ServerUnavailable; uploads = gate.uploads }) asking [] answer)
+    → ((s : Hidden) (m : MachineState) → Does (account_by gate s) gate.uploads asking (idle m) [] (idle m) (Some answer))
     → IfOk result (λ r. text_sent r ≡ spelled gate.door answer) → IfOk result (MakesAtOnce asked before gate)
-made_for before gate asking asked answer (Ok r) is keeps is_answer text_is =
-    let made : MakesAtOnce asking before gate r = (keeps, (λ s. ([], record { answer = answer; is_answer = is_answer s; text_is = text_is }))) in
+made_for before gate asking asked answer (Ok r) is keeps does text_is =
+    let made : MakesAtOnce asking before gate r = (keeps, (λ s m needless. (answer, does s m, text_is))) in
     subst (λ (a : Asking). MakesAtOnce a before gate r) (sym is) made
-made_for before gate asking asked answer (Err e) is keeps is_answer text_is = tt
+made_for before gate asking asked answer (Err e) is keeps does text_is = tt
 
 -- ---- the reply to what is asked
 

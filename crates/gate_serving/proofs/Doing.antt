@@ -1,28 +1,31 @@
--- What is done for what is asked: as it is over one mail, and by the bodies that are asked for it.
-use Rattle.std.proofs.Common.{◌≡◌, ◌≢◌, ◌∙◌, ◌++◌, ℕ, true, false, List, [], map, Option, Some, Err, refl, sym, ap, subst}
+-- What is done for what is asked, and by the bodies that are asked for it.
+use Rattle.std.proofs.Common.{◌≡◌, ◌∙◌, ◌++◌, ℕ, true, false, List, [], map, Option, Some, None, Err, refl, sym, ap, subst}
 use Rattle.gate_world.specs.declared.event.Event.{Event}
-use Rattle.email_bodies.specs.Asking.{BodyAsk, AreDue}
+use Rattle.serde_json.specs.Written.{compact_text}
+use Rattle.email_bodies.specs.Asking.{BodyAsk}
 use Rattle.email_bodies.specs.declared.source.MessagePlace.{MessagePlace}
 use Rattle.email_bodies.proofs.Due.{none_due}
+use Rattle.jmap_arguments.specs.declared.method_error.MethodError.{MethodError}
 use Rattle.jmap_arguments.specs.declared.method_error.MethodError.TheVariants.{ServerUnavailable}
 use Rattle.gate_machine.specs.Fetching.{AsksBody, IsKept, Ends, HasEnded, AsksBodies, NoBodies, MoreBodies, CallsAsk, AllAsked, RunsShort, LacksBody}
 use Rattle.gate_machine.specs.Fetching as fetching
-use Rattle.gate_machine.specs.Machine.{MachineState}
-use Rattle.gate_machine.specs.Progress.{Progress, idle}
-use Rattle.gate_machine.specs.declared.standing.MailStatus.TheVariants.{OutOfMemory}
-use Rattle.gate_calls.specs.Calling.{Asked, Body, over_at}
-use Rattle.gate_calls.specs.Calls.{AnswersCalls, FirstCallsAsk}
-use Rattle.gate_calls.specs.Mailings.{MailAndUploads, mail_at}
+use Rattle.gate_machine.specs.Progress.{Progress}
+use Rattle.gate_machine.specs.declared.mail_status.MailStatus.TheVariants.{OutOfMemory}
+use Rattle.gate_calls.specs.Calling.{Asked, Body, DoesCalls, NoCalls, over_at}
+use Rattle.gate_calls.specs.Calls.{AnswersCalls, needs_mail}
+use Rattle.gate_calls.specs.Mailings.{Mailing, MailAndUploads, mail_at}
 use Rattle.gate_calls.proofs.Bodies.{AskedObeyed}
-use Rattle.gate_calls.proofs.Calling.{none_asked}
-use Rattle.gate_calls.proofs.Needless.{over_any}
-use Rattle.gate_calls.proofs.Threading.{BodiesObeyed, apart, joined, joined_obeyed, lacks_apart}
+use Rattle.gate_calls.proofs.Needless.{none_asked, over_any}
+use Rattle.gate_calls.proofs.Serving.{lacks_at_once}
+use Rattle.gate_calls.proofs.Threading.{BodiesObeyed, apart, joined, joined_obeyed}
 use Rattle.gate_calls.proofs.Through.{calls_through, lacks_through, none_through}
-use Rattle.gate_serving.specs.Answers.{Answer}
+use Rattle.result_references.specs.Call.{CallData}
+use Rattle.jmap_core.specs.CreatedIds.{Ids}
+use Rattle.jmap_core.specs.Request.{RequestData}
+use Rattle.gate_serving.specs.Answers.{Answer, DownloadAsks, IsDownload, calls_text, json_answer, problem_answer, untold_problem}
 use Rattle.gate_serving.specs.Complete.{IsDoneObeyed}
-use Rattle.gate_serving.specs.Doing.{Answers, Does, Comes, RunsOut, DoesNothing, Lacks, calls_begun}
+use Rattle.gate_serving.specs.Doing.{Answers, Does, Comes, RunsOut, DoesNothing, Lacks, calls_begun, ids_given, ids_told}
 use Rattle.gate_serving.specs.Requests.{Account, Asking, Calls, Problem, Session, Upload, Download, Refused, asks_for_mail}
-use Rattle.gate_serving.specs.reading.OneMail.{AsksFirst, IsAnswer}
 
 -- ---- bodies
 
@@ -30,11 +33,6 @@ pub lacking_out : {message : MessagePlace} {p q : Progress} {events : List Event
 lacking_out (fetching.Unasked none is) = ap (λ (x : Progress). x.standing) is
 lacking_out (fetching.Asked asks is) = ap (λ (x : Progress). x.standing) is
 lacking_out (fetching.NotKept octets asks is) = ap (λ (x : Progress). x.standing) is
-
--- unless memory ran out, each body that was asked was answered
-pub all_asked : {p q : Progress} {asks : List BodyAsk} {events : List Event} → CallsAsk p asks events q → q.standing ≢ OutOfMemory → AsksBodies p asks events q
-all_asked (AllAsked bodies) stands = bodies
-all_asked (RunsShort short) stands = absurd (stands (lacking_out short.lacks))
 
 -- memory that ran out is out still
 pub still_out : {p q : Progress} {asks : List BodyAsk} {events : List Event} → p.standing ≡ OutOfMemory → CallsAsk p asks events q → q.standing ≡ OutOfMemory
@@ -51,78 +49,95 @@ still_out out (AllAsked bodies) = still bodies ∙ out
     still (MoreBodies next bodies) = still_body next.asks ∙ still bodies
 still_out out (RunsShort short) = lacking_out short.lacks
 
--- ---- from one mail
+-- ---- what is done
 
 no_need : {X : Type 0} → false ≡ true → X
 no_need needs = absurd (let both : false ≡ true = needs in cc)
 
--- what is answered over the mail that is served as the work is here
-pub does_over_mail : (account : Account) (uploads : List (List ℕ)) (asking : Asking) (answer : Answer) {begun answered : Progress} {asks : List BodyAsk} {events : List Event}
-    → asks_for_mail asking ≡ true → IsAnswer account (record { mail = mail_at begun; uploads = uploads }) asking asks answer → AsksBodies begun asks events answered
-    → Does account uploads asking begun events answered (Some answer)
-does_over_mail account uploads (Calls request) answer {begun} {answered} {asks} needs is asked =
-    Comes (map Body asks) answer
+-- calls that create nothing tell the ids that were given
+same_ids : (given : Option Ids) → given ≡ ids_told given (ids_given given)
+same_ids None = refl
+same_ids (Some ids) = refl
+
+told_ids : (account : Account) (responses : List CallData) (given : Option Ids) → json_answer 200 (calls_text account.user account.base responses given)
+    ≡ json_answer 200 (calls_text account.user account.base responses (ids_told given (ids_given given)))
+told_ids account responses given = ap (λ (ids : Option Ids). json_answer 200 (calls_text account.user account.base responses ids)) (same_ids given)
+
+-- calls that were done
+pub does_calls : (account : Account) (uploads : List (List ℕ)) (request : RequestData) (responses : List CallData) (asks : List Asked) (p q : Progress) (events : List Event)
+    → DoesCalls request.uses uploads (calls_begun request p) request.calls asks responses events (record { progress = q; created = ids_given request.created })
+    → Does account uploads (Calls request) p events q (Some (json_answer 200 (calls_text account.user account.base responses request.created)))
+does_calls account uploads request responses asks p q events does =
+    Comes asks (json_answer 200 (calls_text account.user account.base responses request.created))
     (record {
-      responses = is.0;
-      done = record { progress = answered; created = request.created };
-      does = apart (calls_begun request begun) is.1 answered asked;
+      responses = responses;
+      done = record { progress = q; created = ids_given request.created };
+      does = does;
       after_is = refl;
-      answer_is = is.2;
+      answer_is = told_ids account responses request.created;
     })
-does_over_mail account uploads (Problem e) answer needs is asked = no_need needs
-does_over_mail account uploads Session answer needs is asked = no_need needs
-does_over_mail account uploads (Upload media octets) answer needs is asked = no_need needs
-does_over_mail account uploads (Download blob media) answer {asks = asks} needs is asked =
-    Comes (map Body asks) answer (record { bodies = asks; asks_are = refl; finds = is; asked = asked })
-does_over_mail account uploads (Refused refusal) answer needs is asked = no_need needs
 
--- where memory ran out, after bodies were asked that were due over it
-pub lacks_over_mail : (uploads : List (List ℕ)) (asking : Asking) {begun answered : Progress} {asks : List BodyAsk} {events : List Event} → asks_for_mail asking ≡ true
-    → AreDue (AsksFirst (record { mail = mail_at begun; uploads = uploads }) asking) asks → CallsAsk begun asks events answered
-    → Lacks uploads asking begun events answered
-lacks_over_mail uploads (Calls request) {begun} {asks = asks} needs due asked =
-    lacks_apart (calls_begun request begun) (record { tried = asks; asked = asked; due = due })
-lacks_over_mail uploads (Problem e) needs due asked = no_need needs
-lacks_over_mail uploads Session needs due asked = no_need needs
-lacks_over_mail uploads (Upload media octets) needs due asked = no_need needs
-lacks_over_mail uploads (Download blob media) {asks = asks} needs due asked = record { tried = asks; asked = asked; due = due }
-lacks_over_mail uploads (Refused refusal) needs due asked = no_need needs
+-- calls for which no body is asked
+calls_at_once : (account : Account) (uploads : List (List ℕ)) (request : RequestData) (responses : List CallData) (p : Progress)
+    → AnswersCalls request.uses (record { mail = mail_at p; uploads = uploads }) request.calls [] responses
+    → Does account uploads (Calls request) p [] p (Some (json_answer 200 (calls_text account.user account.base responses request.created)))
+calls_at_once account uploads request responses p answers =
+    does_calls account uploads request responses [] p p [] (apart (calls_begun request p) answers p NoBodies)
 
--- what needs no mail is answered over whatever is served
-pub does_without : (account : Account) (uploads : List (List ℕ)) (asking : Asking) (m : MachineState) (asks : List BodyAsk) (answer : Answer) → asks_for_mail asking ≡ false
-    → IsAnswer account (record { mail = Err ServerUnavailable; uploads = uploads }) asking asks answer → Does account uploads asking (idle m) [] (idle m) (Some answer)
-does_without account uploads (Calls request) m asks answer needless is =
-    let there : AnswersCalls request.uses (over_at uploads (calls_begun request (idle m))) request.calls asks is.0 =
-    over_any request.uses (record { mail = Err ServerUnavailable; uploads = uploads }) (over_at uploads (calls_begun request (idle m))) needless is.1 in
-    let none : asks ≡ [] = none_asked is.1 in
+-- where the mail can't be told
+pub calls_untold : (account : Account) (uploads : List (List ℕ)) (request : RequestData) (responses : List CallData) (e : MethodError) (p : Progress) → mail_at p ≡ Err e
+    → AnswersCalls request.uses (record { mail = Err e; uploads = uploads }) request.calls [] responses
+    → Does account uploads (Calls request) p [] p (Some (json_answer 200 (calls_text account.user account.base responses request.created)))
+calls_untold account uploads request responses e p is answers =
+    calls_at_once account uploads request responses p
+    (subst (λ (mail : Mailing). AnswersCalls request.uses (record { mail = mail; uploads = uploads }) request.calls [] responses) (sym is) answers)
+
+-- where none of them needs the mail they are answered over whatever is served
+pub calls_needless : (account : Account) (uploads : List (List ℕ)) (request : RequestData) (responses : List CallData) (e : MethodError) (p : Progress)
+    → needs_mail request.calls ≡ false → AnswersCalls request.uses (record { mail = Err e; uploads = uploads }) request.calls [] responses
+    → Does account uploads (Calls request) p [] p (Some (json_answer 200 (calls_text account.user account.base responses request.created)))
+calls_needless account uploads request responses e p needless answers =
+    calls_at_once account uploads request responses p
+    (over_any request.uses (record { mail = Err e; uploads = uploads }) (record { mail = mail_at p; uploads = uploads }) needless answers)
+
+-- a blob, where the mail can't be told
+pub download_untold : (account : Account) (uploads : List (List ℕ)) (blob : List ℕ) (media : Option (List ℕ)) (e : MethodError) (p : Progress) → mail_at p ≡ Err e
+    → Does account uploads (Download blob media) p [] p (Some (problem_answer 404 (compact_text untold_problem)))
+download_untold account uploads blob media e p is =
+    let answer : Answer = problem_answer 404 (compact_text untold_problem) in
     Comes [] answer
     (record {
-      responses = is.0;
-      done = calls_begun request (idle m);
-      does = apart (calls_begun request (idle m))
-          (subst (λ (l : List BodyAsk). AnswersCalls request.uses (over_at uploads (calls_begun request (idle m))) request.calls l is.0) none there) (idle m) NoBodies;
-      after_is = refl;
-      answer_is = is.2;
+      bodies = [];
+      asks_are = refl;
+      finds = subst (λ (mail : Mailing). IsDownload mail uploads blob media [] answer) (sym is) (refl, refl);
+      asked = NoBodies;
     })
-does_without account uploads (Problem e) m asks answer needless is = Comes [] answer (record { answer_is = is.1; no_asks = refl; no_events = refl; after_is = refl })
-does_without account uploads Session m asks answer needless is = Comes [] answer (record { answer_is = is.1; no_asks = refl; no_events = refl; after_is = refl })
-does_without account uploads (Upload media octets) m asks answer needless is = Comes [] answer (record { answer_is = is.1; no_asks = refl; no_events = refl; after_is = refl })
-does_without account uploads (Download blob media) m asks answer needless is = no_need (sym needless)
-does_without account uploads (Refused refusal) m asks answer needless is = Comes [] answer (record { answer_is = is.1; no_asks = refl; no_events = refl; after_is = refl })
 
-pub lacks_without : (uploads : List (List ℕ)) (asking : Asking) (m : MachineState) → asks_for_mail asking ≡ false → Lacks uploads asking (idle m) [] (idle m)
-lacks_without uploads (Calls request) m needless =
-    lacks_apart (calls_begun request (idle m))
-    (record {
-      tried = [];
-      asked = AllAsked NoBodies;
-      due = none_due (FirstCallsAsk request.uses (over_at uploads (calls_begun request (idle m))) request.calls);
-    })
-lacks_without uploads (Problem e) m needless = (refl, refl)
-lacks_without uploads Session m needless = (refl, refl)
-lacks_without uploads (Upload media octets) m needless = (refl, refl)
-lacks_without uploads (Download blob media) m needless = no_need (sym needless)
-lacks_without uploads (Refused refusal) m needless = (refl, refl)
+-- what asks nothing
+pub asks_nothing : {due : Answer} {p : Progress} → DoesNothing due p [] [] due p
+asks_nothing = record { answer_is = refl; no_asks = refl; no_events = refl; after_is = refl }
+
+-- memory runs out before anything is asked
+pub lacks_nothing : (uploads : List (List ℕ)) (asking : Asking) (p : Progress) → Lacks uploads asking p [] p
+lacks_nothing uploads (Calls request) p =
+    record {
+      firsts = [];
+      later = request.calls;
+      asks = [];
+      responses = [];
+      answering = [];
+      lacking = [];
+      mid = calls_begun request p;
+      calls_are = refl;
+      does = NoCalls;
+      lacks = lacks_at_once (calls_begun request p) request.calls;
+      whole = refl;
+    }
+lacks_nothing uploads (Problem e) p = (refl, refl)
+lacks_nothing uploads Session p = (refl, refl)
+lacks_nothing uploads (Upload media octets) p = (refl, refl)
+lacks_nothing uploads (Download blob media) p = record { tried = []; asked = AllAsked NoBodies; due = none_due (DownloadAsks (mail_at p) uploads blob) }
+lacks_nothing uploads (Refused refusal) p = (refl, refl)
 
 -- for what needs no mail nothing is asked
 pub no_asks : (account : Account) (uploads : List (List ℕ)) (asking : Asking) (p : Progress) (asks : List Asked) (events : List Event) (answer : Answer) (q : Progress)

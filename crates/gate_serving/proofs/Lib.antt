@@ -14,3 +14,4 @@ mod Kept
 mod ServedAnswers
 pub mod Told
 mod Made
+mod Lent

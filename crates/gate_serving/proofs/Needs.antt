@@ -14,7 +14,7 @@ use Rattle.gate_machine.specs.Progress.{Bears, Progress, blame_link, idle, is_up
 use Rattle.gate_machine.specs.Machine.{MachineState}
 use Rattle.gate_machine.specs.Beginning.{PreparesMail}
 use Rattle.gate_machine.specs.Obeying.{AllCame, AreAsksObeyed, IsObeyedBeginning, IsServed}
-use Rattle.gate_machine.specs.declared.standing.MailStatus.TheVariants.{OutOfMemory, Stands}
+use Rattle.gate_machine.specs.declared.mail_status.MailStatus.TheVariants.{OutOfMemory, Stands}
 use Rattle.gate_calls.specs.Calling.{AllAskedCome, Asked, Body, IsAskedCome}
 use Rattle.gate_calls.specs.Mailings.{Mailing, mailing_by}
 use Rattle.gate_calls.proofs.Threading.{BodiesObeyed}

@@ -13,7 +13,7 @@ use Rattle.gate_calls.specs.Places.{HasPlaces}
 use Rattle.gate_calls.proofs.Bodies.{bodies_keep_mail}
 use Rattle.gate_calls.proofs.OneCourse.{bodies_in, same_bodies}
 use Rattle.gate_serving.specs.Answers.{Answer, IsDownload, calls_text, found_answer, json_answer}
-use Rattle.gate_serving.specs.Doing.{Answers, DoesDownload, DoesNothing, calls_begun}
+use Rattle.gate_serving.specs.Doing.{Answers, DoesDownload, DoesNothing, calls_begun, ids_told}
 use Rattle.gate_serving.specs.Requests.{Account, Asking, Calls, Problem, Session, Upload, Download, Refused}
 
 -- what is proved of a request's calls, and of blobs
@@ -68,7 +68,7 @@ module _ (law : CallsLaw) (blobs : BlobLaw) where
       let both = law request.uses uploads request.calls (calls_begun request p) (calls_begun request q) a.done b.done asks more also later a.responses b.responses es fs
       same_mail refl room a.does b.does same in (
         both.0,
-        a.answer_is ∙ (λ i. json_answer 200 (calls_text account.user account.base (both.1 i) (both.2 i))) ∙ sym b.answer_is,
+        a.answer_is ∙ (λ i. json_answer 200 (calls_text account.user account.base (both.1 i) (ids_told request.created (both.2 i)))) ∙ sym b.answer_is,
         ap mail_at a.after_is ∙ both.3 ∙ sym (ap mail_at b.after_is),
       )
   one_answer account uploads (Problem e) p q asks more also later es fs x y after then same_mail room a b same =

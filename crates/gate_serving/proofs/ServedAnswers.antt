@@ -8,8 +8,8 @@ use Rattle.gate_machine.specs.History.{KnownMail}
 use Rattle.gate_machine.specs.Machine.{MachineState}
 use Rattle.gate_machine.specs.Progress.{Progress}
 use Rattle.gate_machine.specs.ServedFolders.{Serves}
-use Rattle.gate_machine.specs.declared.standing.MailStatus.{MailStatus}
-use Rattle.gate_machine.specs.declared.standing.MailStatus.TheVariants as standing
+use Rattle.gate_machine.specs.declared.mail_status.MailStatus.{MailStatus}
+use Rattle.gate_machine.specs.declared.mail_status.MailStatus.TheVariants as standing
 use Rattle.gate_calls.specs.Mailings.{history_of, mail_at, mailing_by}
 use Rattle.gate_serving.specs.declared.door.Door.{Door}
 use Rattle.gate_serving.specs.GateState.{GateState}

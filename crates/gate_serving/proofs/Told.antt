@@ -6,7 +6,7 @@ use Rattle.gate_world.specs.Sending.{Sends}
 use Rattle.gate_world.specs.declared.event.Event.{Event}
 use Rattle.gate_world.specs.declared.event.Event.TheVariants.{Accepted, ClientDone}
 use Rattle.gate_world.specs.declared.outside.Failed.{Failed}
-use Rattle.gate_machine.specs.declared.standing.MailStatus.TheVariants.{OutOfMemory}
+use Rattle.gate_machine.specs.declared.mail_status.MailStatus.TheVariants.{OutOfMemory}
 use Rattle.gate_serving.specs.declared.door.Door.{Door}
 use Rattle.gate_serving.specs.declared.outcomes.ClientOutcome.{ClientOutcome}
 use Rattle.gate_serving.specs.declared.outcomes.ClientOutcome.TheVariants as served

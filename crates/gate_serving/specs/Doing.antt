@@ -5,6 +5,7 @@ use Rattle.serde_json.specs.Written.{compact_text}
 use Rattle.gate_world.specs.declared.event.Event.{Event}
 use Rattle.email_bodies.specs.Asking.{BodyAsk, AreDue}
 use Rattle.http_service.specs.Refusals.{refusal_status}
+use Rattle.jmap_core.specs.CreatedIds.{Ids}
 use Rattle.jmap_core.specs.Problem.{text_of_problem, status_of as problem_status}
 use Rattle.result_references.specs.Call.{CallData}
 use Rattle.jmap_core.specs.Request.{RequestData}
@@ -18,18 +19,28 @@ use Rattle.gate_serving.specs.Requests.{Account, Asking, Calls, Problem, Session
 
 -- ---- the answer
 
--- the ids that a request gives are there before its first call
-abbrev pub calls_begun : RequestData → Progress → CallsState
-calls_begun request p = record { progress = p; created = request.created }
+-- the ids that a request gives, or none
+abbrev pub ids_given : Option Ids → Ids
+ids_given None = []
+ids_given (Some ids) = ids
 
--- Method calls are done one after another. The answer has their responses, and the ids that were created by then.
+-- they are there before its first call
+abbrev pub calls_begun : RequestData → Progress → CallsState
+calls_begun request p = record { progress = p; created = ids_given request.created }
+
+-- the ids that are told of those that were created: all where the request gives some, else none (RFC 8620 section 3.4)
+abbrev pub ids_told : Option Ids → Ids → Option Ids
+ids_told None created = None
+ids_told (Some given) created = Some created
+
+-- Method calls are done one after another. The answer has their responses, and the ids that were created by then, where the request gives some.
 pub record DoesRequest (account : Account) (uploads : List (List ℕ)) (request : RequestData) (before : Progress) (asks : List Asked) (events : List Event)
     (answer : Answer) (after : Progress) : Type 0 where
   pub responses : List CallData
   pub done : CallsState
   pub does : DoesCalls request.uses uploads (calls_begun request before) request.calls asks responses events done
   pub after_is : after ≡ done.progress
-  pub answer_is : answer ≡ json_answer 200 (calls_text account.user account.base responses done.created)
+  pub answer_is : answer ≡ json_answer 200 (calls_text account.user account.base responses (ids_told request.created done.created))
 
 -- The octets that a blob id names are looked for; bodies are asked for that.
 pub record DoesDownload (uploads : List (List ℕ)) (blob : List ℕ) (media : Option (List ℕ)) (before : Progress) (asks : List Asked) (events : List Event)

@@ -8,7 +8,7 @@ use Rattle.gate_world.specs.declared.outside.Failed.{Failed}
 use Rattle.http_requests.specs.declared.asking.AskError.TheVariants as unread
 use Rattle.gate_machine.specs.Machine.{forgotten as forgotten_machine}
 use Rattle.gate_machine.specs.Progress.{Progress}
-use Rattle.gate_machine.specs.declared.standing.MailStatus.TheVariants.{OutOfMemory}
+use Rattle.gate_machine.specs.declared.mail_status.MailStatus.TheVariants.{OutOfMemory}
 use Rattle.gate_serving.specs.declared.door.Door.{Door}
 use Rattle.gate_serving.specs.declared.outcomes.ClientOutcome.{ClientOutcome}
 use Rattle.gate_serving.specs.declared.outcomes.ClientOutcome.TheVariants as served

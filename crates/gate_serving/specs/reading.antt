@@ -1,5 +1,5 @@
 -- What the parts of answering a client add: private clauses and proofs alone speak of it.
 pub mod Askings
 pub mod Texts
-pub mod OneMail
+pub mod Making
 pub mod Replying

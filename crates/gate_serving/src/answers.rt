@@ -6,15 +6,14 @@ ghost use Rattle.serde_json.specs.Written.{compact_text};
 ghost use Rattle.blob_store.specs.Uploads.{blob_id as id_of};
 ghost use Rattle.jmap_core.specs.Problem.{text_of_problem, status_of as status_of_problem};
 ghost use Rattle.jmap_core.specs.Request.{request_data};
-ghost use Rattle.result_references.specs.Call.{CallData, call_data};
+ghost use Rattle.result_references.specs.Call.{call_data};
 ghost use Rattle.jmap_core.specs.Response.{IsWhole};
 ghost use Rattle.jmap_core.specs.Session.{session_data};
 ghost use Rattle.email_get.specs.Asked.{FailsAfter};
 ghost use Rattle.email_get.specs.Blobs.{FindsBlob, OctetsFound};
-ghost use Rattle.gate_calls.specs.Asking.{AsksAndMakes};
-ghost use Rattle.gate_calls.specs.Calls.{AnswersCalls, FirstCallsAsk};
-ghost use Rattle.gate_calls.specs.Mailings.{AreOf, MailAndUploads};
-ghost use Rattle.gate_serving.specs.Answers.{Answer, DownloadAsks, IsDownload, calls_text as text_of_calls, found_answer, json_answer, problem_answer, spelled, untold_problem, upload_data};
+ghost use Rattle.gate_calls.specs.Sources.{CallsMake};
+ghost use Rattle.gate_serving.specs.Answers.{calls_text as text_of_calls, found_answer, json_answer, problem_answer, spelled, untold_problem, upload_data};
+ghost use Rattle.gate_serving.specs.reading.Making.{AsksAndMakes};
 ghost use Rattle.gate_serving.specs.reading.Texts.{text_sent};
 
 use crate::account::Account;
@@ -24,7 +23,7 @@ use crate::upload::Upload;
 use blob_store::{BlobStore, MAX_UPLOAD_OCTETS};
 use email_bodies::{BodyError, BodySource};
 use email_get::find_blob;
-use gate_calls::{CallContext, Mail, responses_to};
+use gate_calls::{CallSource, responses_to};
 use http::StatusCode;
 use http_requests::{MAX_REQUEST_OCTETS, download_media, json_media, problem_media};
 use http_service::Refusal;
@@ -86,27 +85,25 @@ fn responses_answer(
     json_response(alloc, door, StatusCode::OK, text)
 }
 
-/// The answer to method calls over the mail and the uploads. Bodies are asked of the source as the calls need them.
-pub fn calls_response<W, B: BodySource<W>>(
+/// The answer to method calls. The source answers each at its moment, beside the uploads that are kept.
+pub fn calls_response<W, C: CallSource<W>>(
     alloc: Global,
     door: Door,
     account: &Account,
-    over: &CallContext<'_>,
-    bodies: &mut B,
+    source: &mut C,
     world: &mut W,
+    uploads: &BlobStore,
     request: &Request,
 ) -> Result<Response, AllocError>
-    ensures { AsksAndMakes B.answers B.lacks (bodies.old, world.old) (bodies.new, world.new) result
-        (λ r asks. (o : MailAndUploads) → AreOf o over.now → (responses : List CallData)
-        × AnswersCalls (request_data request.now).uses o (request_data request.now).calls asks responses
-        × (text_sent r ≡ spelled door (json_answer 200 (text_of_calls account.now.user account.now.base responses (request_data request.now).created))))
-        (λ asks. (o : MailAndUploads) → AreOf o over.now → FirstCallsAsk (request_data request.now).uses o (request_data request.now).calls asks) }
+    ensures { CallsMake (C.answers uploads.now) (C.lacks uploads.now) (request_data request.now).uses (source.old, world.old) (source.new, world.new)
+        (request_data request.now).calls result
+        (λ r responses. text_sent r ≡ spelled door (json_answer 200 (text_of_calls account.now.user account.now.base responses (request_data request.now).created))) }
 {
     let responses = responses_to(
         alloc,
-        over,
-        bodies,
+        source,
         world,
+        uploads,
         request.using,
         request.calls.as_slice(),
     )?;
@@ -202,8 +199,8 @@ fn untold_text() -> &'static [u8]
     UNTOLD
 }
 
-// A blob that can't be told.
-fn untold_response(alloc: Global, door: Door) -> Result<Response, AllocError>
+/// A blob that can't be told.
+pub fn untold_response(alloc: Global, door: Door) -> Result<Response, AllocError>
     ensures { IfOk result (λ r. text_sent r ≡ spelled door (problem_answer 404 (compact_text untold_problem))) }
 {
     let body = Bytes::copy_of(alloc, untold_text())?;
@@ -225,8 +222,8 @@ fn found_response(
     }
 }
 
-// The same of the mail, where that is told.
-fn told_response<W, B: BodySource<W>>(
+/// The octets that a blob id names in the mail and the uploads. The body of an Email is asked of the source.
+pub fn told_response<W, B: BodySource<W>>(
     alloc: Global,
     door: Door,
     state: &MailState,
@@ -245,35 +242,5 @@ fn told_response<W, B: BodySource<W>>(
         Err(BodyError::Memory) => Err(AllocError),
         Err(BodyError::Ended) => untold_response(alloc, door),
         Ok(found) => found_response(alloc, door, found, media),
-    }
-}
-
-/// The octets that a blob id names in the mail and the uploads. The body of an Email is asked of the source.
-pub fn download_response<W, B: BodySource<W>>(
-    alloc: Global,
-    door: Door,
-    over: &CallContext<'_>,
-    bodies: &mut B,
-    world: &mut W,
-    blob: &[u8],
-    media: Option<&[u8]>,
-) -> Result<Response, AllocError>
-    ensures { AsksAndMakes B.answers B.lacks (bodies.old, world.old) (bodies.new, world.new) result
-        (λ r asks. (o : MailAndUploads) → AreOf o over.now → (answer : Answer)
-        × IsDownload o.mail o.uploads blob.now (option_copied media.entry) asks answer × (text_sent r ≡ spelled door answer))
-        (λ asks. (o : MailAndUploads) → AreOf o over.now → DownloadAsks o.mail o.uploads blob.now asks) }
-{
-    match &over.mail {
-        Mail::Told(state) => told_response(
-            alloc,
-            door,
-            *state,
-            over.uploads,
-            bodies,
-            world,
-            blob,
-            media,
-        ),
-        Mail::Untold(_) => untold_response(alloc, door),
     }
 }

@@ -1,42 +1,40 @@
 // What answers one client after another.
-ghost use Rattle.std.specs.Prelude.{◌≡◌, ◌≢◌, ◌⊎◌, [], List, IfOk, IsSome, OnOk, OnErr, None, Err};
+ghost use Rattle.std.specs.Prelude.{◌≡◌, ◌≢◌, ◌⊎◌, [], List, IfOk, IsSome, OnOk, OnErr, Some, None, Err};
 ghost use Rattle.std.specs.Option.{option_copied};
 ghost use Rattle.gate_world.specs.Causes.{Faults, FrontAlone, Hidden, Later, LinkAlone, NoFault, Rose};
 ghost use Rattle.gate_world.specs.Tape.{Adds};
-ghost use Rattle.email_bodies.specs.Asking.{BodyAsk};
 ghost use Rattle.jmap_core.specs.Request.{request_data};
-ghost use Rattle.jmap_arguments.specs.declared.method_error.MethodError.TheVariants.{ServerUnavailable};
+ghost use Rattle.result_references.specs.Call.{CallData};
 ghost use Rattle.gate_machine.specs.Holding.{unready};
 ghost use Rattle.gate_machine.specs.Progress.{CameTo, Progress};
-ghost use Rattle.gate_machine.specs.declared.standing.MailStatus.TheVariants.{Unserved, Stands};
-ghost use Rattle.gate_calls.specs.Asking.{AsksAndMakes};
-ghost use Rattle.gate_calls.specs.Mailings.{AreOf, MailAndUploads, error_of as error_meant};
+ghost use Rattle.gate_machine.specs.declared.mail_status.MailStatus.TheVariants.{Unserved, Stands};
+ghost use Rattle.gate_calls.specs.Calls.{AnswersCalls};
+ghost use Rattle.gate_calls.specs.Mailings.{error_of as error_meant, mail_at};
 ghost use Rattle.gate_serving.specs.GateState.{GateState, unready_state};
-ghost use Rattle.gate_serving.specs.Answers.{MayKeepUpload, TakesMemory, no_memory_text};
+ghost use Rattle.gate_serving.specs.Answers.{Answer, MayKeepUpload, TakesMemory, calls_text, json_answer, no_memory_text, spelled};
+ghost use Rattle.gate_serving.specs.Doing.{Does};
 ghost use Rattle.gate_serving.specs.Run.{AddsSegment, account_of};
 ghost use Rattle.gate_serving.specs.declared.door.Door.TheVariants.{Bare};
 ghost use Rattle.gate_serving.specs.reading.Askings.{asking_data, at_once_data, over_mail_data};
 ghost use Rattle.gate_serving.specs.Gates.{Comes, GateHolds, OpensTo, RestStays, account_by};
 ghost use Rattle.gate_serving.specs.Segment.{went};
 ghost use Rattle.gate_serving.specs.Requests as spec;
-ghost use Rattle.gate_serving.specs.reading.OneMail.{AsksFirst, IsResponse};
 ghost use Rattle.gate_serving.specs.reading.Replying.{AnswersTo, Finishes, MakesAtOnce, RepliesBy, RepliesToAsking, SendsReply, Serves};
 ghost use Rattle.gate_serving.specs.reading.Texts.{text_sent};
 
 use crate::account::Account;
 use crate::answers::{
-    calls_response, download_response, problem_response, session_response, upload_response,
+    calls_response, problem_response, session_response, told_response, untold_response,
+    upload_response,
 };
 use crate::asking::{Asking, AskingAtOnce, AskingOverMail};
 use crate::door::Door;
-use crate::no_source::NoSource;
 use crate::outcomes::ClientOutcome;
 use crate::reading::read_asking;
 use crate::response::Response;
 use crate::upload::Upload;
 use blob_store::BlobStore;
-use email_bodies::BodySource;
-use gate_calls::{CallContext, Mail};
+use gate_calls::{LentMail, NoMail};
 use gate_machine::{Machine, MailFailure, MailStatus, begin};
 use gate_words::Place;
 use gate_world::{Failed, Front, World};
@@ -218,12 +216,79 @@ impl Gate {
         ensures alone { LinkAlone (W.faults world.old) (W.faults world.new) }
         ensures hidden { W.hidden world.new ≡ W.hidden world.old }
     {
+        match asking {
+            AskingOverMail::Calls(calls) => self.answer_calls(alloc, client, world, &calls.request),
+            AskingOverMail::Download { blob, media } => {
+                self.answer_download(alloc, client, world, blob.as_slice(), media_of(media))
+            }
+        }
+    }
+
+    // The same for method calls, to which what is known of the mail is lent.
+    fn answer_calls<W: World>(
+        &mut self,
+        alloc: Global,
+        client: Client,
+        world: &mut W,
+        request: &Request,
+    ) -> Result<Response, AllocError>
+        requires { IsSome self.old.machine.known }
+        ensures run { Adds (W.tape world.old) (W.tape world.new) (λ es. (p : Progress) (was : Faults)
+            → CameTo self.old.machine client Stands was (W.faults world.old) p
+            → Finishes self.old.door (account_by self.old (W.hidden world.old)) self.old.uploads (spec.Calls (request_data request.now)) p self.new.machine was
+            (W.faults world.new) result es) }
+        ensures rest { RestStays self.old self.new }
+        ensures uploads { self.new.uploads ≡ self.old.uploads }
+        ensures alone { LinkAlone (W.faults world.old) (W.faults world.new) }
+        ensures hidden { W.hidden world.new ≡ W.hidden world.old }
+    {
+        let (served, fetching) = self.machine.lend(client);
+        let mut mail = LentMail { served, fetching };
+        let made = calls_response(
+            alloc,
+            self.door,
+            &self.account,
+            &mut mail,
+            world,
+            &self.uploads,
+            request,
+        );
+        let LentMail { served, fetching } = mail;
+        let mut client = self.machine.take_back(served, fetching);
+        client.leave(world);
+        self.unless_lacking(made)
+    }
+
+    // The same for a download.
+    fn answer_download<W: World>(
+        &mut self,
+        alloc: Global,
+        client: Client,
+        world: &mut W,
+        blob: &[u8],
+        media: Option<&[u8]>,
+    ) -> Result<Response, AllocError>
+        requires { IsSome self.old.machine.known }
+        ensures run { Adds (W.tape world.old) (W.tape world.new) (λ es. (p : Progress) (was : Faults)
+            → CameTo self.old.machine client Stands was (W.faults world.old) p
+            → Finishes self.old.door (account_by self.old (W.hidden world.old)) self.old.uploads (spec.Download blob.now (option_copied media.entry)) p
+            self.new.machine was (W.faults world.new) result es) }
+        ensures rest { RestStays self.old self.new }
+        ensures uploads { self.new.uploads ≡ self.old.uploads }
+        ensures alone { LinkAlone (W.faults world.old) (W.faults world.new) }
+        ensures hidden { W.hidden world.new ≡ W.hidden world.old }
+    {
         let (served, mut fetching) = self.machine.lend(client);
-        let over = CallContext {
-            mail: Mail::Told(served.state()),
-            uploads: &self.uploads,
-        };
-        let made = self.response_over(alloc, &over, &mut fetching, world, asking);
+        let made = told_response(
+            alloc,
+            self.door,
+            served.state(),
+            &self.uploads,
+            &mut fetching,
+            world,
+            blob,
+            media,
+        );
         let mut client = self.machine.take_back(served, fetching);
         client.leave(world);
         self.unless_lacking(made)
@@ -249,47 +314,25 @@ impl Gate {
     {
         let mut client = client;
         client.leave(world);
-        let over = CallContext {
-            mail: Mail::Untold(error),
-            uploads: &self.uploads,
-        };
-        let made = self.response_over(alloc, &over, &mut NoSource, world, asking);
+        let made = self.response_untold(alloc, world, asking, error);
         self.unless_lacking(made)
     }
 
-    // The response to what is answered over mail.
-    fn response_over<W, B: BodySource<W>>(
+    // The response where the mail can't be told.
+    fn response_untold<W>(
         &self,
         alloc: Global,
-        over: &CallContext<'_>,
-        bodies: &mut B,
         world: &mut W,
         asking: &AskingOverMail,
+        error: MethodError,
     ) -> Result<Response, AllocError>
-        ensures { AsksAndMakes B.answers B.lacks (bodies.old, world.old) (bodies.new, world.new) result
-            (λ r asks. (secrets : Hidden) (o : MailAndUploads) → AreOf o over.now
-            → IsResponse self.now.door (account_by self.now secrets) o (over_mail_data asking.now) asks (text_sent r))
-            (λ asks. (o : MailAndUploads) → AreOf o over.now → AsksFirst o (over_mail_data asking.now) asks) }
+        ensures made { IfOk result (λ r. (secrets : Hidden) (p : Progress) → mail_at p ≡ Err error → (answer : Answer)
+            × Does (account_by self.now secrets) self.now.uploads (over_mail_data asking.now) p [] p (Some answer) × (text_sent r ≡ spelled self.now.door answer)) }
+        ensures world { world.new ≡ world.old }
     {
         match asking {
-            AskingOverMail::Calls(calls) => calls_response(
-                alloc,
-                self.door,
-                &self.account,
-                over,
-                bodies,
-                world,
-                &calls.request,
-            ),
-            AskingOverMail::Download { blob, media } => download_response(
-                alloc,
-                self.door,
-                over,
-                bodies,
-                world,
-                blob.as_slice(),
-                media_of(media),
-            ),
+            AskingOverMail::Calls(calls) => self.calls_without(alloc, world, &calls.request, error),
+            AskingOverMail::Download { .. } => untold_response(alloc, self.door),
         }
     }
 
@@ -336,7 +379,10 @@ impl Gate {
         ensures world { world.new ≡ world.old }
     {
         match asking {
-            AskingAtOnce::Calls(calls) => self.calls_without(alloc, world, &calls.request),
+            AskingAtOnce::Calls(calls) => {
+                let error = MethodError::ServerUnavailable;
+                self.calls_without(alloc, world, &calls.request, error)
+            }
             AskingAtOnce::Problem(error) => problem_response(alloc, self.door, *error),
             AskingAtOnce::Session => session_response(alloc, self.door, &self.account),
             AskingAtOnce::Upload(upload) => self.keep(alloc, upload),
@@ -357,29 +403,27 @@ impl Gate {
         }
     }
 
-    // The response to calls that need no mail.
+    // The response to calls without mail: each that needs it has this error.
     fn calls_without<W>(
         &self,
         alloc: Global,
         world: &mut W,
         request: &Request,
+        error: MethodError,
     ) -> Result<Response, AllocError>
-        ensures made { IfOk result (λ r. (secrets : Hidden) → (asks : List BodyAsk)
-            × IsResponse self.now.door (account_by self.now secrets) (record { mail = Err ServerUnavailable; uploads = self.now.uploads })
-            (spec.Calls (request_data request.now)) asks (text_sent r)) }
+        ensures made { IfOk result (λ r. (responses : List CallData)
+            × AnswersCalls (request_data request.now).uses (record { mail = Err error; uploads = self.now.uploads }) (request_data request.now).calls [] responses
+            × ((secrets : Hidden) → text_sent r ≡ spelled self.now.door (json_answer 200 (calls_text (account_by self.now secrets).user (account_by self.now secrets).base
+            responses (request_data request.now).created)))) }
         ensures world { world.new ≡ world.old }
     {
-        let over = CallContext {
-            mail: Mail::Untold(MethodError::ServerUnavailable),
-            uploads: &self.uploads,
-        };
         calls_response(
             alloc,
             self.door,
             &self.account,
-            &over,
-            &mut NoSource,
+            &mut NoMail { error },
             world,
+            &self.uploads,
             request,
         )
     }
@@ -402,6 +446,7 @@ fn error_of(why: MailFailure) -> MethodError
     match why {
         MailFailure::Linked(_) => MethodError::ServerUnavailable,
         MailFailure::Spent => MethodError::ServerFail,
+        MailFailure::Broken => MethodError::ServerUnavailable,
     }
 }
 

@@ -8,7 +8,7 @@ ghost use Rattle.gate_machine.specs.KeptBodies.{KeepsBody};
 ghost use Rattle.gate_machine.specs.ServedFolders.{Serves};
 ghost use Rattle.gate_machine.specs.Sources.{KnowsExchanges};
 ghost use Rattle.mail_state.specs.History.{MailHistory};
-ghost use Rattle.gate_machine.specs.declared.standing.MailStatus.TheVariants.{OutOfMemory};
+ghost use Rattle.gate_machine.specs.declared.mail_status.MailStatus.TheVariants.{OutOfMemory};
 ghost use Rattle.gate_calls.specs.Calling.{Asked};
 ghost use Rattle.gate_calls.specs.Mailings.{mail_at};
 ghost use Rattle.gate_calls.specs.Places.{HasPlaces};

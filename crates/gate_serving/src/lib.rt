@@ -13,7 +13,6 @@ mod upload;
 // The work, and answers.
 mod answers;
 mod line;
-mod no_source;
 mod response;
 
 // One client after another.

@@ -94,8 +94,8 @@ pub trait Front: Taped {
         ensures cause { OnErr result (Rose (Self.faults self.old).front (Self.faults self.new).front) }
         ensures hidden { Self.hidden self.new ≡ Self.hidden self.old };
 
-    /// Gives the client some of the octets, from their front, and says how many it took: at least 1. It fails where it took
-    /// none.
+    /// Gives the client some of the octets, from their front, and says how many it took, or are kept for it: at least 1. It fails
+    /// where that is none.
     fn send(&mut self, from: &[u8]) -> Result<usize, Failed>
         requires { 0 < length from.now }
         ensures bound { IfOk result (λ n. (0 < n) × (n ≤ length from.now)) }
@@ -105,7 +105,8 @@ pub trait Front: Taped {
         ensures cause { OnErr result (Rose (Self.faults self.old).front (Self.faults self.new).front) }
         ensures hidden { Self.hidden self.new ≡ Self.hidden self.old };
 
-    /// This client is done with: nothing more is sent to it, whatever part of an answer it got. It can't fail.
+    /// This client is done with: nothing more is given for it, whatever part of an answer it got; what the front keeps of that may
+    /// be sent yet. It can't fail.
     fn finish(&mut self)
         ensures tape { AddsOne (Self.tape self.old) (Self.tape self.new) ClientDone }
         ensures cause { NoFault (Self.faults self.old) (Self.faults self.new) }

@@ -6,12 +6,12 @@ ghost use Rattle.header_dates.specs.reading.DateReading as reading;
 ghost use Rattle.header_tokens.specs.reading.LexemeReading.{lexemes_in};
 
 use crate::date::{Clock, Day};
-use crate::pieces::{Place, digits, letters, mail_lexeme, octet};
+use crate::pieces::{PartPlace, digits, letters, mail_lexeme, octet};
 use header_tokens::{has_mark, is_atom};
 use text_words::same_text;
 
 /// The colon at the place, and the place after it.
-fn colon(place: Place<'_>) -> Option<(u8, Place<'_>)>
+fn colon(place: PartPlace<'_>) -> Option<(u8, PartPlace<'_>)>
     ensures { MatchOption result (reading.colon_in (reading.pieces_at place.entry) ≡ None) (λ r. reading.colon_in (reading.pieces_at place.entry) ≡ Some (r.0, reading.pieces_at r.1)) }
 {
     let (octet, rest) = octet(place)?;
@@ -76,7 +76,7 @@ pub(crate) fn number_of(low: usize, high: usize, text: &[u8]) -> Option<u32>
 }
 
 /// The number at the place, and the place after it.
-fn number(low: usize, high: usize, place: Place<'_>) -> Option<(u32, Place<'_>)>
+fn number(low: usize, high: usize, place: PartPlace<'_>) -> Option<(u32, PartPlace<'_>)>
     requires { high ≤ 4 }
     ensures value { MatchOption result (reading.number_in low high (reading.pieces_at place.entry) ≡ None) (λ r. reading.number_in low high (reading.pieces_at place.entry) ≡ Some (r.0, reading.pieces_at r.1)) }
     ensures small { IfSome result (λ r. r.0 < 300000) }
@@ -125,7 +125,7 @@ fn month_of(text: &[u8]) -> Option<u32>
 }
 
 /// The month at the place, and the place after it.
-fn month(place: Place<'_>) -> Option<(u32, Place<'_>)>
+fn month(place: PartPlace<'_>) -> Option<(u32, PartPlace<'_>)>
     ensures { MatchOption result (reading.month_in (reading.pieces_at place.entry) ≡ None) (λ r. reading.month_in (reading.pieces_at place.entry) ≡ Some (r.0, reading.pieces_at r.1)) }
 {
     match letters(place) {
@@ -165,7 +165,7 @@ fn whole_year(digits: usize, number: u32) -> u32
 }
 
 /// The year at the place, and the place after it.
-fn year(place: Place<'_>) -> Option<(u32, Place<'_>)>
+fn year(place: PartPlace<'_>) -> Option<(u32, PartPlace<'_>)>
     ensures { MatchOption result (reading.year_in (reading.pieces_at place.entry) ≡ None) (λ r. reading.year_in (reading.pieces_at place.entry) ≡ Some (r.0, reading.pieces_at r.1)) }
 {
     match digits(place) {
@@ -178,7 +178,7 @@ fn year(place: Place<'_>) -> Option<(u32, Place<'_>)>
 }
 
 /// The seconds at the place, which may be missing, and the place after them.
-fn second(place: Place<'_>) -> Option<(u32, Place<'_>)>
+fn second(place: PartPlace<'_>) -> Option<(u32, PartPlace<'_>)>
     ensures { MatchOption result (reading.second_in (reading.pieces_at place.entry) ≡ None) (λ r. reading.second_in (reading.pieces_at place.entry) ≡ Some (r.0, reading.pieces_at r.1)) }
 {
     match colon(place) {
@@ -188,7 +188,7 @@ fn second(place: Place<'_>) -> Option<(u32, Place<'_>)>
 }
 
 /// The day at the place, and the place after it.
-pub(crate) fn day(place: Place<'_>) -> Option<(Day, Place<'_>)>
+pub(crate) fn day(place: PartPlace<'_>) -> Option<(Day, PartPlace<'_>)>
     ensures { MatchOption result (reading.day_in (reading.pieces_at place.entry) ≡ None) (λ r. reading.day_in (reading.pieces_at place.entry) ≡ Some (r.0, reading.pieces_at r.1)) }
 {
     let (day, rest) = number(1, 2, place)?;
@@ -198,7 +198,7 @@ pub(crate) fn day(place: Place<'_>) -> Option<(Day, Place<'_>)>
 }
 
 /// The time of the day at the place, and the place after it.
-pub(crate) fn clock(place: Place<'_>) -> Option<(Clock, Place<'_>)>
+pub(crate) fn clock(place: PartPlace<'_>) -> Option<(Clock, PartPlace<'_>)>
     ensures { MatchOption result (reading.clock_in (reading.pieces_at place.entry) ≡ None) (λ r. reading.clock_in (reading.pieces_at place.entry) ≡ Some (r.0, reading.pieces_at r.1)) }
 {
     let (hour, rest) = number(2, 2, place)?;

@@ -6,7 +6,7 @@ ghost use Rattle.header_dates.specs.reading.DateReading as reading;
 
 use crate::date::{Clock, Day, Moment};
 use crate::dates::{behind_day_name, clock, day};
-use crate::pieces::{Place, next_piece};
+use crate::pieces::{PartPlace, next_piece};
 use crate::zones::zone;
 use header_tokens::{Alphabet, is_row};
 use jiff_core::civil::Date;
@@ -92,7 +92,7 @@ pub fn moment_of(day: Day, clock: Clock, zone: i32) -> Option<Moment>
 }
 
 /// The moment, where nothing is left at the place.
-fn at_end(place: Place<'_>, moment: Option<Moment>) -> Option<Moment>
+fn at_end(place: PartPlace<'_>, moment: Option<Moment>) -> Option<Moment>
     ensures { result ≡ reading.at_end (reading.pieces_at place.entry) moment }
 {
     match next_piece(place) {
@@ -102,7 +102,7 @@ fn at_end(place: Place<'_>, moment: Option<Moment>) -> Option<Moment>
 }
 
 /// The moment of the date at the place.
-fn date_at(place: Place<'_>) -> Option<Moment>
+fn date_at(place: PartPlace<'_>) -> Option<Moment>
     ensures { result ≡ reading.date_in (reading.pieces_at place.entry) }
 {
     let (day, rest) = day(place)?;
@@ -123,5 +123,5 @@ pub fn as_date(alloc: Global, raw: &[u8]) -> Result<Option<Moment>, AllocError>
         return Ok(None);
     }
     let rest = behind_day_name(text);
-    Ok(date_at(Place { atom: &[], rest }))
+    Ok(date_at(PartPlace { atom: &[], rest }))
 }

@@ -27,13 +27,13 @@ pub enum Piece<'a> {
 
 /// A place in a date: what is left of an atom, and the text after the atom.
 #[derive(Clone, Copy)]
-pub struct Place<'a> {
+pub struct PartPlace<'a> {
     pub(crate) atom: &'a [u8],
     pub(crate) rest: &'a [u8],
 }
 
 /// The piece at the place, and the place after it.
-pub(crate) fn next_piece(place: Place<'_>) -> Option<(Piece<'_>, Place<'_>)>
+pub(crate) fn next_piece(place: PartPlace<'_>) -> Option<(Piece<'_>, PartPlace<'_>)>
     ensures { MatchOption result (reading.pieces_at place.entry ≡ []) (λ r. reading.pieces_at place.entry ≡ reading.piece_view r.0 ∷ reading.pieces_at r.1) }
 {
     if place.atom.is_empty() {
@@ -51,7 +51,7 @@ pub(crate) fn mail_lexeme(text: &[u8]) -> Option<(Token<'_>, &[u8])>
 }
 
 /// The piece at the front of the first lexeme.
-fn lexeme_piece(text: &[u8]) -> Option<(Piece<'_>, Place<'_>)>
+fn lexeme_piece(text: &[u8]) -> Option<(Piece<'_>, PartPlace<'_>)>
     ensures { MatchOption result (reading.pieces_behind [] text.now ≡ []) (λ r. reading.pieces_behind [] text.now ≡ reading.piece_view r.0 ∷ reading.pieces_at r.1) }
 {
     match mail_lexeme(text) {
@@ -61,7 +61,7 @@ fn lexeme_piece(text: &[u8]) -> Option<(Piece<'_>, Place<'_>)>
 }
 
 /// The piece at the front of a lexeme, where `rest` follows it.
-fn piece_of<'a>(lexeme: Token<'a>, rest: &'a [u8]) -> (Piece<'a>, Place<'a>)
+fn piece_of<'a>(lexeme: Token<'a>, rest: &'a [u8]) -> (Piece<'a>, PartPlace<'a>)
     requires { lexeme.text.now ≢ [] }
     ensures { dates.pieces_in lexeme.entry.kind lexeme.entry.text.now ++ reading.pieces_behind [] rest.now ≡ reading.piece_view result.0 ∷ reading.pieces_at result.1 }
 {
@@ -69,26 +69,26 @@ fn piece_of<'a>(lexeme: Token<'a>, rest: &'a [u8]) -> (Piece<'a>, Place<'a>)
         Kind::Atom => run_at(lexeme.text, rest),
         Kind::Mark => (
             Piece::Octet(first_octet(lexeme.text)),
-            Place { atom: &[], rest },
+            PartPlace { atom: &[], rest },
         ),
         Kind::Space | Kind::Quoted | Kind::Literal | Kind::Comment => {
-            (Piece::Other, Place { atom: &[], rest })
+            (Piece::Other, PartPlace { atom: &[], rest })
         }
     }
 }
 
 /// The piece at the front of what is left of an atom, where `rest` follows the atom.
-fn run_at<'a>(atom: &'a [u8], rest: &'a [u8]) -> (Piece<'a>, Place<'a>)
+fn run_at<'a>(atom: &'a [u8], rest: &'a [u8]) -> (Piece<'a>, PartPlace<'a>)
     requires { atom.now ≢ [] }
     ensures { reading.pieces_behind atom.now rest.now ≡ reading.piece_view result.0 ∷ reading.pieces_at result.1 }
 {
     let (digits, behind) = cut(&Digit, atom);
     if !digits.is_empty() {
-        return (Piece::Digits(digits), Place { atom: behind, rest });
+        return (Piece::Digits(digits), PartPlace { atom: behind, rest });
     }
     let (letters, behind) = cut(&Alpha, atom);
     if !letters.is_empty() {
-        return (Piece::Letters(letters), Place { atom: behind, rest });
+        return (Piece::Letters(letters), PartPlace { atom: behind, rest });
     }
     match atom {
         [] => unreachable!(),
@@ -97,19 +97,22 @@ fn run_at<'a>(atom: &'a [u8], rest: &'a [u8]) -> (Piece<'a>, Place<'a>)
 }
 
 /// The piece that an octet begins which is neither a digit nor a letter, where `more` of the atom and then `rest` follow.
-fn octet_at<'a>(octet: u8, more: &'a [u8], rest: &'a [u8]) -> (Piece<'a>, Place<'a>)
+fn octet_at<'a>(octet: u8, more: &'a [u8], rest: &'a [u8]) -> (Piece<'a>, PartPlace<'a>)
     requires digit { octets.is_digit octet ≡ false }
     requires letter { octets.is_alpha octet ≡ false }
     ensures { reading.pieces_behind (octet ∷ more.now) rest.now ≡ reading.piece_view result.0 ∷ reading.pieces_at result.1 }
 {
     let (digits, behind) = cut(&Digit, more);
     if digits.is_empty() {
-        return (Piece::Octet(octet), Place { atom: more, rest });
+        return (Piece::Octet(octet), PartPlace { atom: more, rest });
     }
     if !is_plus_or_minus(octet) {
-        return (Piece::Octet(octet), Place { atom: more, rest });
+        return (Piece::Octet(octet), PartPlace { atom: more, rest });
     }
-    (Piece::Signed(octet, digits), Place { atom: behind, rest })
+    (
+        Piece::Signed(octet, digits),
+        PartPlace { atom: behind, rest },
+    )
 }
 
 fn is_plus_or_minus(octet: u8) -> bool
@@ -119,7 +122,7 @@ fn is_plus_or_minus(octet: u8) -> bool
 }
 
 /// The digits at the place, and the place after them.
-pub(crate) fn digits(place: Place<'_>) -> Option<(&[u8], Place<'_>)>
+pub(crate) fn digits(place: PartPlace<'_>) -> Option<(&[u8], PartPlace<'_>)>
     ensures { MatchOption result (reading.digits_in (reading.pieces_at place.entry) ≡ None) (λ r. reading.digits_in (reading.pieces_at place.entry) ≡ Some (r.0.now, reading.pieces_at r.1)) }
 {
     let (piece, rest) = next_piece(place)?;
@@ -130,7 +133,7 @@ pub(crate) fn digits(place: Place<'_>) -> Option<(&[u8], Place<'_>)>
 }
 
 /// The letters at the place, and the place after them.
-pub(crate) fn letters(place: Place<'_>) -> Option<(&[u8], Place<'_>)>
+pub(crate) fn letters(place: PartPlace<'_>) -> Option<(&[u8], PartPlace<'_>)>
     ensures { MatchOption result (reading.letters_in (reading.pieces_at place.entry) ≡ None) (λ r. reading.letters_in (reading.pieces_at place.entry) ≡ Some (r.0.now, reading.pieces_at r.1)) }
 {
     let (piece, rest) = next_piece(place)?;
@@ -141,7 +144,7 @@ pub(crate) fn letters(place: Place<'_>) -> Option<(&[u8], Place<'_>)>
 }
 
 /// The octet at the place, which is neither a digit nor a letter, and the place after it.
-pub(crate) fn octet(place: Place<'_>) -> Option<(u8, Place<'_>)>
+pub(crate) fn octet(place: PartPlace<'_>) -> Option<(u8, PartPlace<'_>)>
     ensures { MatchOption result (reading.octet_in (reading.pieces_at place.entry) ≡ None) (λ r. reading.octet_in (reading.pieces_at place.entry) ≡ Some (r.0, reading.pieces_at r.1)) }
 {
     let (piece, rest) = next_piece(place)?;

@@ -4,7 +4,7 @@ ghost use Rattle.header_dates.specs.Dates as dates;
 ghost use Rattle.header_dates.specs.reading.DateReading as reading;
 
 use crate::dates::number_of;
-use crate::pieces::{Piece, Place, next_piece};
+use crate::pieces::{PartPlace, Piece, next_piece};
 use text_words::same_text;
 
 /// Minutes of a number hhmm.
@@ -104,7 +104,7 @@ fn zone_of(piece: Piece<'_>) -> Option<i32>
 }
 
 /// The zone at the place, and the place after it.
-pub(crate) fn zone(place: Place<'_>) -> Option<(i32, Place<'_>)>
+pub(crate) fn zone(place: PartPlace<'_>) -> Option<(i32, PartPlace<'_>)>
     ensures value { MatchOption result (reading.zone_in (reading.pieces_at place.entry) ≡ None) (λ r. reading.zone_in (reading.pieces_at place.entry) ≡ Some (r.0, reading.pieces_at r.1)) }
     ensures low { IfSome result (λ r. negsuc 1439 ≤ℤ r.0) }
     ensures high { IfSome result (λ r. r.0 ≤ℤ pos 1440) }

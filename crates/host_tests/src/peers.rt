@@ -16,6 +16,8 @@ pub(crate) struct Peers {
     pub(crate) listener: Option<TcpListener>,
     pub(crate) streams: Vec<TcpStream>,
     pub(crate) at: usize,
+    /// How many octets were drained.
+    pub(crate) drained: u64,
     /// It has two owners while a scripted client is open.
     pub(crate) open: Rc<u8>,
 }
@@ -30,6 +32,7 @@ impl Peers {
             listener: Some(listener),
             streams: Vec::new(desk.rt.alloc()),
             at: 0,
+            drained: 0,
             open: Rc::new(desk.rt.alloc(), 0)?,
         })
     }
@@ -75,6 +78,18 @@ impl Peers {
         Ok(put_text(room.get(..count).unwrap_or(&room), out)?)
     }
 
+    /// Reads what comes until none does for a tenth of a second, or the stream has ended, and counts it.
+    fn drain(&mut self) -> io::Result<()> {
+        let mut room = [0u8; 32_768];
+        for _ in 0..10_000 {
+            match self.stream()?.read(&mut room) {
+                Ok(0) | Err(_) => break,
+                Ok(count) => self.drained = self.drained.saturating_add(count as u64),
+            }
+        }
+        Ok(())
+    }
+
     /// Does a step.
     pub(crate) fn act(&mut self, step: Step<'_>, out: &mut String) -> io::Result<()> {
         match step.word {
@@ -82,6 +97,8 @@ impl Peers {
             "meet" => return self.meet(),
             "put" => return self.stream()?.write_all(step.octets),
             "get" => return self.get(out),
+            "drain" => return self.drain(),
+            "drained" => return Ok(write!(out, ":{}", self.drained)?),
             "end" => return self.stream()?.shutdown(Shutdown::Write),
             "leave" => drop(self.streams.pop()),
             "at" => self.at = step.number as usize,

@@ -31,7 +31,8 @@ impl Ticks for SteppingClock {
 
 /// A client that is seen so often to have sent nothing, then so often to have sent a part of a head, and a whole one from then on. It
 /// sends this many octets in pieces of at most so many, and ends then; the first of each piece is an octet of the head, or `.` past it.
-/// With pieces of 0 it sends none and does not end. It takes one octet a turn.
+/// With pieces of 0 it sends none and does not end. It takes one octet where it is waited for, and else so many every second time that it is
+/// given some, and none at the others.
 #[derive(Drop)]
 pub(crate) struct ScriptedClient {
     silent: u64,
@@ -41,6 +42,8 @@ pub(crate) struct ScriptedClient {
     piece: u64,
     head: Vec<u8>,
     given: u64,
+    at_once: usize,
+    takes: bool,
     open: Rc<u8>,
 }
 
@@ -54,6 +57,8 @@ impl ClientStream for ScriptedClient {
     ghost sends = { λ _ _ _ _ _. ⊤ };
 
     ghost gives = { λ _ _ _ _. ⊤ };
+
+    ghost takes = { λ _ _ _ _. ⊤ };
 
     ghost ends = { λ _ _. ⊤ };
 
@@ -91,6 +96,15 @@ impl ClientStream for ScriptedClient {
         from.first().map(|_| 1)
     }
 
+    fn send_now(&mut self, from: &[u8]) -> Option<usize> {
+        let takes = self.takes;
+        self.takes = !takes;
+        match takes {
+            true => Some(self.at_once.min(from.len())),
+            false => Some(0),
+        }
+    }
+
     fn end_writing(&mut self) {}
 
     fn close(self) {}
@@ -111,6 +125,7 @@ pub(crate) fn scripted_of(peers: &Peers, row: &str) -> io::Result<(OneClient, St
     let (steps, row) = first_number(row);
     let (waits, row) = first_number(row);
     let (refuses, row) = first_number(row);
+    let (at_once, row) = first_number(row);
     let (silent, row) = first_number(row);
     let (partly, row) = first_number(row);
     let (octets, row) = first_number(row);
@@ -123,6 +138,8 @@ pub(crate) fn scripted_of(peers: &Peers, row: &str) -> io::Result<(OneClient, St
         piece,
         head: octets_of(peers.desk.rt.alloc(), head)?,
         given: 0,
+        at_once: at_once as usize,
+        takes: false,
         open: peers.open.clone()?,
     };
     let listener = OneClient {

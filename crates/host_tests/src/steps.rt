@@ -51,6 +51,22 @@ impl<C: Clients> Scenario<C> {
         }
     }
 
+    /// Sends so many octets to the client, as long as it is not late. Adds how many were taken.
+    fn fill(&mut self, step: Step<'_>, out: &mut String) -> Result<(), AllocError> {
+        let octets = vec![in self.peers.desk.rt.alloc(); b'.'; step.number as usize]?;
+        let mut taken: usize = 0;
+        for _ in 0..octets.len() {
+            match self.world.send(octets.get(taken..).unwrap_or(&[])) {
+                Ok(count) => taken = taken.saturating_add(count),
+                Err(_) => break,
+            }
+            if taken >= octets.len() {
+                break;
+            }
+        }
+        write!(out, ":{taken}")
+    }
+
     /// Adds whether the link's stream is to the listener, and how long its reads and writes wait.
     fn put_stream(&self, out: &mut String) -> Result<(), AllocError> {
         let Some(stream) = &self.world.link.stream else {
@@ -67,6 +83,7 @@ impl<C: Clients> Scenario<C> {
             "accept" => write!(out, ":{:?}", self.world.accept()),
             "recv" | "take" | "read" => self.receive(step, out),
             "send" => write!(out, ":{:?}", self.world.send(step.octets)),
+            "fill" => self.fill(step, out),
             "finish" => Ok(self.world.finish()),
             "quit" => Ok(self.world.front.end()),
             "dial" => write!(out, ":{:?}", self.world.dial()),

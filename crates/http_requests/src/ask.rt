@@ -8,7 +8,7 @@ ghost use Rattle.http_requests.specs.Asking.{AsksOverHttp};
 use crate::asking::{AskError, HttpAsking};
 use blob_store::MAX_UPLOAD_OCTETS;
 use gate_world::{Front, Secrets};
-use http_routes::{Request, Route, Routes, is_token};
+use http_routes::{Route, RouteRequest, Routes, is_token};
 use http_service::{Head, HttpError, Refusal, Spare, read_body, read_head};
 use octets::{Bytes, Text};
 use std::alloc::{AllocError, Global};
@@ -55,7 +55,7 @@ fn route_of_head(
 {
     let path = String::from_utf8_lossy(alloc, head.path.as_slice())?;
     let query = String::from_utf8_lossy(alloc, head.query.as_slice())?;
-    let request = Request {
+    let request = RouteRequest {
         method: head.method.as_slice(),
         path: path.as_str(),
         query: query.as_str(),

@@ -15,7 +15,7 @@ mod token;
 // Laws.
 pub mod laws;
 
-pub use request::Request;
+pub use request::RouteRequest;
 pub use route::Route;
 pub use router::{Kind, Routes};
 pub use token::is_token;

@@ -8,7 +8,7 @@ ghost use Rattle.http_routes.specs.reading.Parts as reading;
 
 use crate::accept::media_in;
 use crate::parts::{account_part, blob_part, decoded, name_part};
-use crate::{Kind, Request, Routes};
+use crate::{Kind, RouteRequest, Routes};
 use octets::Bytes;
 use std::alloc::{AllocError, Global};
 
@@ -62,7 +62,7 @@ fn is_of_account(alloc: Global, account: &[u8], path: &str) -> Result<bool, Allo
 }
 
 /// The download that the path and the query name.
-fn download(alloc: Global, request: Request<'_>) -> Result<Route, AllocError>
+fn download(alloc: Global, request: RouteRequest<'_>) -> Result<Route, AllocError>
     ensures { IfOk result (λ route. route
         ≡ spec.download (reading.blob_part request.entry.path.now) (reading.name_part request.entry.path.now) request.entry.query.now) }
 {
@@ -74,7 +74,7 @@ fn download(alloc: Global, request: Request<'_>) -> Result<Route, AllocError>
 }
 
 /// The route to an upload, where the path is of one.
-fn upload(alloc: Global, account: &[u8], request: Request<'_>) -> Result<Route, AllocError>
+fn upload(alloc: Global, account: &[u8], request: RouteRequest<'_>) -> Result<Route, AllocError>
     ensures { IfOk result (λ route. route ≡ spec.route_to (Some (UploadResource (reading.account_part request.entry.path.now)))
         account.now request.entry.method.now request.entry.query.now) }
 {
@@ -85,7 +85,11 @@ fn upload(alloc: Global, account: &[u8], request: Request<'_>) -> Result<Route, 
 }
 
 /// The route to a download, where the path is of one.
-fn download_of(alloc: Global, account: &[u8], request: Request<'_>) -> Result<Route, AllocError>
+fn download_of(
+    alloc: Global,
+    account: &[u8],
+    request: RouteRequest<'_>,
+) -> Result<Route, AllocError>
     ensures { IfOk result (λ route. route ≡ spec.route_to
         (Some (DownloadResource (reading.account_part request.entry.path.now) (reading.blob_part request.entry.path.now)
         (reading.name_part request.entry.path.now)))
@@ -105,7 +109,7 @@ fn route_of_kind(
     alloc: Global,
     account: &[u8],
     kind: Option<Kind>,
-    request: Request<'_>,
+    request: RouteRequest<'_>,
 ) -> Result<Route, AllocError>
     ensures { IfOk result (λ route. route ≡ spec.route_to (resource_of kind request.entry.path.now)
         account.now request.entry.method.now request.entry.query.now) }
@@ -126,7 +130,7 @@ impl Routes {
         &self,
         alloc: Global,
         account: &[u8],
-        request: Request<'_>,
+        request: RouteRequest<'_>,
     ) -> Result<Route, AllocError>
         ensures { IfOk result (λ route. IsRoute account.now request.entry.method.now request.entry.path.now request.entry.query.now route) }
     {

@@ -1,6 +1,6 @@
 // Routes of targets, and tokens.
 use crate::written::{or_dash, put_all};
-use http_routes::{Request, Route, Routes, is_token};
+use http_routes::{Route, RouteRequest, Routes, is_token};
 use std::alloc::{AllocError, Global};
 use test_rows::first_word;
 
@@ -8,7 +8,7 @@ use test_rows::first_word;
 pub(crate) fn put_route(alloc: Global, text: &str, out: &mut String) -> Result<(), AllocError> {
     let (method, target) = first_word(text);
     let (path, query) = target.split_once('?').unwrap_or((target, ""));
-    let request = Request {
+    let request = RouteRequest {
         method: method.as_bytes(),
         path,
         query,

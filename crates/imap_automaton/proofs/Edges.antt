@@ -3,7 +3,7 @@ use Rattle.std.proofs.Common.{◌≡◌, ℕ, zero, ◌≤◌, true, false, List
 use Rattle.std.specs.Prelude.{◌==◌, nat_le}
 use Rattle.std.proofs.lemmas.Bool.{leb-true, and_parts, cond-false}
 use Rattle.imap_keywords.specs.declared.key.Key.{Key}
-use Rattle.imap_keywords.specs.declared.key.Place.{Place}
+use Rattle.imap_keywords.specs.declared.key.WordPlace.{WordPlace}
 use Rattle.imap_keywords.specs.declared.phrase.Phrase.TheVariants as phrase
 use Rattle.imap_automaton.specs.declared.sym.Line.TheVariants as line
 use Rattle.imap_automaton.specs.declared.sym.Item.TheVariants as item
@@ -37,10 +37,10 @@ use Rattle.imap_automaton.proofs.WordEdges.{word_back, word_forth, word_empty, w
 use Rattle.imap_automaton.proofs.LineEdges.{line_edge_back, line_edge_forth, line_empty, line_example}
 use Rattle.imap_types.specs.Octets.{is_atom}
 
-word_le : (place : Place) (key : Key) (at : ℕ) → SymFits (sym.Word place key at) ≡ true → at ≤ length (key_text key)
+word_le : (place : WordPlace) (key : Key) (at : ℕ) → SymFits (sym.Word place key at) ≡ true → at ≤ length (key_text key)
 word_le place key at fits = leb-true _ _ (and_parts (nat_le at (length (key_text key))) (is_among key (keys place)) fits).0
 
-word_among : (place : Place) (key : Key) (at : ℕ) → SymFits (sym.Word place key at) ≡ true → is_among key (keys place) ≡ true
+word_among : (place : WordPlace) (key : Key) (at : ℕ) → SymFits (sym.Word place key at) ≡ true → is_among key (keys place) ≡ true
 word_among place key at fits = (and_parts (nat_le at (length (key_text key))) (is_among key (keys place)) fits).1
 
 -- a fitting symbol reads an octet and any text that its rule still reads after it

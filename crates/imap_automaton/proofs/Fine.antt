@@ -4,8 +4,8 @@ use Rattle.std.specs.Prelude.{◌==◌, nat_lt, nat_le, get_or, take}
 use Rattle.std.proofs.lemmas.Bool.{and_parts, and_from, le-leb, ltb-true, lt-ltb, eqb-false}
 use Rattle.imap_keywords.specs.declared.key.Key.{Key}
 use Rattle.imap_keywords.specs.declared.key.Key.TheVariants as key
-use Rattle.imap_keywords.specs.declared.key.Place.{Place}
-use Rattle.imap_keywords.specs.declared.key.Place.TheVariants as place
+use Rattle.imap_keywords.specs.declared.key.WordPlace.{WordPlace}
+use Rattle.imap_keywords.specs.declared.key.WordPlace.TheVariants as place
 use Rattle.imap_keywords.specs.declared.phrase.Phrase.{Phrase}
 use Rattle.imap_keywords.specs.declared.phrase.Phrase.TheVariants as phrase
 use Rattle.imap_keywords.specs.declared.count.Pending.{Pending}
@@ -197,7 +197,7 @@ name_fine s c = fine_by true false 2 (nat_lt c 256) (c == 32 && may_end s) (move
     next_fine : (n : ItemName) (c : ℕ) → nat_lt c 256 ≡ true → fine true false 2 (nat_lt c 256) (move.One (sym.ItemName n)) ≡ true
     next_fine n c e = rw e refl
 
-behind_fine : (p : Place) (k q : Key) (at c : ℕ) → fine (ends_open (sym.Word p q at)) false (need (sym.Word p q at)) (nat_lt c 256) (behind_key p k c) ≡ true
+behind_fine : (p : WordPlace) (k q : Key) (at c : ℕ) → fine (ends_open (sym.Word p q at)) false (need (sym.Word p q at)) (nat_lt c 256) (behind_key p k c) ≡ true
 behind_fine place.Tagged key.Ok q at c = rest_fine false 4 c (omega arith)
 behind_fine place.Tagged key.No q at c = rest_fine false 4 c (omega arith)
 behind_fine place.Tagged key.Bad q at c = rest_fine false 4 c (omega arith)
@@ -239,21 +239,21 @@ behind_fine place.Item key.BodyPart q at c = spaced_fine true 2 (sym.Str str.NSt
 behind_fine place.Month k q at c = time_fine 0 c
 behind_fine _ _ q at c = refl
 
-stray_fine : (p : Place) (q : Key) (at c : ℕ) → fine (ends_open (sym.Word p q at)) false (need (sym.Word p q at)) (nat_lt c 256) (stray p q at c) ≡ true
+stray_fine : (p : WordPlace) (q : Key) (at c : ℕ) → fine (ends_open (sym.Word p q at)) false (need (sym.Word p q at)) (nat_lt c 256) (stray p q at c) ≡ true
 stray_fine place.Tagged q at c = refl
 stray_fine place.Plain q at c = text_fine 4 pending.Nothing c (omega arith) refl
 stray_fine place.Numbered q at c = text_fine 4 pending.Nothing c (omega arith) refl
 stray_fine place.Item q at c = name_fine (name_from name.Plain (take at (key_text q))) c
 stray_fine place.Month q at c = refl
 
-in_word_small : (p : Place) (c : ℕ) → in_word p c ≡ true → nat_lt c 256 ≡ true
+in_word_small : (p : WordPlace) (c : ℕ) → in_word p c ≡ true → nat_lt c 256 ≡ true
 in_word_small place.Tagged c e = grind arith
 in_word_small place.Plain c e = grind arith
 in_word_small place.Numbered c e = grind arith
 in_word_small place.Item c e = grind arith
 in_word_small place.Month c e = grind arith
 
-same_word : (p : Place) (k q : Key) (at n : ℕ) → (ends_open (sym.Word p k at) ≡ ends_open (sym.Word p q n)) × (need (sym.Word p k at) ≡ need (sym.Word p q n))
+same_word : (p : WordPlace) (k q : Key) (at n : ℕ) → (ends_open (sym.Word p k at) ≡ ends_open (sym.Word p q n)) × (need (sym.Word p k at) ≡ need (sym.Word p q n))
 same_word place.Tagged k q at n = (refl, refl)
 same_word place.Plain k q at n = (refl, refl)
 same_word place.Numbered k q at n = (refl, refl)
@@ -263,7 +263,7 @@ same_word place.Month k q at n = (refl, refl)
 not_or_self : (a b : Bool) → a ≡ b → (not a || b) ≡ true
 not_or_self a b e = grind arith
 
-goes_fine : (p : Place) (k : Key) (at c : ℕ) (o : Option Key) → is_among k (keys p) ≡ true → next_key p k at (lower c) ≡ o → in_word p c ≡ true
+goes_fine : (p : WordPlace) (k : Key) (at c : ℕ) (o : Option Key) → is_among k (keys p) ≡ true → next_key p k at (lower c) ≡ o → in_word p c ≡ true
     → fine (ends_open (sym.Word p k at)) false (need (sym.Word p k at)) (nat_lt c 256) (word_goes p k at c o) ≡ true
 goes_fine p k at c (Some x) m e i =
     let f = find_some (goes_on k at (lower c)) (k ∷ keys p) x e in
@@ -273,11 +273,11 @@ goes_fine p k at c (Some x) m e i =
     (not_or_self _ _ w.0)) (le-leb (need (sym.Word p x (at + 1))) (need (sym.Word p k at)) (omega (arith, w.1)))) refl
 goes_fine p k at c None m e i = stray_fine p k at c
 
-ends_fine : (p : Place) (k : Key) (at c : ℕ) (o : Option Key) → fine (ends_open (sym.Word p k at)) false (need (sym.Word p k at)) (nat_lt c 256) (word_ends p k at c o) ≡ true
+ends_fine : (p : WordPlace) (k : Key) (at c : ℕ) (o : Option Key) → fine (ends_open (sym.Word p k at)) false (need (sym.Word p k at)) (nat_lt c 256) (word_ends p k at c o) ≡ true
 ends_fine p k at c (Some x) = behind_fine p x k at c
 ends_fine p k at c None = stray_fine p k at c
 
-word_fine : (p : Place) (k : Key) (at c : ℕ) → is_among k (keys p) ≡ true
+word_fine : (p : WordPlace) (k : Key) (at c : ℕ) → is_among k (keys p) ≡ true
     → fine (ends_open (sym.Word p k at)) false (need (sym.Word p k at)) (nat_lt c 256) (word_rule p k at c) ≡ true
 word_fine p k at c m = fine_by (ends_open (sym.Word p k at)) false (need (sym.Word p k at)) (nat_lt c 256) (in_word p c) (word_goes p k at c (next_key p k at (lower c)))
     (cond (at == 0) move.Fail (word_ends p k at c (whole_key p k at)))

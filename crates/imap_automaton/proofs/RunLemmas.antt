@@ -4,7 +4,7 @@ use Rattle.std.specs.Prelude.{◌==◌}
 use Rattle.std.proofs.lemmas.Bool.{cond-true, cond-false}
 use Rattle.imap_keywords.specs.declared.key.Key.{Key}
 use Rattle.imap_keywords.specs.declared.phrase.Phrase.TheVariants as phrase
-use Rattle.imap_keywords.specs.declared.key.Place.{Place}
+use Rattle.imap_keywords.specs.declared.key.WordPlace.{WordPlace}
 use Rattle.imap_automaton.specs.declared.sym.Sym.{Sym}
 use Rattle.imap_automaton.specs.declared.sym.Sym.TheVariants as sym
 use Rattle.imap_automaton.specs.declared.sym.Names.TheVariants as names
@@ -27,7 +27,7 @@ pub one_fits : (s a : Sym) (c : ℕ) → SymFits s ≡ true → rule_of s c ≡ 
 one_fits s a c fits e = room.one_fits responses responses_lawful s a c fits e
 
 -- a word that goes on with its key
-pub word_stays : (p : Place) (k : Key) (at c : ℕ) → in_word p c ≡ true → goes_on k at (lower c) k ≡ true → word_rule p k at c ≡ move.One (sym.Word p k (at + 1))
+pub word_stays : (p : WordPlace) (k : Key) (at c : ℕ) → in_word p c ≡ true → goes_on k at (lower c) k ≡ true → word_rule p k at c ≡ move.One (sym.Word p k (at + 1))
 word_stays p k at c i g = rw (i, g) refl
 
 -- an atom that goes on

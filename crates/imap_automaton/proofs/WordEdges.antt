@@ -6,8 +6,8 @@ use Rattle.std.proofs.lemmas.Bool.{eqb-true, eqb-false, eq-eqb, cond-false}
 use Rattle.std.proofs.lemmas.List.{length-append, length-take-le, append-nil, take-append-drop}
 use Rattle.imap_keywords.specs.declared.key.Key.{Key}
 use Rattle.imap_keywords.specs.declared.key.Key.TheVariants as key
-use Rattle.imap_keywords.specs.declared.key.Place.{Place}
-use Rattle.imap_keywords.specs.declared.key.Place.TheVariants as place
+use Rattle.imap_keywords.specs.declared.key.WordPlace.{WordPlace}
+use Rattle.imap_keywords.specs.declared.key.WordPlace.TheVariants as place
 use Rattle.imap_keywords.specs.declared.count.Pending.TheVariants as pending
 use Rattle.imap_keywords.specs.declared.phrase.Phrase.TheVariants as phrase
 use Rattle.imap_automaton.specs.declared.sym.Line.TheVariants as line
@@ -81,7 +81,7 @@ spaced_back s c t h = from_test (c == 32) (move.One s) move.Fail t (IsSpaced (La
 spaced_forth : (s : Sym) (c : ℕ) (t : List ℕ) → IsSpaced (Lang s) (c ∷ t) → AfterMove (spaced_rule (move.One s) c) t
 spaced_forth s c t h = at_true (c == 32) (move.One s) move.Fail t (eq-eqb c 32 (cons_head c 32 t h.0 h.1)) (subst (Lang s) (sym (cons_tail c 32 t h.0 h.1)) h.2)
 
-behind_back : (p : Place) (k : Key) (c : ℕ) (t : List ℕ) → AfterMove (behind_key p k c) t → IsBehind p k (c ∷ t)
+behind_back : (p : WordPlace) (k : Key) (c : ℕ) (t : List ℕ) → AfterMove (behind_key p k c) t → IsBehind p k (c ∷ t)
 behind_back place.Tagged key.Ok c t h = rest_back c t h
 behind_back place.Tagged key.No c t h = rest_back c t h
 behind_back place.Tagged key.Bad c t h = rest_back c t h
@@ -111,7 +111,7 @@ behind_back place.Item key.BodyPart c t h = spaced_back (sym.Str str.NString) c 
 behind_back place.Month k c t h = time_back 0 c t h
 behind_back _ _ c t h = absurd h
 
-behind_forth : (p : Place) (k : Key) (c : ℕ) (t : List ℕ) → IsBehind p k (c ∷ t) → AfterMove (behind_key p k c) t
+behind_forth : (p : WordPlace) (k : Key) (c : ℕ) (t : List ℕ) → IsBehind p k (c ∷ t) → AfterMove (behind_key p k c) t
 behind_forth place.Tagged key.Ok c t h = rest_forth c t h
 behind_forth place.Tagged key.No c t h = rest_forth c t h
 behind_forth place.Tagged key.Bad c t h = rest_forth c t h
@@ -148,7 +148,7 @@ rest_none (inr w) = let e = w.1 in cc
 spaced_none : (L : List ℕ → Type 0) → IsSpaced L [] → ⊥
 spaced_none L h = let e = h.1 in cc
 
-behind_none : (p : Place) (k : Key) → IsBehind p k [] → ⊥
+behind_none : (p : WordPlace) (k : Key) → IsBehind p k [] → ⊥
 behind_none place.Tagged key.Ok h = rest_none h
 behind_none place.Tagged key.No h = rest_none h
 behind_none place.Tagged key.Bad h = rest_none h
@@ -180,14 +180,14 @@ behind_none _ _ h = h
 
 -- ---- at a word that is no key
 
-stray_back : (p : Place) (k : Key) (at c : ℕ) (t : List ℕ) → AfterMove (stray p k at c) t → IsStray p (take at (key_text k)) (c ∷ t)
+stray_back : (p : WordPlace) (k : Key) (at c : ℕ) (t : List ℕ) → AfterMove (stray p k at c) t → IsStray p (take at (key_text k)) (c ∷ t)
 stray_back place.Plain k at c t h = text_back pending.Nothing c t h
 stray_back place.Numbered k at c t h = text_back pending.Nothing c t h
 stray_back place.Tagged k at c t h = absurd h
 stray_back place.Item k at c t h = item_name_back (name_from name.Plain (take at (key_text k))) c t h
 stray_back place.Month k at c t h = absurd h
 
-stray_forth : (p : Place) (k : Key) (at c : ℕ) (t : List ℕ) → IsStray p (take at (key_text k)) (c ∷ t) → AfterMove (stray p k at c) t
+stray_forth : (p : WordPlace) (k : Key) (at c : ℕ) (t : List ℕ) → IsStray p (take at (key_text k)) (c ∷ t) → AfterMove (stray p k at c) t
 stray_forth place.Plain k at c t h = text_forth pending.Nothing c t h
 stray_forth place.Numbered k at c t h = text_forth pending.Nothing c t h
 stray_forth place.Tagged k at c t h = absurd h
@@ -208,7 +208,7 @@ month_is : (c : ℕ) → in_word place.Month c ≡ true → is_text c ≡ true
 month_is c e = grind arith
 
 -- an octet that may stand in a word of a place may stand in text
-pub word_text : (p : Place) (c : ℕ) → in_word p c ≡ true → is_text c ≡ true
+pub word_text : (p : WordPlace) (c : ℕ) → in_word p c ≡ true → is_text c ≡ true
 word_text place.Tagged c e = word_is c e
 word_text place.Plain c e = word_is c e
 word_text place.Numbered c e = word_is c e
@@ -223,7 +223,7 @@ text_goes c t e f h = subst (λ s. FreeLang (free.Text s) t) (pend_none c f) (go
 pub text_comes : (c : ℕ) (t : List ℕ) → is_text c ≡ true → (c == 123) ≡ false → FreeLang (free.Text pending.Nothing) t → FreeLang (free.Text pending.Nothing) (c ∷ t)
 text_comes c t e f h = goes_back pending.Nothing c t e (subst (λ s. FreeLang (free.Text s) t) (sym (pend_none c f)) h)
 
-stray_goes : (p : Place) (begun : List ℕ) (c : ℕ) (t : List ℕ) → in_word p c ≡ true → (c == 123) ≡ false → IsStray p begun (c ∷ t) → IsStray p (begun ++ lower c ∷ []) t
+stray_goes : (p : WordPlace) (begun : List ℕ) (c : ℕ) (t : List ℕ) → in_word p c ≡ true → (c == 123) ≡ false → IsStray p begun (c ∷ t) → IsStray p (begun ++ lower c ∷ []) t
 stray_goes place.Plain begun c t e f h = text_goes c t (word_text place.Plain c e) f h
 stray_goes place.Numbered begun c t e f h = text_goes c t (word_text place.Numbered c e) f h
 stray_goes place.Tagged begun c t e f h = h
@@ -234,7 +234,7 @@ stray_goes place.Month begun c t e f h = h
 abbrev GoesOn : List ℕ → ℕ → Type 0
 GoesOn begun c = (x : Key) × (y : List ℕ) × (begun ++ lower c ∷ y ≡ key_text x)
 
-stray_comes : (p : Place) (begun : List ℕ) (c : ℕ) (t : List ℕ) → in_word p c ≡ true → (c == 123) ≡ false → GoesOn begun c → IsStray p (begun ++ lower c ∷ []) t
+stray_comes : (p : WordPlace) (begun : List ℕ) (c : ℕ) (t : List ℕ) → in_word p c ≡ true → (c == 123) ≡ false → GoesOn begun c → IsStray p (begun ++ lower c ∷ []) t
     → IsStray p begun (c ∷ t)
 stray_comes place.Plain begun c t e f g h = text_comes c t (word_text place.Plain c e) f h
 stray_comes place.Numbered begun c t e f g h = text_comes c t (word_text place.Numbered c e) f h
@@ -245,7 +245,7 @@ stray_comes place.Month begun c t e f g h = h
 -- ---- the longest run of a word
 
 -- the octet 0 may stand in no word
-pub no_word_zero : (p : Place) → in_word p 0 ≡ false
+pub no_word_zero : (p : WordPlace) → in_word p 0 ≡ false
 no_word_zero place.Tagged = refl
 no_word_zero place.Plain = refl
 no_word_zero place.Numbered = refl
@@ -254,18 +254,18 @@ no_word_zero place.Month = refl
 
 -- ---- an octet of the word
 
-says_goes : (p : Place) (begun : List ℕ) (c : ℕ) (w tail t : List ℕ) → in_word p c ≡ true → (c == 123) ≡ false → WordSays p begun (begun ++ map lower (c ∷ w)) tail (c ∷ t)
+says_goes : (p : WordPlace) (begun : List ℕ) (c : ℕ) (w tail t : List ℕ) → in_word p c ≡ true → (c == 123) ≡ false → WordSays p begun (begun ++ map lower (c ∷ w)) tail (c ∷ t)
     → WordSays p (begun ++ lower c ∷ []) ((begun ++ lower c ∷ []) ++ map lower w) tail t
 says_goes p begun c w tail t e f (inl k) = inl (k.0, k.1, append_assoc begun (lower c ∷ []) (map lower w) ∙ k.2, k.3)
 says_goes p begun c w tail t e f (inr s) = inr (λ k m q. s.0 k m (sym (append_assoc begun (lower c ∷ []) (map lower w)) ∙ q), stray_goes p begun c t e f s.1)
 
-says_comes : (p : Place) (begun : List ℕ) (c : ℕ) (w tail t : List ℕ) → in_word p c ≡ true → (c == 123) ≡ false → GoesOn begun c
+says_comes : (p : WordPlace) (begun : List ℕ) (c : ℕ) (w tail t : List ℕ) → in_word p c ≡ true → (c == 123) ≡ false → GoesOn begun c
     → WordSays p (begun ++ lower c ∷ []) ((begun ++ lower c ∷ []) ++ map lower w) tail t → WordSays p begun (begun ++ map lower (c ∷ w)) tail (c ∷ t)
 says_comes p begun c w tail t e f g (inl k) = inl (k.0, k.1, sym (append_assoc begun (lower c ∷ []) (map lower w)) ∙ k.2, k.3)
 says_comes p begun c w tail t e f g (inr s) = inr (λ k m q. s.0 k m (append_assoc begun (lower c ∷ []) (map lower w) ∙ q), stray_comes p begun c t e f g s.1)
 
 -- the word's text is taken from the text of its front
-goes_forth_at : (p : Place) (k : Key) (at c : ℕ) (t w tail : List ℕ) (o : Option Key) → next_key p k at (lower c) ≡ o → at ≤ length (key_text k) → in_word p c ≡ true
+goes_forth_at : (p : WordPlace) (k : Key) (at c : ℕ) (t w tail : List ℕ) (o : Option Key) → next_key p k at (lower c) ≡ o → at ≤ length (key_text k) → in_word p c ≡ true
     → t ≡ w ++ tail → Each (in_word p) w → in_word p (get_or tail 0 0) ≡ false → WordSays p (take at (key_text k)) (take at (key_text k) ++ map lower (c ∷ w)) tail (c ∷ t)
     → AfterMove (word_goes p k at c o) t
 goes_forth_at p k at c t w tail (Some x) e le i whole each longest says =
@@ -290,7 +290,7 @@ goes_whole : (k x : Key) (at c : ℕ) → take (at + 1) (key_text x) ≡ take at
 goes_whole k x at c e = sym (append_assoc (take at (key_text k)) (c ∷ []) (drop (at + 1) (key_text x))) ∙ ap (λ (u : List ℕ). u ++ drop (at + 1) (key_text x)) (sym e)
     ∙ take-append-drop (at + 1) (key_text x)
 
-goes_back_at : (p : Place) (k : Key) (at c : ℕ) (t : List ℕ) (o : Option Key) → next_key p k at (lower c) ≡ o → at ≤ length (key_text k) → in_word p c ≡ true
+goes_back_at : (p : WordPlace) (k : Key) (at c : ℕ) (t : List ℕ) (o : Option Key) → next_key p k at (lower c) ≡ o → at ≤ length (key_text k) → in_word p c ≡ true
     → AfterMove (word_goes p k at c o) t → WordRest p (take at (key_text k)) (c ∷ t)
 goes_back_at p k at c t (Some x) e le i h =
     let f = find_some (goes_on k at (lower c)) (k ∷ keys p) x e in
@@ -319,7 +319,7 @@ goes_back_at p k at c t None e le i h =
 
 -- ---- an octet after the word
 
-ends_forth : (p : Place) (k : Key) (at c : ℕ) (t : List ℕ) (o : Option Key) → whole_key p k at ≡ o → at ≤ length (key_text k) → is_among k (keys p) ≡ true
+ends_forth : (p : WordPlace) (k : Key) (at c : ℕ) (t : List ℕ) (o : Option Key) → whole_key p k at ≡ o → at ≤ length (key_text k) → is_among k (keys p) ≡ true
     → WordSays p (take at (key_text k)) (take at (key_text k) ++ []) (c ∷ t) (c ∷ t) → AfterMove (word_ends p k at c o) t
 ends_forth p k at c t (Some x) e le m (inl y) =
     let f = find_some (is_whole k at) (k ∷ keys p) x e in
@@ -331,7 +331,7 @@ ends_forth p k at c t (Some x) e le m (inr s) =
 ends_forth p k at c t None e le m (inl y) = absurd (find_none (is_whole k at) (k ∷ keys p) y.0 e (inr y.1) (whole_from k y.0 at le (sym (append-nil (take at (key_text k))) ∙ y.2)))
 ends_forth p k at c t None e le m (inr s) = stray_forth p k at c t s.1
 
-ends_back : (p : Place) (k : Key) (at c : ℕ) (t : List ℕ) (o : Option Key) → whole_key p k at ≡ o → at ≤ length (key_text k) → is_among k (keys p) ≡ true
+ends_back : (p : WordPlace) (k : Key) (at c : ℕ) (t : List ℕ) (o : Option Key) → whole_key p k at ≡ o → at ≤ length (key_text k) → is_among k (keys p) ≡ true
     → AfterMove (word_ends p k at c o) t → WordSays p (take at (key_text k)) (take at (key_text k) ++ []) (c ∷ t) (c ∷ t)
 ends_back p k at c t (Some x) e le m h =
     let f = find_some (is_whole k at) (k ∷ keys p) x e in
@@ -342,7 +342,7 @@ ends_back p k at c t None e le m h =
 -- ---- the group
 
 -- a word begun as a key of its place reads an octet and any text that its rule still reads after it
-pub word_back : (p : Place) (k : Key) (at c : ℕ) (t : List ℕ) → at ≤ length (key_text k) → is_among k (keys p) ≡ true → AfterMove (word_rule p k at c) t
+pub word_back : (p : WordPlace) (k : Key) (at c : ℕ) (t : List ℕ) → at ≤ length (key_text k) → is_among k (keys p) ≡ true → AfterMove (word_rule p k at c) t
     → WordRest p (take at (key_text k)) (c ∷ t)
 word_back p k at c t le m h = from_test (in_word p c) (word_goes p k at c (next_key p k at (lower c))) (cond (at == 0) move.Fail (word_ends p k at c (whole_key p k at))) t
     (WordRest p (take at (key_text k)) (c ∷ t))
@@ -359,7 +359,7 @@ word_back p k at c t le m h = from_test (in_word p c) (word_goes p k at c (next_
       says = ends_back p k at c t (whole_key p k at) refl le m l;
     }) g) h
 
-word_at : (p : Place) (k : Key) (at c : ℕ) (t w tail : List ℕ) → at ≤ length (key_text k) → is_among k (keys p) ≡ true → c ∷ t ≡ w ++ tail → Each (in_word p) w
+word_at : (p : WordPlace) (k : Key) (at c : ℕ) (t w tail : List ℕ) → at ≤ length (key_text k) → is_among k (keys p) ≡ true → c ∷ t ≡ w ++ tail → Each (in_word p) w
     → 0 < length (take at (key_text k)) + length w → in_word p (get_or tail 0 0) ≡ false → WordSays p (take at (key_text k)) (take at (key_text k) ++ map lower w) tail (c ∷ t)
     → AfterMove (word_rule p k at c) t
 word_at p k at c t [] tail le m e each some longest says =
@@ -379,17 +379,17 @@ word_at p k at c t (d ∷ w) tail le m e each some longest says =
     (subst (λ (q : ℕ). WordSays p (take at (key_text k)) (take at (key_text k) ++ map lower (q ∷ w)) tail (c ∷ t)) same says))
 
 -- where a word begun as a key of its place reads an octet and a text, its rule still reads the text after the octet
-pub word_forth : (p : Place) (k : Key) (at c : ℕ) (t : List ℕ) → at ≤ length (key_text k) → is_among k (keys p) ≡ true → WordRest p (take at (key_text k)) (c ∷ t)
+pub word_forth : (p : WordPlace) (k : Key) (at c : ℕ) (t : List ℕ) → at ≤ length (key_text k) → is_among k (keys p) ≡ true → WordRest p (take at (key_text k)) (c ∷ t)
     → AfterMove (word_rule p k at c) t
 word_forth p k at c t le m h = word_at p k at c t h.word h.tail le m h.whole h.each h.some h.longest h.says
 
 -- the rest of a word and what follows it aren't the empty text
-pub word_empty : (p : Place) (begun : List ℕ) → WordRest p begun [] → ⊥
+pub word_empty : (p : WordPlace) (begun : List ℕ) → WordRest p begun [] → ⊥
 word_empty p begun h =
     let n = no_append h.word h.tail h.whole in
     by h.says n.1
   where
-    stray_none : (p : Place) → IsStray p begun [] → ⊥
+    stray_none : (p : WordPlace) → IsStray p begun [] → ⊥
     stray_none place.Plain s = free_empty (free.Text pending.Nothing) refl s
     stray_none place.Numbered s = free_empty (free.Text pending.Nothing) refl s
     stray_none place.Tagged s = s
@@ -402,7 +402,7 @@ word_empty p begun h =
 
 -- ---- an example of each
 
-key_example : (p : Place) (k : Key) (at : ℕ) (tail : List ℕ) → at ≤ length (key_text k) → Among k (keys p) → in_word p (get_or tail 0 0) ≡ false → IsBehind p k tail
+key_example : (p : WordPlace) (k : Key) (at : ℕ) (tail : List ℕ) → at ≤ length (key_text k) → Among k (keys p) → in_word p (get_or tail 0 0) ≡ false → IsBehind p k tail
     → WordRest p (take at (key_text k)) (drop at (key_text k) ++ tail)
 key_example p k at tail le m out b = record {
   word = drop at (key_text k);
@@ -415,7 +415,7 @@ key_example p k at tail le m out b = record {
   says = inl (k, m, ap (λ (u : List ℕ). take at (key_text k) ++ u) (key_lower k at) ∙ take-append-drop at (key_text k), b);
 }
 
-stray_example : (p : Place) (k : Key) (at : ℕ) → in_word p 33 ≡ true → in_word p 13 ≡ false → IsStray p (take at (key_text k)) (33 ∷ crlf)
+stray_example : (p : WordPlace) (k : Key) (at : ℕ) → in_word p 33 ≡ true → in_word p 13 ≡ false → IsStray p (take at (key_text k)) (33 ∷ crlf)
     → WordRest p (take at (key_text k)) (33 ∷ crlf)
 stray_example p k at i o s = record {
   word = 33 ∷ [];
@@ -435,7 +435,7 @@ nil_example : (k : Key) (at : ℕ) → at ≤ length (key_text k) → is_among k
 nil_example k at le m b = key_example place.Item k at (32 ∷ codes "nil") le (is_among_is k (keys place.Item) m) refl b
 
 -- a word begun as a key of its place reads some text
-pub word_example : (p : Place) (k : Key) (at : ℕ) → at ≤ length (key_text k) → is_among k (keys p) ≡ true → (t : List ℕ) × WordRest p (take at (key_text k)) t
+pub word_example : (p : WordPlace) (k : Key) (at : ℕ) → at ≤ length (key_text k) → is_among k (keys p) ≡ true → (t : List ℕ) × WordRest p (take at (key_text k)) t
 word_example place.Plain k at le m = (33 ∷ crlf, stray_example place.Plain k at refl refl bang_line)
 word_example place.Numbered k at le m = (33 ∷ crlf, stray_example place.Numbered k at refl refl bang_line)
 word_example place.Tagged key.Ok at le m = (drop at (codes "ok") ++ crlf, key_example place.Tagged key.Ok at crlf le (is_among_is key.Ok (keys place.Tagged) m) refl (inl refl))

@@ -1,6 +1,6 @@
 -- Dates.
 use Rattle.std.specs.Prelude.{ℕ, ◌+◌, Bool, ◌&&◌, ◌||◌, nat_lt, ◌==◌, if◌then◌else◌}
-use Rattle.imap_keywords.specs.declared.key.Place.TheVariants as place
+use Rattle.imap_keywords.specs.declared.key.WordPlace.TheVariants as place
 use Rattle.imap_automaton.specs.declared.sym.Date.{Date}
 use Rattle.imap_automaton.specs.declared.sym.Date.TheVariants as date
 use Rattle.imap_automaton.specs.declared.sym.Sym.{Sym}

@@ -1,7 +1,7 @@
 -- Which symbol may end before an octet, which begins with one that ends those, how many may stand on a stack, and what is
 -- left of literals.
 use Rattle.std.specs.Prelude.{ℕ, zero, Bool, true, false, ◌||◌, ◌==◌}
-use Rattle.imap_keywords.specs.declared.key.Place.TheVariants as place
+use Rattle.imap_keywords.specs.declared.key.WordPlace.TheVariants as place
 use Rattle.imap_keywords.specs.declared.phrase.Phrase.TheVariants as phrase
 use Rattle.imap_automaton.specs.declared.sym.Line.TheVariants as line
 use Rattle.imap_automaton.specs.declared.sym.Free.TheVariants as free

@@ -2,8 +2,8 @@
 use Rattle.std.specs.Prelude.{◌≡◌, ◌⊎◌, ℕ, zero, suc, ◌+◌, ◌<◌, ◌≤◌, Bool, true, false, List, [], ◌∷◌, ◌++◌, length, map, take, drop, get_or, ℤ}
 use Rattle.imap_keywords.specs.declared.key.Key.{Key}
 use Rattle.imap_keywords.specs.declared.key.Key.TheVariants as key
-use Rattle.imap_keywords.specs.declared.key.Place.{Place}
-use Rattle.imap_keywords.specs.declared.key.Place.TheVariants as place
+use Rattle.imap_keywords.specs.declared.key.WordPlace.{WordPlace}
+use Rattle.imap_keywords.specs.declared.key.WordPlace.TheVariants as place
 use Rattle.imap_keywords.specs.declared.count.Pending.{Pending}
 use Rattle.imap_keywords.specs.declared.count.Pending.TheVariants as pending
 use Rattle.imap_automaton.specs.declared.sym.Line.{Line}
@@ -146,7 +146,7 @@ SetLang (set.Number value digits second) t = Then (NumberRest value digits) (Num
 -- ---- words
 
 -- what follows a key
-abbrev pub IsBehind : Place → Key → List ℕ → Type 0
+abbrev pub IsBehind : WordPlace → Key → List ℕ → Type 0
 IsBehind place.Tagged key.Ok t = IsRest t
 IsBehind place.Tagged key.No t = IsRest t
 IsBehind place.Tagged key.Bad t = IsRest t
@@ -177,19 +177,19 @@ IsBehind place.Month k t = TimeRest 0 t
 IsBehind _ _ t = ⊥
 
 -- the text of a word that is no key and began so
-abbrev pub IsStray : Place → List ℕ → List ℕ → Type 0
+abbrev pub IsStray : WordPlace → List ℕ → List ℕ → Type 0
 IsStray place.Plain begun t = FreeLang (free.Text pending.Nothing) t
 IsStray place.Numbered begun t = FreeLang (free.Text pending.Nothing) t
 IsStray place.Item begun t = NameRest (name_from name.Plain begun) t
 IsStray _ begun t = ⊥
 
-abbrev pub WordSays : Place → List ℕ → List ℕ → List ℕ → List ℕ → Type 0
+abbrev pub WordSays : WordPlace → List ℕ → List ℕ → List ℕ → List ℕ → Type 0
 WordSays place begun word tail t =
     ((k : Key) × Among k (keys place) × (word ≡ key_text k) × IsBehind place k tail)
     ⊎ (((k : Key) → Among k (keys place) → word ≡ key_text k → ⊥) × IsStray place begun t)
 
 -- the rest of a word that began so, and what follows it
-pub record WordRest (place : Place) (begun t : List ℕ) : Type 0 where
+pub record WordRest (place : WordPlace) (begun t : List ℕ) : Type 0 where
   pub word : List ℕ
   pub tail : List ℕ
   pub whole : t ≡ word ++ tail

@@ -2,8 +2,8 @@
 use Rattle.std.specs.Prelude.{ℕ, ◌+◌, ◌-◌, ◌*◌, ◌&&◌, nat_lt, nat_le, ◌==◌, if◌then◌else◌, length, get_or}
 use Rattle.imap_keywords.specs.declared.phrase.Phrase.{Phrase}
 use Rattle.imap_keywords.specs.declared.phrase.Phrase.TheVariants as phrase
-use Rattle.imap_keywords.specs.declared.key.Place.{Place}
-use Rattle.imap_keywords.specs.declared.key.Place.TheVariants as place
+use Rattle.imap_keywords.specs.declared.key.WordPlace.{WordPlace}
+use Rattle.imap_keywords.specs.declared.key.WordPlace.TheVariants as place
 use Rattle.imap_keywords.specs.declared.count.Pending.TheVariants as pending
 use Rattle.imap_automaton.specs.declared.sym.Line.{Line}
 use Rattle.imap_automaton.specs.declared.sym.Line.TheVariants as line
@@ -16,7 +16,7 @@ use Rattle.imap_automaton.specs.FreeRules.{text_rule}
 use Rattle.imap_automaton.specs.WordRules.{word_rule}
 use Rattle.imap_types.specs.Octets.{is_digit, is_alnum, is_text, lower}
 
-abbrev pub word_start : Place → Sym
+abbrev pub word_start : WordPlace → Sym
 word_start p = sym.Word p (first_key p) 0
 
 -- a number goes on as one, up to ten digits and 2^32 - 1, or else is a word

@@ -2,8 +2,8 @@
 use Rattle.std.specs.Prelude.{ℕ, ◌+◌, ◌==◌, if◌then◌else◌, take, Option, Some, None}
 use Rattle.imap_keywords.specs.declared.key.Key.{Key}
 use Rattle.imap_keywords.specs.declared.key.Key.TheVariants as key
-use Rattle.imap_keywords.specs.declared.key.Place.{Place}
-use Rattle.imap_keywords.specs.declared.key.Place.TheVariants as place
+use Rattle.imap_keywords.specs.declared.key.WordPlace.{WordPlace}
+use Rattle.imap_keywords.specs.declared.key.WordPlace.TheVariants as place
 use Rattle.imap_keywords.specs.declared.count.Pending.TheVariants as pending
 use Rattle.imap_keywords.specs.declared.phrase.Phrase.TheVariants as phrase
 use Rattle.imap_automaton.specs.declared.sym.Line.TheVariants as line
@@ -40,7 +40,7 @@ abbrev pub end_rule : ℕ → Move Sym
 end_rule c = if c == 13 then move.One (sym.Line (line.Fixed phrase.Crlf 1)) else move.Fail
 
 -- after a word that is a key
-abbrev pub behind_key : Place → Key → ℕ → Move Sym
+abbrev pub behind_key : WordPlace → Key → ℕ → Move Sym
 behind_key place.Tagged key.Ok c = rest_rule c
 behind_key place.Tagged key.No c = rest_rule c
 behind_key place.Tagged key.Bad c = rest_rule c
@@ -71,21 +71,21 @@ behind_key place.Month k c = time_rule 0 c
 behind_key _ _ c = move.Fail
 
 -- at a word that is none
-abbrev pub stray : Place → Key → ℕ → ℕ → Move Sym
+abbrev pub stray : WordPlace → Key → ℕ → ℕ → Move Sym
 stray place.Plain key at c = text_rule pending.Nothing c
 stray place.Numbered key at c = text_rule pending.Nothing c
 stray place.Item key at c = item_name_rule (name_from name.Plain (take at (key_text key))) c
 stray _ key at c = move.Fail
 
-abbrev pub word_goes : Place → Key → ℕ → ℕ → Option Key → Move Sym
+abbrev pub word_goes : WordPlace → Key → ℕ → ℕ → Option Key → Move Sym
 word_goes place key at c (Some k) = move.One (sym.Word place k (at + 1))
 word_goes place key at c None = stray place key at c
 
-abbrev pub word_ends : Place → Key → ℕ → ℕ → Option Key → Move Sym
+abbrev pub word_ends : WordPlace → Key → ℕ → ℕ → Option Key → Move Sym
 word_ends place key at c (Some k) = behind_key place k c
 word_ends place key at c None = stray place key at c
 
-abbrev pub word_rule : Place → Key → ℕ → ℕ → Move Sym
+abbrev pub word_rule : WordPlace → Key → ℕ → ℕ → Move Sym
 word_rule place key at c =
     if in_word place c then word_goes place key at c (next_key place key at (lower c))
     else if at == 0 then move.Fail

@@ -3,7 +3,7 @@ ghost use Rattle.std.specs.Prelude.{◌≡◌};
 ghost use Rattle.imap_automaton.specs.DateRules as rules;
 
 use crate::sym::{Date, Sym};
-use imap_keywords::{Key, Place, is_digit};
+use imap_keywords::{Key, WordPlace, is_digit};
 use pushdown::Move;
 
 /// The octets between the quote and the month.
@@ -43,7 +43,7 @@ fn day_rule(at: u8, c: u16) -> Move<Sym>
 {
     if at < DAY_LEN && day_octet(at, c) {
         if at + 1 == DAY_LEN {
-            Move::One(Sym::Word(Place::Month, Key::Jan, 0))
+            Move::One(Sym::Word(WordPlace::Month, Key::Jan, 0))
         } else {
             Move::One(Sym::Date(Date::Day(at + 1)))
         }

@@ -6,7 +6,7 @@ ghost use Rattle.imap_automaton.specs.Fits.{FreeFits};
 ghost use Rattle.imap_keywords.specs.Counts.{PendFits};
 
 use crate::sym::{Free, Line, Sym};
-use imap_keywords::{CR, LF, LITERAL_LIMIT, Pending, Phrase, is_text, pend};
+use imap_keywords::{CR, LF, MAX_LITERAL_OCTETS, Pending, Phrase, is_text, pend};
 use pushdown::Move;
 
 fn free_end(pending: Pending) -> Move<Sym>
@@ -14,7 +14,7 @@ fn free_end(pending: Pending) -> Move<Sym>
 {
     match pending {
         Pending::Closed(v) => {
-            if v <= LITERAL_LIMIT {
+            if v <= MAX_LITERAL_OCTETS {
                 Move::Two(
                     Sym::Free(Free::Break(v)),
                     Sym::Free(Free::Text(Pending::Nothing)),

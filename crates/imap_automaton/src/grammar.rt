@@ -20,7 +20,7 @@ use crate::word_rule::word_rule;
 use pushdown::{Move, Symbol};
 
 /// Octets that may stand outside literals in one response.
-pub const LIMIT: u32 = 8_388_608;
+pub const MAX_RESPONSE_OCTETS: u32 = 8_388_608;
 
 // Where it and the groups' rules are inlined, the tests of the octet for all symbols are made for each.
 #[inline(never)]
@@ -52,7 +52,7 @@ impl Symbol for Sym {
     }
 
     fn limit() -> u32 {
-        LIMIT
+        MAX_RESPONSE_OCTETS
     }
 
     fn rule(&self, c: u16) -> Move<Sym> {

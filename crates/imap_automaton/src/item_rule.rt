@@ -4,14 +4,14 @@ ghost use Rattle.imap_automaton.specs.ItemRules as rules;
 ghost use Rattle.imap_automaton.specs.Fits.{ItemFits};
 
 use crate::sym::{Item, Line, Sym};
-use imap_keywords::{Key, Phrase, Place, is_digit};
+use imap_keywords::{Key, Phrase, WordPlace, is_digit};
 use pushdown::Move;
 
 /// Digits of a number.
 pub const NUMBER_DIGITS: u8 = 10;
 
 /// A word of an item, from its first octet on.
-const ITEM_START: Sym = Sym::Word(Place::Item, Key::Uid, 0);
+const ITEM_START: Sym = Sym::Word(WordPlace::Item, Key::Uid, 0);
 
 /// A number from 1 to 2^32 - 1, of which these digits came: what an octet does.
 pub fn number_rule(value: u32, digits: u8, c: u16) -> Move<Sym>

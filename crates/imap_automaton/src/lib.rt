@@ -21,6 +21,6 @@ mod word_rule;
 mod grammar;
 mod runs;
 
-pub use grammar::LIMIT;
-pub use imap_keywords::{Key, Pending, Phrase, Place};
+pub use grammar::MAX_RESPONSE_OCTETS;
+pub use imap_keywords::{Key, Pending, Phrase, WordPlace};
 pub use sym::{Date, Folder, Free, Item, ItemName, Line, Names, Set, Str, Sym, Value, Words};

@@ -9,14 +9,14 @@ use crate::item_rule::NUMBER_DIGITS;
 use crate::sym::{Line, Sym};
 use crate::word_rule::word_rule;
 use imap_keywords::{
-    CR, Pending, Phrase, Place, first_key, is_alnum, is_digit, is_text, lower, phrase_text,
+    CR, Pending, Phrase, WordPlace, first_key, is_alnum, is_digit, is_text, lower, phrase_text,
 };
 use pushdown::Move;
 
 /// Octets of a tag.
-const TAG_LIMIT: u8 = 32;
+const MAX_TAG_OCTETS: u8 = 32;
 
-fn word_start(place: Place) -> Sym
+fn word_start(place: WordPlace) -> Sym
     ensures { result ≡ rules.word_start place }
 {
     Sym::Word(place, first_key(place), 0)
@@ -43,8 +43,8 @@ fn tag_rule(n: u8, c: u16) -> Move<Sym>
     ensures { result ≡ rules.line_rule (Line.Tag n) c }
 {
     if c == b' ' as u16 {
-        Move::One(word_start(Place::Tagged))
-    } else if is_alnum(c) && n < TAG_LIMIT {
+        Move::One(word_start(WordPlace::Tagged))
+    } else if is_alnum(c) && n < MAX_TAG_OCTETS {
         Move::One(Sym::Line(Line::Tag(n + 1)))
     } else {
         Move::Fail
@@ -57,7 +57,7 @@ fn untagged_rule(c: u16) -> Move<Sym>
     if is_digit(c) {
         Move::One(Sym::Line(Line::Sequence((c - b'0' as u16) as u32, 1)))
     } else {
-        word_rule(Place::Plain, first_key(Place::Plain), 0, c)
+        word_rule(WordPlace::Plain, first_key(WordPlace::Plain), 0, c)
     }
 }
 
@@ -71,7 +71,7 @@ pub fn sequence_rule(value: u32, digits: u8, c: u16) -> Move<Sym>
     {
         Move::One(Sym::Line(Line::Sequence(10 * value + (c - b'0' as u16) as u32, digits + 1)))
     } else if c == b' ' as u16 {
-        Move::One(word_start(Place::Numbered))
+        Move::One(word_start(WordPlace::Numbered))
     } else {
         text_rule(Pending::Nothing, c)
     }

@@ -9,7 +9,7 @@ ghost use Rattle.pushdown.specs.Run.{LeadsTo};
 use crate::item_rule::{long_rule, number_rule};
 use crate::line_rule::sequence_rule;
 use crate::sym::{Item, Line, Names, Sym};
-use imap_keywords::{Key, Place, is_atom, is_text, key_text, lower};
+use imap_keywords::{Key, WordPlace, is_atom, is_text, key_text, lower};
 use pushdown::Move;
 
 /// Whether the text goes on with the octet, in letters of either case.
@@ -21,7 +21,7 @@ fn goes_with(text: &[u8], at: usize, c: u16) -> bool
 
 /// How many octets at the front go on with the key.
 #[tactic(auto, using(imap_keywords::proofs::KeyLemmas::keys_short))]
-fn word_run(place: Place, key: Key, at: u8, octets: &[u8]) -> usize
+fn word_run(place: WordPlace, key: Key, at: u8, octets: &[u8]) -> usize
     requires { at ≤ length (keywords.key_text key) }
     ensures within { result ≤ length octets.now }
     ensures key { at + result ≤ length (keywords.key_text key) }

@@ -4,7 +4,9 @@ ghost use Rattle.imap_automaton.specs.StringRules as rules;
 ghost use Rattle.imap_automaton.specs.Fits.{StrFits};
 
 use crate::sym::{Free, Line, Names, Str, Sym};
-use imap_keywords::{COUNT_DIGITS, CR, LITERAL_LIMIT, Phrase, is_atom, is_digit, is_text, lower};
+use imap_keywords::{
+    COUNT_DIGITS, CR, MAX_LITERAL_OCTETS, Phrase, is_atom, is_digit, is_text, lower,
+};
 use pushdown::Move;
 
 /// A literal's count, from its first digit on.
@@ -115,7 +117,7 @@ fn count_rule(value: u32, digits: u8, c: u16) -> Move<Sym>
 {
     if is_digit(c) {
         let next = 10 * value + (c - b'0' as u16) as u32;
-        if digits < COUNT_DIGITS && next <= LITERAL_LIMIT {
+        if digits < COUNT_DIGITS && next <= MAX_LITERAL_OCTETS {
             Move::One(Sym::Str(Str::Count(next, digits + 1)))
         } else {
             Move::Fail

@@ -1,5 +1,5 @@
 // The symbols of the automaton's stack, in groups, and what an octet does to the first of them.
-use imap_keywords::{Key, Pending, Phrase, Place};
+use imap_keywords::{Key, Pending, Phrase, WordPlace};
 
 /// Within a line.
 #[derive(Clone, Copy)]
@@ -181,7 +181,7 @@ pub enum Sym {
     /// The front of a line, text without literals up to its end, and fixed texts.
     Line(Line),
     /// Within a word, whose octets so far are the first n of the key's.
-    Word(Place, Key, u8),
+    Word(WordPlace, Key, u8),
     /// The rest of a line that isn't told, and the octets of any literal.
     Free(Free),
     /// The items of a FETCH with their numbers, and the numbers of a STATUS.

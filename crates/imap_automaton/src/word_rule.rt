@@ -10,7 +10,7 @@ use crate::item_name_rule::{item_name_rule, next_name};
 use crate::set_rule::words_more;
 use crate::sym::{Date, Folder, Item, ItemName, Line, Names, Set, Str, Sym};
 use imap_keywords::{
-    CR, Key, Pending, Phrase, Place, in_word, key_text, lower, next_key, whole_key,
+    CR, Key, Pending, Phrase, WordPlace, in_word, key_text, lower, next_key, whole_key,
 };
 use pushdown::Move;
 
@@ -58,7 +58,7 @@ fn end_rule(c: u16) -> Move<Sym>
 }
 
 fn flags_rule(c: u16) -> Move<Sym>
-    ensures { result ≡ rules.behind_key Place.Plain Key.Flags c }
+    ensures { result ≡ rules.behind_key WordPlace.Plain Key.Flags c }
 {
     spaced_pair_rule(
         Sym::Names(Names::Open),
@@ -68,38 +68,38 @@ fn flags_rule(c: u16) -> Move<Sym>
 }
 
 fn list_rule(c: u16) -> Move<Sym>
-    ensures { result ≡ rules.behind_key Place.Plain Key.List c }
+    ensures { result ≡ rules.behind_key WordPlace.Plain Key.List c }
 {
     spaced_pair_rule(Sym::Names(Names::Open), Sym::Folder(Folder::Attributes), c)
 }
 
 fn status_rule(c: u16) -> Move<Sym>
-    ensures { result ≡ rules.behind_key Place.Plain Key.Status c }
+    ensures { result ≡ rules.behind_key WordPlace.Plain Key.Status c }
 {
     spaced_pair_rule(Sym::Str(Str::AString), Sym::Folder(Folder::Counts), c)
 }
 
 /// After a word that is a key.
-fn behind_key(place: Place, key: Key, c: u16) -> Move<Sym>
+fn behind_key(place: WordPlace, key: Key, c: u16) -> Move<Sym>
     ensures { result ≡ rules.behind_key place key c }
 {
     match (place, key) {
-        (Place::Tagged, Key::Ok | Key::No | Key::Bad) => rest_rule(c),
-        (Place::Plain, Key::Ok | Key::No | Key::Bad | Key::Preauth | Key::Bye) => rest_rule(c),
-        (Place::Plain, Key::Capability | Key::Enabled) => words_more(c),
-        (Place::Plain, Key::Flags) => flags_rule(c),
-        (Place::Plain, Key::Vanished) => spaced_rule(Sym::Set(Set::Open), c),
-        (Place::Plain, Key::List) => list_rule(c),
-        (Place::Plain, Key::Status) => status_rule(c),
-        (Place::Numbered, Key::Exists | Key::Expunge) => end_rule(c),
-        (Place::Numbered, Key::Fetch) => spaced_rule(Sym::Item(Item::Open), c),
-        (Place::Item, Key::Uid) => spaced_rule(Sym::Item(Item::Number(0, 0)), c),
-        (Place::Item, Key::Flags) => spaced_rule(Sym::Names(Names::Open), c),
-        (Place::Item, Key::ModSeq) => spaced_rule(Sym::Item(Item::LongOpen), c),
-        (Place::Item, Key::InternalDate) => spaced_rule(Sym::Date(Date::Open), c),
-        (Place::Month, _) => time_rule(0, c),
-        (Place::Item, Key::Size) => spaced_rule(Sym::Item(Item::Long(0, 0)), c),
-        (Place::Item, Key::Header | Key::HeaderPart | Key::Body | Key::BodyPart) => {
+        (WordPlace::Tagged, Key::Ok | Key::No | Key::Bad) => rest_rule(c),
+        (WordPlace::Plain, Key::Ok | Key::No | Key::Bad | Key::Preauth | Key::Bye) => rest_rule(c),
+        (WordPlace::Plain, Key::Capability | Key::Enabled) => words_more(c),
+        (WordPlace::Plain, Key::Flags) => flags_rule(c),
+        (WordPlace::Plain, Key::Vanished) => spaced_rule(Sym::Set(Set::Open), c),
+        (WordPlace::Plain, Key::List) => list_rule(c),
+        (WordPlace::Plain, Key::Status) => status_rule(c),
+        (WordPlace::Numbered, Key::Exists | Key::Expunge) => end_rule(c),
+        (WordPlace::Numbered, Key::Fetch) => spaced_rule(Sym::Item(Item::Open), c),
+        (WordPlace::Item, Key::Uid) => spaced_rule(Sym::Item(Item::Number(0, 0)), c),
+        (WordPlace::Item, Key::Flags) => spaced_rule(Sym::Names(Names::Open), c),
+        (WordPlace::Item, Key::ModSeq) => spaced_rule(Sym::Item(Item::LongOpen), c),
+        (WordPlace::Item, Key::InternalDate) => spaced_rule(Sym::Date(Date::Open), c),
+        (WordPlace::Month, _) => time_rule(0, c),
+        (WordPlace::Item, Key::Size) => spaced_rule(Sym::Item(Item::Long(0, 0)), c),
+        (WordPlace::Item, Key::Header | Key::HeaderPart | Key::Body | Key::BodyPart) => {
             spaced_rule(Sym::Str(Str::NString), c)
         }
         _ => Move::Fail,
@@ -120,19 +120,19 @@ fn name_of(key: Key, at: u8) -> ItemName
 }
 
 /// At a word that is no key, after octets that are the first n of the key's.
-fn stray(place: Place, key: Key, at: u8, c: u16) -> Move<Sym>
+fn stray(place: WordPlace, key: Key, at: u8, c: u16) -> Move<Sym>
     requires { at ≤ length (keywords.key_text key) }
     ensures { result ≡ rules.stray place key at c }
 {
     match place {
-        Place::Plain => text_rule(Pending::Nothing, c),
-        Place::Numbered => text_rule(Pending::Nothing, c),
-        Place::Item => item_name_rule(name_of(key, at), c),
+        WordPlace::Plain => text_rule(Pending::Nothing, c),
+        WordPlace::Numbered => text_rule(Pending::Nothing, c),
+        WordPlace::Item => item_name_rule(name_of(key, at), c),
         _ => Move::Fail,
     }
 }
 
-fn word_goes(place: Place, key: Key, at: u8, c: u16, next: Option<Key>) -> Move<Sym>
+fn word_goes(place: WordPlace, key: Key, at: u8, c: u16, next: Option<Key>) -> Move<Sym>
     requires within { at ≤ length (keywords.key_text key) }
     requires most { at < 255 }
     ensures { result ≡ rules.word_goes place key at c next }
@@ -143,7 +143,7 @@ fn word_goes(place: Place, key: Key, at: u8, c: u16, next: Option<Key>) -> Move<
     }
 }
 
-fn word_ends(place: Place, key: Key, at: u8, c: u16, whole: Option<Key>) -> Move<Sym>
+fn word_ends(place: WordPlace, key: Key, at: u8, c: u16, whole: Option<Key>) -> Move<Sym>
     requires { at ≤ length (keywords.key_text key) }
     ensures { result ≡ rules.word_ends place key at c whole }
 {
@@ -155,7 +155,7 @@ fn word_ends(place: Place, key: Key, at: u8, c: u16, whole: Option<Key>) -> Move
 
 /// Words by which a reader decides: what an octet does.
 #[inline(never)]
-pub fn word_rule(place: Place, key: Key, at: u8, c: u16) -> Move<Sym>
+pub fn word_rule(place: WordPlace, key: Key, at: u8, c: u16) -> Move<Sym>
     requires { IsTrue (nat_le at (length (keywords.key_text key))) }
     ensures { result ≡ rules.word_rule place key at c }
 {

@@ -14,7 +14,7 @@ use Rattle.imap_types.specs.declared.response.Status.TheVariants as status
 use Rattle.imap_types.specs.Commands.{command_pieces, command_text}
 use Rattle.told_folder.specs.declared.exchange.Exchange.{Exchange}
 use Rattle.told_folder.specs.declared.message.Folder.{Folder}
-use Rattle.told_folder.specs.declared.message.Held.{Held}
+use Rattle.told_folder.specs.declared.message.NumberedFolder.{NumberedFolder}
 use Rattle.told_mail.specs.Mail.{Mail}
 use Rattle.told_mail.specs.Exchanges.{tell}
 use Rattle.imap_exchange.specs.Exchanges.{IsTaken}
@@ -28,7 +28,7 @@ use Rattle.imap_client.specs.declared.round.RoundStage.{RoundStage}
 use Rattle.imap_client.specs.declared.round.RoundStage.TheVariants as stage
 use Rattle.imap_client.specs.Connecting.{is_ok}
 use Rattle.imap_client.specs.LinkLife.{LinkLife, ClientState, next_number, selected, selected_after, special_use}
-use Rattle.imap_client.specs.Plans.{Planned, Ran, Begun, Then, IsEnd, Finished, Failed, Broken, Gone, Wanting}
+use Rattle.imap_client.specs.Plans.{Planned, Ran, Begun, Then, IsEnd, Finished, Failed, Broken, LifeHadEnded, Wanting}
 use Rattle.imap_client.specs.Rounds.{Rounds, RoundState, round_due, round_step, round_from, of_folder, headers_of, is_sliced, slice_of}
 use Rattle.imap_client.specs.Rounds.{new_of, uid_next_told, selectable_from, selecting, next_stage, fetching, fetched_stage, selected_stage, is_sliced_in}
 use Rattle.imap_client.specs.Rounds.{is_slicing, obeyed, round_after}
@@ -132,7 +132,7 @@ obeyed_by : {asked : Command} (m : Mail) (x : Exchange) → due.Send asked ≡ d
 obeyed_by {asked} m x is ok = record { command_is = send_same asked x.command is; ok = ok; told = refl }
 
 -- an exchange about the folder at a place
-abbrev answered_by : {at : ℕ} {command_for : Folder → Command} (m : Mail) (x : Exchange) (h : Held) → slice_get m.folders at ≡ Some h
+abbrev answered_by : {at : ℕ} {command_for : Folder → Command} (m : Mail) (x : Exchange) (h : NumberedFolder) → slice_get m.folders at ≡ Some h
     → due.Send (command_for h.folder) ≡ due.Send x.command → x.status ≡ status.Ok → AnsweredAt at command_for m
 answered_by m x h there is ok = record { place = record { held = h; there = there }; exchange = x; after = tell m x; obeyed = obeyed_by m x is ok }
 
@@ -148,7 +148,7 @@ visits_of : (from : ℕ) (m : Mail) (xs : List Exchange) → DoesFrom (next_stag
 visits_of from m xs so = visits_by from m xs (selectable_from from (drop from m.folders)) refl so
 
 -- headers were fetched
-headers_by : (at uid_next : ℕ) (m : Mail) (x : Exchange) (xs : List Exchange) (h : Held) (sliced : Bool) → slice_get m.folders at ≡ Some h → is_sliced uid_next h.folder ≡ sliced
+headers_by : (at uid_next : ℕ) (m : Mail) (x : Exchange) (xs : List Exchange) (h : NumberedFolder) (sliced : Bool) → slice_get m.folders at ≡ Some h → is_sliced uid_next h.folder ≡ sliced
     → (if sliced then due.Send (slice_of h.folder) else due.Send (new_of h.folder)) ≡ due.Send x.command → x.status ≡ status.Ok
     → DoesFrom (fetched_stage sliced at uid_next (tell m x)) (tell m x) xs → Parts (FetchesHeaders at uid_next) (at + 1) m (x ∷ xs)
 headers_by at uid_next m x xs h true there is here ok (front, rest, mid, parts, fetches, visits) =
@@ -156,14 +156,14 @@ headers_by at uid_next m x xs h true there is here ok (front, rest, mid, parts, 
 headers_by at uid_next m x xs h false there is here ok so =
     (x ∷ [], xs, tell m x, refl, Rest (answered_by m x h there here ok) is, visits_of (at + 1) (tell m x) xs so)
 
-headers_at : (at uid_next : ℕ) (m : Mail) (x : Exchange) (xs : List Exchange) (found : Option Held) → slice_get m.folders at ≡ found
+headers_at : (at uid_next : ℕ) (m : Mail) (x : Exchange) (xs : List Exchange) (found : Option NumberedFolder) → slice_get m.folders at ≡ found
     → of_folder (headers_of uid_next) found ≡ due.Send x.command → x.status ≡ status.Ok
     → DoesFrom (fetched_stage (is_sliced_in uid_next found) at uid_next (tell m x)) (tell m x) xs → Parts (FetchesHeaders at uid_next) (at + 1) m (x ∷ xs)
 headers_at at uid_next m x xs None there here ok so = absurd (fails_not_send refusal.Lacks x.command here)
 headers_at at uid_next m x xs (Some h) there here ok so = headers_by at uid_next m x xs h (is_sliced uid_next h.folder) there refl here ok so
 
 -- a folder was selected
-fetching_by : (at uid_next : ℕ) (m : Mail) (xs : List Exchange) (h : Held) (none : Bool) → slice_get m.folders at ≡ Some h → (h.folder.modseq == 0) ≡ none
+fetching_by : (at uid_next : ℕ) (m : Mail) (xs : List Exchange) (h : NumberedFolder) (none : Bool) → slice_get m.folders at ≡ Some h → (h.folder.modseq == 0) ≡ none
     → DoesFrom (if none then stage.FetchingFlags at uid_next else stage.FetchingHeaders at uid_next) m xs → Parts (FetchesFolder at uid_next) (at + 1) m xs
 fetching_by at uid_next m xs h true there is (front, rest, mid, parts, (y, ys, flags, obeyed, fetches), visits) = (
   front,
@@ -177,12 +177,12 @@ fetching_by at uid_next m xs h true there is (front, rest, mid, parts, (y, ys, f
 fetching_by at uid_next m xs h false there is (front, rest, mid, parts, fetches, visits) =
     (front, rest, mid, parts, WithModseqs (record { held = h; there = there }) (ap not is) fetches, visits)
 
-fetching_at : (at uid_next : ℕ) (m : Mail) (xs : List Exchange) (found : Option Held) → slice_get m.folders at ≡ found → DoesFrom (fetching at uid_next found) m xs
+fetching_at : (at uid_next : ℕ) (m : Mail) (xs : List Exchange) (found : Option NumberedFolder) → slice_get m.folders at ≡ found → DoesFrom (fetching at uid_next found) m xs
     → Parts (FetchesFolder at uid_next) (at + 1) m xs
 fetching_at at uid_next m xs None there so = absurd so
 fetching_at at uid_next m xs (Some h) there so = fetching_by at uid_next m xs h (h.folder.modseq == 0) there refl so
 
-selected_by_validity : (at : ℕ) (m : Mail) (x : Exchange) (xs : List Exchange) (h : Held) (valid : Bool) → slice_get m.folders at ≡ Some h → select_of h.folder ≡ due.Send x.command
+selected_by_validity : (at : ℕ) (m : Mail) (x : Exchange) (xs : List Exchange) (h : NumberedFolder) (valid : Bool) → slice_get m.folders at ≡ Some h → select_of h.folder ≡ due.Send x.command
     → x.status ≡ status.Ok → tells_validity x.responses ≡ valid
     → DoesFrom (if valid then fetching at (uid_next_told x.responses) (slice_get (tell m x).folders at) else stage.Failing refusal.Lacks) (tell m x) xs
     → Parts (AsksFolder at) (at + 1) m (x ∷ xs)
@@ -191,7 +191,7 @@ selected_by_validity at m x xs h true there here ok valid so =
     (x ∷ f.0, f.1, f.2, ap (λ (l : List Exchange). x ∷ l) f.3, Asked (answered_by m x h there here ok) valid f.4, f.5)
 selected_by_validity at m x xs h false there here ok valid so = absurd so
 
-selected_at : (at : ℕ) (m : Mail) (x : Exchange) (xs : List Exchange) (found : Option Held) → slice_get m.folders at ≡ found → of_folder select_of found ≡ due.Send x.command
+selected_at : (at : ℕ) (m : Mail) (x : Exchange) (xs : List Exchange) (found : Option NumberedFolder) → slice_get m.folders at ≡ found → of_folder select_of found ≡ due.Send x.command
     → x.status ≡ status.Ok → DoesFrom (selected_stage at x.responses (tell m x)) (tell m x) xs → Parts (AsksFolder at) (at + 1) m (x ∷ xs)
 selected_at at m x xs None there here ok so = absurd (fails_not_send refusal.Lacks x.command here)
 selected_at at m x xs (Some h) there here ok so = selected_by_validity at m x xs h (tells_validity x.responses) there here ok refl so
@@ -202,17 +202,17 @@ none_done : (at : RoundStage) (m : Mail) → round_due at m ≡ due.Done → Doe
 none_done (stage.Listing special) m done = absurd (send_not_done (command.List special) done)
 none_done (stage.Selecting at) m done = absurd (never (slice_get m.folders at) done)
   where
-    never : (found : Option Held) → of_folder select_of found ≡ due.Done → ⊥
+    never : (found : Option NumberedFolder) → of_folder select_of found ≡ due.Done → ⊥
     never None is = cc
     never (Some h) is = cc
 none_done (stage.FetchingFlags at uid_next) m done = absurd (send_not_done command.FetchFlags done)
 none_done (stage.FetchingHeaders at uid_next) m done = absurd (never (slice_get m.folders at) done)
   where
-    never_by : (h : Held) (sliced : Bool) → (if sliced then due.Send (slice_of h.folder) else due.Send (new_of h.folder)) ≡ due.Done → ⊥
+    never_by : (h : NumberedFolder) (sliced : Bool) → (if sliced then due.Send (slice_of h.folder) else due.Send (new_of h.folder)) ≡ due.Done → ⊥
     never_by h true is = cc
     never_by h false is = cc
 
-    never : (found : Option Held) → of_folder (headers_of uid_next) found ≡ due.Done → ⊥
+    never : (found : Option NumberedFolder) → of_folder (headers_of uid_next) found ≡ due.Done → ⊥
     never None is = cc
     never (Some h) is = never_by h (is_sliced uid_next h.folder) is
 none_done stage.Finished m done = refl
@@ -328,7 +328,7 @@ pub end_done : {now : Due} {life left : LinkLife} {events : List Event} → IsEn
 end_done (Finished is ok none same) = (is, none, same)
 end_done (Failed why is bad hangs same) = absurd (cc bad)
 end_done (Broken asked e is bad b) = absurd (cc bad)
-end_done (Gone asked is over bad none same) = absurd (cc bad)
+end_done (LifeHadEnded asked is over bad none same) = absurd (cc bad)
 end_done (Wanting bad hangs same) = absurd (cc bad)
 
 -- a round that ends in Ok is a whole round, of which the store took exactly the commands

@@ -11,7 +11,7 @@ use Rattle.imap_types.specs.declared.response.Status.TheVariants as status
 use Rattle.told_folder.specs.ToldBy.{told_by}
 use Rattle.told_folder.specs.declared.exchange.Exchange.{Exchange}
 use Rattle.told_folder.specs.declared.message.Folder.{Folder}
-use Rattle.told_folder.specs.declared.message.Held.{Held}
+use Rattle.told_folder.specs.declared.message.NumberedFolder.{NumberedFolder}
 use Rattle.told_mail.specs.Mail.{Mail, folder_in, folder_number, held_in, named}
 use Rattle.told_mail.specs.Exchanges.{after_closed, tell, tell_as, tell_held, tell_named, tell_ok, with_held}
 use Rattle.imap_exchange.specs.declared.link_end.LinkEnd.{LinkEnd}
@@ -30,26 +30,26 @@ use Rattle.imap_client.proofs.Finishing.{done_not_send, fails_not_send, send_sam
 -- ---- what is told leaves a folder there, unless it is a LIST's
 
 -- one of two, where one of two others is there
-pick_other : (b : Bool) (x y : Held) (rest : Option Held) → IsSome (if b then Some x else rest) → IsSome (if b then Some y else rest)
+pick_other : (b : Bool) (x y : NumberedFolder) (rest : Option NumberedFolder) → IsSome (if b then Some x else rest) → IsSome (if b then Some y else rest)
 pick_other true x y rest there = refl
 pick_other false x y rest there = there
 
-pick_rest : (b : Bool) (x : Held) (rest other : Option Held) → (IsSome rest → IsSome other) → IsSome (if b then Some x else rest) → IsSome (if b then Some x else other)
+pick_rest : (b : Bool) (x : NumberedFolder) (rest other : Option NumberedFolder) → (IsSome rest → IsSome other) → IsSome (if b then Some x else rest) → IsSome (if b then Some x else other)
 pick_rest true x rest other step there = refl
 pick_rest false x rest other step there = step there
 
-held_by : (h k : Held) (hs others : List Held) (n : ℕ) (same : Bool) → (folder_number h == folder_number k) ≡ same → (IsSome (held_in hs n) → IsSome (held_in others n))
+held_by : (h k : NumberedFolder) (hs others : List NumberedFolder) (n : ℕ) (same : Bool) → (folder_number h == folder_number k) ≡ same → (IsSome (held_in hs n) → IsSome (held_in others n))
     → IsSome (held_in (h ∷ hs) n) → IsSome (held_in (if same then k ∷ hs else h ∷ others) n)
 held_by h k hs others n true is step there =
     subst (λ (number : ℕ). IsSome (if number == n then Some k else held_in hs n)) (eqb-true (folder_number h) (folder_number k) is)
     (pick_other (folder_number h == n) h k (held_in hs n) there)
 held_by h k hs others n false is step there = pick_rest (folder_number h == n) h (held_in hs n) (held_in others n) step there
 
-held_stays : (hs : List Held) (k : Held) (n : ℕ) → IsSome (held_in hs n) → IsSome (held_in (with_held hs k) n)
+held_stays : (hs : List NumberedFolder) (k : NumberedFolder) (n : ℕ) → IsSome (held_in hs n) → IsSome (held_in (with_held hs k) n)
 held_stays [] k n there = there
 held_stays (h ∷ hs) k n there = held_by h k hs (with_held hs k) n (folder_number h == folder_number k) refl (held_stays hs k n) there
 
-tell_held_stays : (m : Mail) (c : Command) (rs : List Response) (found : Option Held) (n : ℕ) → IsSome (held_in m.folders n)
+tell_held_stays : (m : Mail) (c : Command) (rs : List Response) (found : Option NumberedFolder) (n : ℕ) → IsSome (held_in m.folders n)
     → IsSome (held_in (tell_held m c rs found).folders n)
 tell_held_stays m c rs None n there = there
 tell_held_stays m c rs (Some h) n there = held_stays m.folders (told_by c rs m.next_mark h) n there
@@ -99,11 +99,11 @@ ran_stays folder uid s m n (Then {heard = xs} next ran) there =
     subst (λ (told : Mail). IsSome (held_in told.folders n)) (sym (fold-append tell m xs (next.exchange ∷ [])))
     (tell_stays (fold tell m xs) next.exchange (subst (λ (c : Command). IsAsked c) (sym next.completes.command_is) asked) n (ran_stays folder uid s m n ran there))
 
-held_of : (found : Option Held) → IsSome (option_map (λ h. h.folder) found) → IsSome found
+held_of : (found : Option NumberedFolder) → IsSome (option_map (λ h. h.folder) found) → IsSome found
 held_of None is = is
 held_of (Some h) is = refl
 
-folder_of : (found : Option Held) → IsSome found → IsSome (option_map (λ h. h.folder) found)
+folder_of : (found : Option NumberedFolder) → IsSome found → IsSome (option_map (λ h. h.folder) found)
 folder_of None is = is
 folder_of (Some h) is = refl
 

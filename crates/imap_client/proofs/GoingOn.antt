@@ -8,7 +8,7 @@ use Rattle.imap_client.specs.declared.plan.Due.{Due}
 use Rattle.imap_client.specs.declared.plan.Due.TheVariants as due
 use Rattle.imap_client.specs.Bodies.{FetchesBody, body_start}
 use Rattle.imap_client.specs.LinkLife.{LinkLife, ClientState, selected}
-use Rattle.imap_client.specs.Plans.{Planned, StopsAtRefusal, Ran, Begun, Then, IsEnd, Finished, Failed, Broken, Gone, Wanting, Follows}
+use Rattle.imap_client.specs.Plans.{Planned, StopsAtRefusal, Ran, Begun, Then, IsEnd, Finished, Failed, Broken, LifeHadEnded, Wanting, Follows}
 use Rattle.imap_client.specs.Rounds.{Rounds}
 use Rattle.imap_client.proofs.PlanSteps.{done_alive}
 use Rattle.imap_client.proofs.RoundSteps.{round_stops, body_stops}
@@ -25,7 +25,7 @@ ends_done : {now : Due} {life left : LinkLife} {events : List Event} → IsEnd n
 ends_done (Finished done is none same) = (done, same)
 ends_done (Failed why fails is hangs same) = absurd (cc is)
 ends_done (Broken command e sends is breaks) = absurd (cc is)
-ends_done (Gone command sends over is none same) = absurd (cc is)
+ends_done (LifeHadEnded command sends over is none same) = absurd (cc is)
 ends_done (Wanting is hangs same) = absurd (cc is)
 
 plan_goes_on : {plan : Planned} {life left : LinkLife} {exchanges : List Exchange} {client : ClientState} {events : List Event} → StopsAtRefusal plan

@@ -19,7 +19,7 @@ use Rattle.imap_client.specs.declared.plan.Due.{Due}
 use Rattle.imap_client.specs.declared.plan.Due.TheVariants as due
 use Rattle.imap_client.specs.LinkLife.{LinkLife, ClientState, next_number}
 use Rattle.imap_client.specs.Calls.{CompletesExchange, Breaks}
-use Rattle.imap_client.specs.Plans.{Planned, Ran, Begun, Then, IsEnd, Finished, Failed, Broken, Gone, Wanting, Follows, ends_torn}
+use Rattle.imap_client.specs.Plans.{Planned, Ran, Begun, Then, IsEnd, Finished, Failed, Broken, LifeHadEnded, Wanting, Follows, ends_torn}
 use Rattle.imap_client.specs.Sent.{due_texts, next_text}
 use Rattle.imap_client.proofs.Finishing.{spoken_takes}
 use Rattle.imap_client.proofs.OneRun.{ran_number}
@@ -120,7 +120,7 @@ end_takes {now} {after} {last = last} (Broken command e is failed b) =
     let part = part_is_front (command_pieces command (next_number after)) _ (flat_map store_took_in b.speaks.talk) held in
     let same : flat_map store_took_in last ≡ flat_map store_took_in b.speaks.talk = spoken_takes b.speaks ∙ sym b.speaks.said.took_is in
     inr (b.on, (part.0, ap (λ (l : List ℕ). l ++ part.0) same ∙ part.1 ∙ ap (λ (d : Due). next_text d (next_number after)) (sym is)))
-end_takes (Gone command is over lost none same) = inl (ap (λ (l : List Event). flat_map store_took_in l) none)
+end_takes (LifeHadEnded command is over lost none same) = inl (ap (λ (l : List Event). flat_map store_took_in l) none)
 end_takes {after = after} {last = last} (Wanting memory hangs same) = inl (hangs_takes after.goes_on last hangs)
 
 joined_by : (on : Bool) (now : Due) (n : ℕ) (so_far last whole : List ℕ) → TakesFront on so_far whole → EndTakes on now n last
@@ -158,7 +158,7 @@ end_torn : {now : Due} {after left : LinkLife} {result : Result (Unit {0}) LinkE
 end_torn {last = last} (Finished is ok none same) = untaken last (ap (λ (l : List Event). flat_map store_took_in l) none)
 end_torn {after = after} {last = last} (Failed why is failed hangs same) = untaken last (hangs_takes after.goes_on last hangs)
 end_torn (Broken command e is failed b) = ap (λ (l : LinkLife). is_some_taken l.part) b.after_is ∙ ap is_some_taken (sym (spoken_takes b.speaks))
-end_torn {last = last} (Gone command is over lost none same) = untaken last (ap (λ (l : List Event). flat_map store_took_in l) none)
+end_torn {last = last} (LifeHadEnded command is over lost none same) = untaken last (ap (λ (l : List Event). flat_map store_took_in l) none)
 end_torn {after = after} {last = last} (Wanting memory hangs same) = untaken last (hangs_takes after.goes_on last hangs)
 
 -- a plan ends with a torn command exactly where octets were taken after its exchanges

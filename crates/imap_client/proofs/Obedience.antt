@@ -23,7 +23,7 @@ use Rattle.imap_client.specs.declared.plan.Due.TheVariants as due
 use Rattle.imap_client.specs.declared.plan.Refusal.{Refusal}
 use Rattle.imap_client.specs.LinkLife.{LinkLife, ClientState, next_number, selected, selected_after, with_exchange, unread}
 use Rattle.imap_client.specs.Calls.{CompletesExchange, Breaks}
-use Rattle.imap_client.specs.Plans.{Planned, Ran, Begun, Then, IsEnd, Finished, Failed, Broken, Gone, Wanting, Follows}
+use Rattle.imap_client.specs.Plans.{Planned, Ran, Begun, Then, IsEnd, Finished, Failed, Broken, LifeHadEnded, Wanting, Follows}
 use Rattle.imap_client.specs.Obeying.{Obeys, AllDone, Answered}
 use Rattle.imap_client.proofs.Lives.{verdict_more, selected_of}
 
@@ -179,7 +179,7 @@ ends_well {plan} {heard} {after} {result = result} (Broken command e is failed b
     subst (λ (l : List ℕ). Obeys plan heard (next_number after) (selected after) l) (at.2 ∙ ap (λ (l : List ℕ). after.rest ++ l) (spoken_gives b.speaks))
     (subst (λ (f : Option (List ℕ)). Obeys plan heard (next_number after) f so.left) at.1 (subst (λ (n : ℕ). Obeys plan heard n so.folder so.left) at.0 so.obeys)) in
     either_well e result failed (broken_end command e is b there)
-ends_well (Gone command is over lost none same) so = inr (inl lost)
+ends_well (LifeHadEnded command is over lost none same) so = inr (inl lost)
 ends_well (Wanting memory hangs same) so = inr (inr memory)
 
 -- a plan that octets obey ends in Ok, with a lost link or out of memory

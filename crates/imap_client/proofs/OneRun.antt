@@ -28,7 +28,7 @@ use Rattle.imap_client.specs.declared.plan.Due.TheVariants as due
 use Rattle.imap_client.specs.declared.plan.Refusal.{Refusal}
 use Rattle.imap_client.specs.Refusals.{refusal_end}
 use Rattle.imap_client.specs.LinkLife.{LinkLife, ClientState, next_number, selected, selected_after, special_use, unread}
-use Rattle.imap_client.specs.Plans.{Planned, Ran, Begun, Then, IsEnd, Finished, Failed, Broken, Gone, Wanting, Follows}
+use Rattle.imap_client.specs.Plans.{Planned, Ran, Begun, Then, IsEnd, Finished, Failed, Broken, LifeHadEnded, Wanting, Follows}
 use Rattle.imap_client.specs.Decided.{IsDecided}
 use Rattle.imap_client.specs.Bodies.{BodyState, FetchesBody, body_from, body_start, body_step, without_body}
 use Rattle.imap_client.specs.declared.body.BodyStage.TheVariants as stage
@@ -259,7 +259,7 @@ ending_of {after = after} {last = last} more decided (Broken command e is failed
     Cut command e is failed
     (subst (λ (l : List ℕ). EndsBy (tag_of (next_number after)) (command_pieces command (next_number after)) (unread after) l e)
     (append_assoc after.rest b.speaks.gave more ∙ ap (λ (l : List ℕ). after.rest ++ (l ++ more)) (sym (spoken_gives b.speaks))) so)
-ending_of more decided (Gone command is over lost none same) = absurd (subst IsDecided lost decided)
+ending_of more decided (LifeHadEnded command is over lost none same) = absurd (subst IsDecided lost decided)
 ending_of more decided (Wanting memory hangs same) = absurd (subst IsDecided memory decided)
 
 -- a run that ends doesn't go further

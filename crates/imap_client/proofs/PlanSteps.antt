@@ -16,7 +16,7 @@ use Rattle.imap_client.specs.declared.plan.Refusal.{Refusal}
 use Rattle.imap_client.specs.Refusals.{refusal_end}
 use Rattle.imap_client.specs.LinkLife.{LinkLife, ClientState, Stands, fresh, hung_up}
 use Rattle.imap_client.specs.Calls.{IsExchanged, is_torn}
-use Rattle.imap_client.specs.Plans.{Planned, StopsAtRefusal, NextExchange, Ran, Begun, Then, HearsAll, HeardNone, HeardMore, Finished, Failed, Broken, Gone, Wanting, Follows}
+use Rattle.imap_client.specs.Plans.{Planned, StopsAtRefusal, NextExchange, Ran, Begun, Then, HearsAll, HeardNone, HeardMore, Finished, Failed, Broken, LifeHadEnded, Wanting, Follows}
 use Rattle.imap_client.specs.Plans.{FollowsTo, ends_torn}
 use Rattle.imap_client.proofs.Lives.{stands_ended, life_hung}
 
@@ -151,7 +151,7 @@ gone {xs = xs} ys command next torn whole is none dead so hangs =
         so_far = xs;
         last = ys;
         ran = so.ran;
-        ends = Gone command is over refl (subst (λ (b : Bool). HangsUp b ys) dead hangs) refl;
+        ends = LifeHadEnded command is over refl (subst (λ (b : Bool). HangsUp b ys) dead hangs) refl;
         whole = refl;
         stands = subst (λ (c : ClientState). Stands c so.after) (sym none) (stands_ended so.after over so.stands.spelled);
       },

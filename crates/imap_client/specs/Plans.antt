@@ -54,7 +54,7 @@ pub data IsEnd (now : Due) (life left : LinkLife) (result : Result (Unit {0}) Li
   -- the command that is due isn't completed
   Broken : (command : Command) (e : LinkEnd) → now ≡ due.Send command → result ≡ Err e → Breaks life command e left events → IsEnd now life left result events
   -- a command is due, and the life ended with the exchange before
-  Gone : (command : Command) → now ≡ due.Send command → life.goes_on ≡ false → result ≡ Err end.Lost → events ≡ [] → left ≡ life
+  LifeHadEnded : (command : Command) → now ≡ due.Send command → life.goes_on ≡ false → result ≡ Err end.Lost → events ≡ [] → left ≡ life
       → IsEnd now life left result events
   -- out of memory
   Wanting : result ≡ Err end.Memory → HangsUp life.goes_on events → left ≡ hung_up life → IsEnd now life left result events

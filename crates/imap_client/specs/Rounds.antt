@@ -12,7 +12,7 @@ use Rattle.imap_types.specs.declared.response.Response.TheVariants as response
 use Rattle.imap_types.specs.declared.response.Status.TheVariants as status
 use Rattle.told_folder.specs.declared.exchange.Exchange.{Exchange}
 use Rattle.told_folder.specs.declared.message.Folder.{Folder}
-use Rattle.told_folder.specs.declared.message.Held.{Held}
+use Rattle.told_folder.specs.declared.message.NumberedFolder.{NumberedFolder}
 use Rattle.told_mail.specs.Mail.{Mail}
 use Rattle.told_mail.specs.Told.{Told}
 use Rattle.told_mail.specs.Exchanges.{after_closed, last_told, tell, TellsKnown}
@@ -51,11 +51,11 @@ KeepsCount old new result xs = result ≢ Err end.Memory → AllTellKnown old.ma
 abbrev pub bars_selection : List ℕ → Bool
 bars_selection attribute = bytes_eq attribute (codes "\\noselect") || bytes_eq attribute (codes "\\nonexistent")
 
-abbrev pub is_selectable : Held → Bool
+abbrev pub is_selectable : NumberedFolder → Bool
 is_selectable h = not (list_any bars_selection h.folder.attributes)
 
 -- the place of the first folder that can be selected, where these are the folders from this place on
-abbrev pub selectable_from : ℕ → List Held → Option ℕ
+abbrev pub selectable_from : ℕ → List NumberedFolder → Option ℕ
 selectable_from at [] = None
 selectable_from at (h ∷ hs) = if is_selectable h then Some at else selectable_from (at + 1) hs
 
@@ -81,7 +81,7 @@ abbrev pub headers_of : ℕ → Folder → Due
 headers_of uid_next f = if is_sliced uid_next f then due.Send (slice_of f) else due.Send (new_of f)
 
 -- what is due of a folder; there is always one where a round asks for it
-abbrev pub of_folder : (Folder → Due) → Option Held → Due
+abbrev pub of_folder : (Folder → Due) → Option NumberedFolder → Due
 of_folder asked (Some h) = asked h.folder
 of_folder asked None = due.Fails refusal.Lacks
 
@@ -114,11 +114,11 @@ abbrev pub next_stage : ℕ → Mail → RoundStage
 next_stage at m = selecting (selectable_from at (drop at m.folders))
 
 -- all flags are asked where the folder has no mod-sequences
-abbrev pub fetching : ℕ → ℕ → Option Held → RoundStage
+abbrev pub fetching : ℕ → ℕ → Option NumberedFolder → RoundStage
 fetching at uid_next (Some h) = if h.folder.modseq == 0 then stage.FetchingFlags at uid_next else stage.FetchingHeaders at uid_next
 fetching at uid_next None = stage.Failing refusal.Lacks
 
-abbrev pub is_sliced_in : ℕ → Option Held → Bool
+abbrev pub is_sliced_in : ℕ → Option NumberedFolder → Bool
 is_sliced_in uid_next (Some h) = is_sliced uid_next h.folder
 is_sliced_in uid_next None = false
 

@@ -10,7 +10,7 @@ use Rattle.imap_types.specs.declared.command.Command.TheVariants as command
 use Rattle.imap_types.specs.declared.response.Status.TheVariants as status
 use Rattle.told_folder.specs.declared.exchange.Exchange.{Exchange}
 use Rattle.told_folder.specs.declared.message.Folder.{Folder}
-use Rattle.told_folder.specs.declared.message.Held.{Held}
+use Rattle.told_folder.specs.declared.message.NumberedFolder.{NumberedFolder}
 use Rattle.told_mail.specs.Mail.{Mail}
 use Rattle.told_mail.specs.Exchanges.{tell}
 use Rattle.imap_client.specs.LinkLife.{LinkLife, next_number, selected, selected_after, special_use}
@@ -25,7 +25,7 @@ pub record IsObeyed (asked : Command) (before : Mail) (x : Exchange) (after : Ma
 
 -- the folder that is told at this place
 pub record FolderAt (at : ℕ) (mail : Mail) : Type 0 where
-  pub held : Held
+  pub held : NumberedFolder
   pub there : slice_get mail.folders at ≡ Some held
 
 -- the exchange of the command for the folder at this place was answered OK, and the mail after it is what it told

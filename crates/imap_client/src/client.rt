@@ -75,7 +75,7 @@ impl Client {
 
     /// Whether the store told at its last CAPABILITY that it tells special-use attributes where they are asked (RFC 6154 section 2);
     /// false where the client isn't alive.
-    pub(crate) fn special_use(&self) -> bool
+    pub fn special_use(&self) -> bool
         ensures { result ≡ self.now.special_use }
     {
         self.special_use

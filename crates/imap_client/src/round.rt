@@ -24,7 +24,7 @@ use imap_types::{Code, Command, Response, Status};
 use octets::Bytes;
 use std::alloc::{AllocError, Global};
 use std::mem;
-use told_mail::{Exchange, Folder, Held, Mirror, ToldError, after_closed};
+use told_mail::{Exchange, Folder, Mirror, NumberedFolder, ToldError, after_closed};
 
 /// The most UIDs that one fetch of headers asks for, but for the last one of a folder.
 pub const SLICE_UIDS: u64 = 10_000;
@@ -68,7 +68,7 @@ fn is_barred(attributes: &[Bytes]) -> bool
         .any(|attribute| bars_selection(attribute.as_slice()))
 }
 
-fn is_selectable(held: &Held) -> bool
+fn is_selectable(held: &NumberedFolder) -> bool
     ensures { result ≡ rounds.is_selectable held.now }
 {
     !is_barred(held.folder.attributes.as_slice())

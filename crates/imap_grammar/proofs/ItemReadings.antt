@@ -11,7 +11,7 @@ use Rattle.imap_automaton.specs.ItemRules.{item_start}
 use Rattle.imap_keywords.specs.Keys.{key_text, keys}
 use Rattle.imap_keywords.specs.declared.key.Key.{Key}
 use Rattle.imap_keywords.specs.declared.key.Key.TheVariants as key
-use Rattle.imap_keywords.specs.declared.key.Place.TheVariants as place
+use Rattle.imap_keywords.specs.declared.key.WordPlace.TheVariants as place
 use Rattle.imap_keywords.specs.Keys.{Among}
 use Rattle.imap_keywords.proofs.KeyLemmas.{same_text}
 use Rattle.pushdown.proofs.Lists.{cons_head, cons_tail}

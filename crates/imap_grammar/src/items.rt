@@ -6,7 +6,7 @@ ghost use Rattle.imap_types.specs.Octets as classes;
 ghost use Rattle.imap_grammar.specs.reading.ItemReading as reading;
 ghost use Rattle.imap_grammar.specs.reading.Passing as passing;
 
-use imap_automaton::{Key, Place, Sym};
+use imap_automaton::{Key, Sym, WordPlace};
 use imap_types::FetchItems;
 use imap_values::{
     atom_in, atom_len, before, behind, date_in, digits_len, flags_in, is_key, literal_in, long_of,
@@ -20,10 +20,10 @@ use std::alloc::{AllocError, Global};
 const DATE_TIME_OCTETS: usize = 28;
 
 /// Octets that are kept of a header.
-const HEADER_LIMIT: usize = 32_768;
+const MAX_HEADER_OCTETS: usize = 32_768;
 
 /// Octets that are kept of a message.
-const BODY_LIMIT: usize = 50_000_000;
+const MAX_BODY_OCTETS: usize = 50_000_000;
 
 /// What an item of a FETCH tells, by its name.
 #[derive(Clone, Copy)]
@@ -125,12 +125,12 @@ fn value_in<'a>(
             Ok(behind(value, n))
         }
         Told::Header => {
-            let (header, rest) = nstring_in(alloc, value, HEADER_LIMIT)?;
+            let (header, rest) = nstring_in(alloc, value, MAX_HEADER_OCTETS)?;
             items.header = Some(header);
             Ok(rest)
         }
         Told::Body => {
-            let (body, rest) = nstring_in(alloc, value, BODY_LIMIT)?;
+            let (body, rest) = nstring_in(alloc, value, MAX_BODY_OCTETS)?;
             items.body = Some(body);
             Ok(rest)
         }
@@ -141,7 +141,7 @@ fn value_in<'a>(
 fn passed(bytes: &[u8]) -> usize
     ensures { result ≡ passing.passed bytes.now (item_start ∷ []) }
 {
-    let mut stack = Stack::of(Sym::Word(Place::Item, Key::Uid, 0));
+    let mut stack = Stack::of(Sym::Word(WordPlace::Item, Key::Uid, 0));
     let mut rest = bytes;
     'passing: loop {
         let octets = skip_inside(&mut stack, rest);

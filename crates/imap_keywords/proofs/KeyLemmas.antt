@@ -10,8 +10,8 @@ use Rattle.std.proofs.Math.Seq.{take-length}
 use Rattle.imap_types.proofs.EachLemmas.{each_to, each_parts}
 use Rattle.imap_keywords.specs.declared.key.Key.{Key}
 use Rattle.imap_keywords.specs.declared.key.Key.TheVariants as key
-use Rattle.imap_keywords.specs.declared.key.Place.{Place}
-use Rattle.imap_keywords.specs.declared.key.Place.TheVariants as place
+use Rattle.imap_keywords.specs.declared.key.WordPlace.{WordPlace}
+use Rattle.imap_keywords.specs.declared.key.WordPlace.TheVariants as place
 use Rattle.imap_keywords.specs.Keys.{key_text, keys, goes_on, is_whole, is_among, in_word, Among}
 use Rattle.imap_keywords.proofs.Classes.{atom_apart}
 use Rattle.imap_types.specs.Octets.{is_word, is_atom, lower}
@@ -165,7 +165,7 @@ atom_word c e = grind arith
 pub key_octet_month : (c : ℕ) → is_key_octet c ≡ true → in_word place.Month c ≡ true
 key_octet_month c e = let p = key_octet_parts c e in and_from (is_atom c) (not (c == 45)) p.0 p.4
 
-key_octet_in_word : (place : Place) (c : ℕ) → is_key_octet c ≡ true → in_word place c ≡ true
+key_octet_in_word : (place : WordPlace) (c : ℕ) → is_key_octet c ≡ true → in_word place c ≡ true
 key_octet_in_word place.Tagged c e = atom_word c (key_octet_parts c e).0
 key_octet_in_word place.Plain c e = atom_word c (key_octet_parts c e).0
 key_octet_in_word place.Numbered c e = atom_word c (key_octet_parts c e).0
@@ -173,7 +173,7 @@ key_octet_in_word place.Item c e = (key_octet_parts c e).0
 key_octet_in_word place.Month c e = key_octet_month c e
 
 -- the octets of a key, from any index on, may stand in a word of each place
-pub key_in_word : (place : Place) (k : Key) (at : ℕ) → Each (in_word place) (drop at (key_text k))
+pub key_in_word : (place : WordPlace) (k : Key) (at : ℕ) → Each (in_word place) (drop at (key_text k))
 key_in_word place k at =
     each_to is_key_octet (in_word place) (drop at (key_text k)) (key_octet_in_word place)
     (each_parts is_key_octet (take at (key_text k)) (drop at (key_text k)) (subst (Each is_key_octet) (sym (take-append-drop at (key_text k))) (key_octets k))).1
@@ -241,7 +241,7 @@ is_among_is x (y ∷ xs) e = elim (or_cases (bytes_eq (key_text x) (key_text y))
 ]
 
 -- a key of a place, searched before the others, is one of them
-pub among_keys : (p : Place) (k x : Key) → is_among k (keys p) ≡ true → Among x (k ∷ keys p) → Among x (keys p)
+pub among_keys : (p : WordPlace) (k x : Key) → is_among k (keys p) ≡ true → Among x (k ∷ keys p) → Among x (keys p)
 among_keys p k x m (inl e) = subst (λ (y : Key). Among y (keys p)) (sym e) (is_among_is k (keys p) m)
 among_keys p k x m (inr h) = h
 
@@ -288,7 +288,7 @@ goes_octet k x at c e = no_brace c (key_octet_parts (lower c) (goes_key_octet k 
     no_brace c e = grind arith
 
 -- it stands in the words of each place, in either case
-pub goes_in_word : (p : Place) (k x : Key) (at c : ℕ) → goes_on k at (lower c) x ≡ true → in_word p c ≡ true
+pub goes_in_word : (p : WordPlace) (k x : Key) (at c : ℕ) → goes_on k at (lower c) x ≡ true → in_word p c ≡ true
 goes_in_word p k x at c e =
     let parts = key_octet_parts (lower c) (goes_key_octet k x at (lower c) e) in
     of p c (upper_atom c parts.0) (upper_dash c parts.4)
@@ -299,7 +299,7 @@ goes_in_word p k x at c e =
     upper_dash : (c : ℕ) → not (lower c == 45) ≡ true → not (c == 45) ≡ true
     upper_dash c e = grind arith
 
-    of : (p : Place) (c : ℕ) → is_atom c ≡ true → not (c == 45) ≡ true → in_word p c ≡ true
+    of : (p : WordPlace) (c : ℕ) → is_atom c ≡ true → not (c == 45) ≡ true → in_word p c ≡ true
     of place.Tagged c e f = atom_word c e
     of place.Plain c e f = atom_word c e
     of place.Numbered c e f = atom_word c e

@@ -2,8 +2,8 @@
 use Rattle.std.specs.Prelude.{◌≡◌, ◌⊎◌, ℕ, Bool, false, not, ◌&&◌, ◌||◌, nat_lt, ◌==◌, List, [], ◌∷◌, length, take, get_or, codes, bytes_eq, find, Option}
 use Rattle.imap_keywords.specs.declared.key.Key.{Key}
 use Rattle.imap_keywords.specs.declared.key.Key.TheVariants as key
-use Rattle.imap_keywords.specs.declared.key.Place.{Place}
-use Rattle.imap_keywords.specs.declared.key.Place.TheVariants as place
+use Rattle.imap_keywords.specs.declared.key.WordPlace.{WordPlace}
+use Rattle.imap_keywords.specs.declared.key.WordPlace.TheVariants as place
 use Rattle.imap_keywords.specs.declared.phrase.Phrase.{Phrase}
 use Rattle.imap_keywords.specs.declared.phrase.Phrase.TheVariants as phrase
 use Rattle.imap_types.specs.Octets.{is_word, is_atom}
@@ -54,21 +54,21 @@ key_text key.Nov = codes "nov"
 key_text key.Dec = codes "dec"
 
 -- the words that count in a place
-abbrev pub keys : Place → List Key
+abbrev pub keys : WordPlace → List Key
 keys place.Tagged = key.Ok ∷ key.No ∷ key.Bad ∷ []
 keys place.Plain = key.Ok ∷ key.No ∷ key.Bad ∷ key.Preauth ∷ key.Bye ∷ key.Capability ∷ key.Enabled ∷ key.Flags ∷ key.Vanished ∷ key.List ∷ key.Status ∷ []
 keys place.Numbered = key.Exists ∷ key.Expunge ∷ key.Fetch ∷ []
 keys place.Item = key.Uid ∷ key.Flags ∷ key.ModSeq ∷ key.InternalDate ∷ key.Size ∷ key.Header ∷ key.HeaderPart ∷ key.Body ∷ key.BodyPart ∷ []
 keys place.Month = key.Jan ∷ key.Feb ∷ key.Mar ∷ key.Apr ∷ key.May ∷ key.Jun ∷ key.Jul ∷ key.Aug ∷ key.Sep ∷ key.Oct ∷ key.Nov ∷ key.Dec ∷ []
 
-abbrev pub first_key : Place → Key
+abbrev pub first_key : WordPlace → Key
 first_key place.Item = key.Uid
 first_key place.Numbered = key.Exists
 first_key place.Month = key.Jan
 first_key _ = key.Ok
 
 -- the octets of a word
-abbrev pub in_word : Place → ℕ → Bool
+abbrev pub in_word : WordPlace → ℕ → Bool
 in_word place.Item c = is_atom c
 in_word place.Month c = is_atom c && not (c == 45)
 in_word _ c = is_word c
@@ -78,7 +78,7 @@ abbrev pub goes_on : Key → ℕ → ℕ → Key → Bool
 goes_on key at c k = nat_lt at (length (key_text k)) && get_or (key_text k) at 0 == c && bytes_eq (take at (key_text k)) (take at (key_text key))
 
 -- the key itself, where it goes on
-abbrev pub next_key : Place → Key → ℕ → ℕ → Option Key
+abbrev pub next_key : WordPlace → Key → ℕ → ℕ → Option Key
 next_key place key at c = find (goes_on key at c) (key ∷ keys place)
 
 -- the key is the word so far
@@ -86,7 +86,7 @@ abbrev pub is_whole : Key → ℕ → Key → Bool
 is_whole key at k = length (key_text k) == at && bytes_eq (take at (key_text k)) (take at (key_text key))
 
 -- the key itself, where it is whole
-abbrev pub whole_key : Place → Key → ℕ → Option Key
+abbrev pub whole_key : WordPlace → Key → ℕ → Option Key
 whole_key place key at = find (is_whole key at) (key ∷ keys place)
 
 -- the key counts in the place

@@ -6,7 +6,7 @@ ghost use Rattle.imap_keywords.specs.Counts.{PendFits};
 use crate::class::is_digit;
 
 /// Octets of a literal.
-pub const LITERAL_LIMIT: u32 = 50_000_000;
+pub const MAX_LITERAL_OCTETS: u32 = 50_000_000;
 
 /// Digits of a literal's count.
 pub const COUNT_DIGITS: u8 = 8;
@@ -16,7 +16,7 @@ pub const COUNT_DIGITS: u8 = 8;
 pub enum Pending {
     /// The text ends in no such count.
     Nothing,
-    /// After `{`: the value of the digits so far, `LITERAL_LIMIT + 1` where it is more than the limit, and how many
+    /// After `{`: the value of the digits so far, `MAX_LITERAL_OCTETS + 1` where it is more than the limit, and how many
     /// they are.
     Open(u32, u8),
     /// After the closing brace: the value, as above.
@@ -26,10 +26,10 @@ pub enum Pending {
 fn capped(v: u32) -> u32
     ensures { result ≡ counts.capped v }
 {
-    if v <= LITERAL_LIMIT {
+    if v <= MAX_LITERAL_OCTETS {
         v
     } else {
-        LITERAL_LIMIT + 1
+        MAX_LITERAL_OCTETS + 1
     }
 }
 

@@ -74,7 +74,7 @@ pub enum Key {
 
 /// Where a word is read.
 #[derive(Clone, Copy)]
-pub enum Place {
+pub enum WordPlace {
     /// After a tag.
     Tagged,
     /// After `* `.
@@ -180,37 +180,37 @@ static MONTH_KEYS: [Key; 12] = [
 ];
 
 /// The words that count in a place.
-pub fn keys(place: Place) -> &'static [Key]
+pub fn keys(place: WordPlace) -> &'static [Key]
     ensures { result.now ≡ keywords.keys place }
 {
     match place {
-        Place::Tagged => &TAGGED_KEYS,
-        Place::Plain => &LINE_KEYS,
-        Place::Numbered => &NUMBERED_KEYS,
-        Place::Item => &ITEM_KEYS,
-        Place::Month => &MONTH_KEYS,
+        WordPlace::Tagged => &TAGGED_KEYS,
+        WordPlace::Plain => &LINE_KEYS,
+        WordPlace::Numbered => &NUMBERED_KEYS,
+        WordPlace::Item => &ITEM_KEYS,
+        WordPlace::Month => &MONTH_KEYS,
     }
 }
 
 /// The key from which a place's words are read.
-pub fn first_key(place: Place) -> Key
+pub fn first_key(place: WordPlace) -> Key
     ensures { result ≡ keywords.first_key place }
 {
     match place {
-        Place::Item => Key::Uid,
-        Place::Numbered => Key::Exists,
-        Place::Month => Key::Jan,
+        WordPlace::Item => Key::Uid,
+        WordPlace::Numbered => Key::Exists,
+        WordPlace::Month => Key::Jan,
         _ => Key::Ok,
     }
 }
 
 /// Whether the octet may stand in a word of the place.
-pub fn in_word(place: Place, c: u16) -> bool
+pub fn in_word(place: WordPlace, c: u16) -> bool
     ensures { result ≡ keywords.in_word place c }
 {
     match place {
-        Place::Item => is_atom(c),
-        Place::Month => is_atom(c) && c != b'-' as u16,
+        WordPlace::Item => is_atom(c),
+        WordPlace::Month => is_atom(c) && c != b'-' as u16,
         _ => is_word(c),
     }
 }
@@ -261,7 +261,7 @@ fn first_that_goes_on(candidates: &[Key], key: Key, at: u8, c: u16) -> Option<Ke
 }
 
 /// The key that begins as this one does up to `at` and goes on with the octet: this one, where it does.
-pub fn next_key(place: Place, key: Key, at: u8, c: u16) -> Option<Key>
+pub fn next_key(place: WordPlace, key: Key, at: u8, c: u16) -> Option<Key>
     requires { at ≤ length (keywords.key_text key) }
     ensures { result ≡ keywords.next_key place key at c }
 {
@@ -307,7 +307,7 @@ fn first_that_is_whole(candidates: &[Key], key: Key, at: u8) -> Option<Key>
 }
 
 /// The key that is the word so far: this one, where it is.
-pub fn whole_key(place: Place, key: Key, at: u8) -> Option<Key>
+pub fn whole_key(place: WordPlace, key: Key, at: u8) -> Option<Key>
     requires { at ≤ length (keywords.key_text key) }
     ensures { result ≡ keywords.whole_key place key at }
 {

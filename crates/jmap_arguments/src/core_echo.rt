@@ -10,7 +10,7 @@ use serde_json::{Map, Value};
 
 /// Whether a number in it, at any depth, is no integer.
 #[cycle(fractions)]
-fn has_fraction(value: &Value) -> bool
+pub fn has_fraction(value: &Value) -> bool
     ensures { result ≡ has_float (view value.now) }
 {
     match value {

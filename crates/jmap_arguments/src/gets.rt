@@ -28,7 +28,7 @@ pub fn count_of_ids(ids: &Option<Vec<&str>>) -> usize
 }
 
 /// Adds a text to those seen, and says whether it is new among them.
-fn is_new<'a>(seen: &mut BTreeSet<&'a str>, text: &'a str) -> Result<bool, AllocError>
+pub fn is_new<'a>(seen: &mut BTreeSet<&'a str>, text: &'a str) -> Result<bool, AllocError>
     ensures new { IfOk result (λ new. new ≡ not (is_among text.now (map (λ t. t.now) seen.old.keys))) }
     ensures seen { OnOk result ((other : List ℕ) → is_among other (map (λ t. t.now) seen.new.keys)
         ≡ (bytes_eq text.now other || is_among other (map (λ t. t.now) seen.old.keys))) }

@@ -94,7 +94,7 @@ fn run_over<C: Clients>(
     Ok(run_to_end(rt.alloc(), read, &mut world))
 }
 
-/// Runs the gateway, and waits for the clients whose response is whole, which the program's end would close.
+/// Runs the gateway, and waits for the clients whose response has ended, which the program's end would close.
 fn run_to_end<C: Clients>(
     alloc: Global,
     read: Result<Task, WordsError>,

@@ -10,7 +10,7 @@ use Rattle.std.specs.Str.{bytes_eq}
 use Rattle.told_folder.specs.Folders.{folder_number, held_in}
 use Rattle.told_folder.specs.Keyed.{Ascends}
 use Rattle.told_folder.specs.declared.message.Folder.{Folder}
-use Rattle.told_folder.specs.declared.message.Held.{Held}
+use Rattle.told_folder.specs.declared.message.NumberedFolder.{NumberedFolder}
 use Rattle.told_folder.proofs.KeyedLemmas.{lt_same_gt, some_same}
 use Rattle.told_mail.specs.Mail.{is_same, named}
 use Rattle.told_mail.proofs.NameLemmas.{same_name, named_name, found_above, named_held, named_there}
@@ -128,7 +128,7 @@ longest_known p g fs i t up = longest_is g None (filter p fs) tt (all_filter (Is
 
 -- ---- folders of a mirror
 
-in_held : (hs : List Held) (f : Folder) → Ascends folder_number hs → IsIn f (folders_of hs) → (k : Held) × (held_in hs (folder_number k) ≡ Some k) × (k.folder ≡ f)
+in_held : (hs : List NumberedFolder) (f : Folder) → Ascends folder_number hs → IsIn f (folders_of hs) → (k : NumberedFolder) × (held_in hs (folder_number k) ≡ Some k) × (k.folder ≡ f)
 in_held [] f up i = absurd i
 in_held (x ∷ hs) f up (inl e) = (x, ap (λ b. if b then Some x else held_in hs (folder_number x)) (eq-eqb (folder_number x) (folder_number x) refl), e)
 in_held (x ∷ hs) f up (inr i) =
@@ -136,23 +136,23 @@ in_held (x ∷ hs) f up (inr i) =
     let less : folder_number x < folder_number r.0 = found_above (folder_number x) (folder_number r.0) hs r.0 up.0 r.1 in
     (r.0, ap (λ b. if b then Some x else held_in hs (folder_number r.0)) (ne_eqb _ _ (λ e. omega (arith, e, less))) ∙ r.1, r.2)
 
-held_is_in : (hs : List Held) (n : ℕ) (k : Held) → held_in hs n ≡ Some k → IsIn k.folder (folders_of hs)
+held_is_in : (hs : List NumberedFolder) (n : ℕ) (k : NumberedFolder) → held_in hs n ≡ Some k → IsIn k.folder (folders_of hs)
 held_is_in [] n k e = absurd (let f : None ≡ Some k = e in cc)
 held_is_in (x ∷ hs) n k e =
     elim (eqb (folder_number x) n) as (λ b. (if b then Some x else held_in hs n) ≡ Some k → IsIn k.folder (folders_of (x ∷ hs))) [
-      | true ↦ λ f. inl (ap (λ (z : Held). z.folder) (some_same _ _ f))
+      | true ↦ λ f. inl (ap (λ (z : NumberedFolder). z.folder) (some_same _ _ f))
       | false ↦ λ f. inr (held_is_in hs n k f)
     ] e
 
 -- where names differ, folders of one name are one
-one_folder : (hs : List Held) (a b : Folder) → Ascends folder_number hs → NamesDiffer hs → IsIn a (folders_of hs) → IsIn b (folders_of hs) → a.name ≡ b.name → a ≡ b
+one_folder : (hs : List NumberedFolder) (a b : Folder) → Ascends folder_number hs → NamesDiffer hs → IsIn a (folders_of hs) → IsIn b (folders_of hs) → a.name ≡ b.name → a ≡ b
 one_folder hs a b up differ i j same =
     let x = in_held hs a up i in
     let y = in_held hs b up j in
     let number : folder_number x.0 ≡ folder_number y.0 =
     differ (folder_number x.0) (folder_number y.0) x.0 y.0 x.1 y.1 (ap (λ (f : Folder). f.name) x.2 ∙ same ∙ ap (λ (f : Folder). f.name) (sym y.2)) in
     let held : x.0 ≡ y.0 = some_same _ _ (sym x.1 ∙ ap (held_in hs) number ∙ y.1) in
-    sym x.2 ∙ ap (λ (k : Held). k.folder) held ∙ y.2
+    sym x.2 ∙ ap (λ (k : NumberedFolder). k.folder) held ∙ y.2
 
 -- ---- fronts
 
@@ -177,7 +177,7 @@ is_front name d n p len is goes =
 
 -- ---- the look-ups
 
-module _ (hs : List Held) (up : Ascends folder_number hs) (differ : NamesDiffer hs) (name : List ℕ) (d : ℕ) where
+module _ (hs : List NumberedFolder) (up : Ascends folder_number hs) (differ : NamesDiffer hs) (name : List ℕ) (d : ℕ) where
   abbrev below : Folder → Bool
   below g = is_below name d g.name
 
@@ -196,7 +196,7 @@ module _ (hs : List Held) (up : Ascends folder_number hs) (differ : NamesDiffer 
         ]
       ]
 
-  found : (n : ℕ) (k : Held) → n ≤ length name → goes_on d (drop n name) ≡ true → named hs (take n name) ≡ Some k → AreShorter (suc n)
+  found : (n : ℕ) (k : NumberedFolder) → n ≤ length name → goes_on d (drop n name) ≡ true → named hs (take n name) ≡ Some k → AreShorter (suc n)
       → Some k.folder ≡ longest None (filter below (folders_of hs))
   found n k within goes is bound =
       let front : k.folder.name ≡ take n name = named_name hs (take n name) k is in
@@ -223,16 +223,16 @@ module _ (hs : List Held) (up : Ascends folder_number hs) (differ : NamesDiffer 
       sym (ap (longest None) (none_filter below (folders_of hs) (λ h i t. let l : length h.name < 0 = bound h i t in omega (arith, l))))
   fronts_are (suc n) within bound = by (goes_on d (drop n name)) refl (named hs (take n name)) refl (fronts_are n (omega (arith, within)))
     where
-      by : (g : Bool) → goes_on d (drop n name) ≡ g → (o : Option Held) → named hs (take n name) ≡ o
+      by : (g : Bool) → goes_on d (drop n name) ≡ g → (o : Option NumberedFolder) → named hs (take n name) ≡ o
           → (AreShorter n → front_below hs name d n ≡ longest None (filter below (folders_of hs)))
-          → option_or (if g then option_map (λ (h : Held). h.folder) o else None) (front_below hs name d n) ≡ longest None (filter below (folders_of hs))
+          → option_or (if g then option_map (λ (h : NumberedFolder). h.folder) o else None) (front_below hs name d n) ≡ longest None (filter below (folders_of hs))
       by false ends o is rest =
           rest (shorter n bound (λ h i t len. not_both (goes_on d (drop n name)) (ap (λ (m : ℕ). goes_on d (drop m name)) (sym len) ∙ (below_is name d h.name t).0) ends))
       by true goes None is rest = rest (shorter n bound (not_named n is))
       by true goes (Some k) is rest = found n k (omega (arith, within)) goes is bound
 
 -- the parent of a folder is that of the longest front
-pub parent_found : (hs : List Held) (f : Folder) (d : ℕ) → Ascends folder_number hs → NamesDiffer hs → f.delimiter ≡ Some d
+pub parent_found : (hs : List NumberedFolder) (f : Folder) (d : ℕ) → Ascends folder_number hs → NamesDiffer hs → f.delimiter ≡ Some d
     → front_below hs f.name d (length f.name) ≡ parent_in (folders_of hs) f
 parent_found hs f d up differ is =
     fronts_are hs up differ f.name d (length f.name) (omega arith) (λ h i t. goes_within d (length h.name) f.name (below_is f.name d h.name t).0)
@@ -250,7 +250,7 @@ no_parent fs f is =
 -- ---- the code's loop
 
 -- a front that is no folder's name is passed
-pub front_passed : (hs : List Held) (name : List ℕ) (d k n : ℕ) (all : Option Folder) → n ≡ k + 1 → None ≡ front_at hs name d k → front_below hs name d n ≡ all
+pub front_passed : (hs : List NumberedFolder) (name : List ℕ) (d k n : ℕ) (all : Option Folder) → n ≡ k + 1 → None ≡ front_at hs name d k → front_below hs name d n ≡ all
     → front_below hs name d k ≡ all
 front_passed hs name d k n all next none was =
     let S : ℕ → Type 0 = λ m. front_below hs name d m ≡ all in
@@ -259,7 +259,7 @@ front_passed hs name d k n all next none was =
     ap (λ (o : Option Folder). option_or o (front_below hs name d k)) none ∙ at
 
 -- the first that is one decides
-pub front_decides : (hs : List Held) (name : List ℕ) (d k n : ℕ) (f : Folder) (all : Option Folder) → n ≡ k + 1 → Some f ≡ front_at hs name d k
+pub front_decides : (hs : List NumberedFolder) (name : List ℕ) (d k n : ℕ) (f : Folder) (all : Option Folder) → n ≡ k + 1 → Some f ≡ front_at hs name d k
     → front_below hs name d n ≡ all → Some f ≡ all
 front_decides hs name d k n f all next is was =
     let S : ℕ → Type 0 = λ m. front_below hs name d m ≡ all in
@@ -267,7 +267,7 @@ front_decides hs name d k n f all next is was =
     let at : front_below hs name d (suc k) ≡ all = subst S step was in
     ap (λ (o : Option Folder). option_or o (front_below hs name d k)) is ∙ at
 
-unnamed : (hs : List Held) (q : List ℕ) → list_any (has_length (length q)) hs ≡ false → named hs q ≡ None
+unnamed : (hs : List NumberedFolder) (q : List ℕ) → list_any (has_length (length q)) hs ≡ false → named hs q ≡ None
 unnamed [] q e = refl
 unnamed (h ∷ hs) q e =
     elim (is_same h.folder.name q) as (λ (b : Bool). is_same h.folder.name q ≡ b → (if b then Some h else named hs q) ≡ None) [
@@ -285,11 +285,11 @@ none_either true = refl
 none_either false = refl
 
 -- no front is a folder's name where no folder's name has its length
-pub no_front : (hs : List Held) (name : List ℕ) (d n : ℕ) → n < length name → list_any (has_length n) hs ≡ false → None ≡ front_at hs name d n
+pub no_front : (hs : List NumberedFolder) (name : List ℕ) (d n : ℕ) → n < length name → list_any (has_length n) hs ≡ false → None ≡ front_at hs name d n
 no_front hs name d n within none =
     let len : length (take n name) ≡ n = length-take-le n name (omega (arith, within)) in
     let free : named hs (take n name) ≡ None = unnamed hs (take n name) (ap (λ (m : ℕ). list_any (has_length m) hs) len ∙ none) in
-    none_either (goes_on d (drop n name)) ∙ sym (ap (λ (o : Option Held). if goes_on d (drop n name) then option_map (λ (h : Held). h.folder) o else None) free)
+    none_either (goes_on d (drop n name)) ∙ sym (ap (λ (o : Option NumberedFolder). if goes_on d (drop n name) then option_map (λ (h : NumberedFolder). h.folder) o else None) free)
 
 or_joined : (a b c : Bool) → ((a || b) || c) ≡ (a || (b || c))
 or_joined true b c = refl

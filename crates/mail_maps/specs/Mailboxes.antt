@@ -2,7 +2,7 @@
 use Rattle.std.specs.Prelude.{ℕ, List, map, codes, Option, Some, None}
 use Rattle.std.specs.Option.{option_map}
 use Rattle.told_folder.specs.declared.message.Folder.{Folder}
-use Rattle.told_folder.specs.declared.message.Held.{Held}
+use Rattle.told_folder.specs.declared.message.NumberedFolder.{NumberedFolder}
 use Rattle.mail_maps.specs.declared.row.MailboxRow.{MailboxRow}
 use Rattle.mail_maps.specs.declared.row.Role.{Role}
 use Rattle.mail_maps.specs.declared.tally.FolderCounts.{FolderCounts}
@@ -12,8 +12,8 @@ use Rattle.mail_maps.specs.Roles.{has_attribute, role_in}
 use Rattle.mail_maps.specs.Rights.{rights_of}
 use Rattle.mail_maps.specs.Counts.{total_emails, unread_emails, total_threads, unread_threads}
 
-abbrev pub folders_of : List Held → List Folder
-folders_of hs = map (λ (h : Held). h.folder) hs
+abbrev pub folders_of : List NumberedFolder → List Folder
+folders_of hs = map (λ (h : NumberedFolder). h.folder) hs
 
 -- the Mailbox of a folder among these, with a role and its counts
 abbrev pub row_as : List Folder → Folder → Option Role → FolderCounts → MailboxRow
@@ -52,5 +52,5 @@ abbrev pub mailbox_row : List Folder → Rows → Folder → MailboxRow
 mailbox_row fs rows f = row_with fs f (counts_in rows f.number)
 
 -- each folder as a Mailbox, ascending
-abbrev pub mailboxes_of : List Held → Rows → List (ℕ × MailboxRow)
+abbrev pub mailboxes_of : List NumberedFolder → Rows → List (ℕ × MailboxRow)
 mailboxes_of hs rows = map {B = ℕ × MailboxRow} (λ (f : Folder). (f.number, mailbox_row (folders_of hs) rows f)) (folders_of hs)

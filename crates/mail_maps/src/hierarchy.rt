@@ -12,10 +12,10 @@ ghost use Rattle.mail_maps.specs.reading.Fronts.{AreLengths, has_length};
 use octets::Text;
 use std::alloc::{AllocError, Global};
 use std::collections::BTreeSet;
-use told_folder::{Folder, Held};
+use told_folder::{Folder, NumberedFolder};
 use told_mail::Mirror;
 
-fn note_length(lengths: &mut BTreeSet<usize>, held: &Held) -> Result<(), AllocError>
+fn note_length(lengths: &mut BTreeSet<usize>, held: &NumberedFolder) -> Result<(), AllocError>
     ensures { OnOk result ((q : ℕ) → contains nat_cmp lengths.new q ≡ (contains nat_cmp lengths.old q || has_length q held.now)) }
 {
     lengths.insert(held.folder.name.as_slice().len())?;
@@ -23,7 +23,10 @@ fn note_length(lengths: &mut BTreeSet<usize>, held: &Held) -> Result<(), AllocEr
 }
 
 /// How long the names of folders are.
-pub fn name_lengths(alloc: Global, folders: &[Held]) -> Result<BTreeSet<usize>, AllocError>
+pub fn name_lengths(
+    alloc: Global,
+    folders: &[NumberedFolder],
+) -> Result<BTreeSet<usize>, AllocError>
     ensures { IfOk result (λ lengths. AreLengths lengths folders.now) }
 {
     let mut lengths = BTreeSet::new(alloc);
@@ -104,7 +107,7 @@ pub fn parent_in<'a>(
 }
 
 /// How much of a name is its parent's, with the delimiter.
-fn parent_len(parent: Option<&Folder>) -> usize
+pub fn parent_len(parent: Option<&Folder>) -> usize
     ensures { result ≡ hierarchy.parent_len (option_copied parent.entry) }
 {
     match parent {
@@ -114,7 +117,7 @@ fn parent_len(parent: Option<&Folder>) -> usize
 }
 
 /// What follows this many octets.
-fn after(name: &[u8], len: usize) -> &[u8]
+pub fn after(name: &[u8], len: usize) -> &[u8]
     ensures { result.now ≡ drop len name.now }
 {
     if len <= name.len() {

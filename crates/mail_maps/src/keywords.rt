@@ -75,7 +75,7 @@ fn add_keyword(alloc: Global, set: &mut BTreeSet<Vec<u8>>, flag: &[u8]) -> Resul
 }
 
 /// The keywords of flags as a set.
-fn keyword_set(alloc: Global, flags: &[Bytes]) -> Result<BTreeSet<Vec<u8>>, AllocError>
+pub fn keyword_set(alloc: Global, flags: &[Bytes]) -> Result<BTreeSet<Vec<u8>>, AllocError>
     ensures { IfOk result (λ set. map set_items set.keys ≡ keywords.keywords_of flags.now) }
 {
     let mut set = BTreeSet::new(alloc);

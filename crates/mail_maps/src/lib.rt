@@ -13,9 +13,9 @@ pub mod same_keywords;
 pub mod visible;
 
 // Threads and Mailboxes.
-mod hierarchy;
+pub mod hierarchy;
 mod mailboxes;
-mod rights;
+pub mod rights;
 mod roles;
 mod tally;
 mod threads;

@@ -14,7 +14,7 @@ use crate::tally::{FolderCounts, count_emails, counts_of};
 use crate::{EmailRow, MailboxRow, Role};
 use std::alloc::{AllocError, Global};
 use std::collections::{BTreeMap, BTreeSet};
-use told_folder::{Folder, Held};
+use told_folder::{Folder, NumberedFolder};
 use told_mail::Mirror;
 
 fn number_of(folder: Option<&Folder>) -> Option<u64>
@@ -60,7 +60,7 @@ fn row_of(
 fn rows_for(
     alloc: Global,
     mirror: &Mirror,
-    folders: &[Held],
+    folders: &[NumberedFolder],
     emails: &BTreeMap<u64, EmailRow>,
 ) -> Result<BTreeMap<u64, MailboxRow>, AllocError>
     requires folders { folders.now ≡ mirror.now.mail.folders }

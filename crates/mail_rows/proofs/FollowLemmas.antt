@@ -4,7 +4,7 @@ use Rattle.std.proofs.lemmas.List.{length-append, length-map}
 use Rattle.std.specs.List.Sorted.{IsStrictlySortedBy}
 use Rattle.std.specs.Map.{keys_of}
 use Rattle.change_list.specs.declared.entries.Entry.{Entry}
-use Rattle.told_folder.specs.declared.message.Held.{Held}
+use Rattle.told_folder.specs.declared.message.NumberedFolder.{NumberedFolder}
 use Rattle.mail_maps.specs.Rows.{Rows}
 use Rattle.mail_maps.specs.Visible.{Placed}
 use Rattle.mail_rows.specs.NumberedRows.{NumberedRows, AreBelow}
@@ -19,7 +19,7 @@ use Rattle.mail_rows.proofs.TakingLemmas.{takes_from_adds, added, rows_added, ne
 use Rattle.mail_rows.proofs.TouchLemmas.{touches_are}
 
 -- the mail is taken in where what comes is added to what remains
-pub takes : (n m : NumberedRows) (hs : List Held) (ps : List Placed) (after : NumberedRows) → m ≡ left n hs → ps ≡ newcomers hs m.rows → AddsRows m ps after → TakesMail n hs after
+pub takes : (n m : NumberedRows) (hs : List NumberedFolder) (ps : List Placed) (after : NumberedRows) → m ≡ left n hs → ps ≡ newcomers hs m.rows → AddsRows m ps after → TakesMail n hs after
 takes n m hs ps after is are adds =
     let A : NumberedRows → Type 0 = λ x. AddsRows x ps after in
     takes_from_adds n hs ps after (are ∙ ap (λ (x : NumberedRows). newcomers hs x.rows) is) (subst A is adds)
@@ -34,7 +34,7 @@ length-numbers k (suc n) = ap suc (length-numbers (k + 1) n)
 
 -- ---- from the rows before to those after
 
-module _ (n : NumberedRows) (hs : List Held) (after : NumberedRows) (t : TakesMail n hs after) where
+module _ (n : NumberedRows) (hs : List NumberedFolder) (after : NumberedRows) (t : TakesMail n hs after) where
   -- the rows of new Emails
   abbrev more : Rows
   more = added (left n hs) (arrivals n hs) t.envelopes

@@ -11,7 +11,7 @@ use Rattle.std.proofs.lemmas.Map.Keys.{sorted_head, sorted_tail}
 use Rattle.std.proofs.lemmas.Grind.{common_steps}
 use Rattle.thread_rule.specs.declared.member.Member.{Member}
 use Rattle.thread_rule.specs.Threads.{Members}
-use Rattle.told_folder.specs.declared.message.Held.{Held}
+use Rattle.told_folder.specs.declared.message.NumberedFolder.{NumberedFolder}
 use Rattle.mail_maps.specs.declared.row.EmailRow.{EmailRow}
 use Rattle.mail_maps.specs.Rows.{Rows}
 use Rattle.mail_maps.specs.Visible.{Placed, shown}
@@ -29,7 +29,7 @@ none_left : (gs : List RemovedEmail) (q : ℕ) → number_left gs q None ≡ Non
 none_left [] q = refl
 none_left (g ∷ gs) q = elim (nat_eq g.mark q) as (λ (b : Bool). number_left gs q (cond b None None) ≡ None) [ true ↦ none_left gs q | false ↦ none_left gs q ]
 
-module _ (hs : List Held) (q : ℕ) where
+module _ (hs : List NumberedFolder) (q : ℕ) where
   -- where the mark is shown, none of those that go has it
   stays_left : (p : Placed) → shown hs q ≡ Some p → (es : Rows) (o : Option ℕ) → number_left (gone_in hs es) q o ≡ o
   stays_left p is [] o = refl
@@ -131,7 +131,7 @@ before_more : (a : Members) (k : ℕ) (m : Member) (es : Rows) → AllByRecursio
 before_more a k m [] h b = tt
 before_more a k m (e ∷ es) h b = (none_more e.0 k m a (less_is_below k e.0 h.0) b.0, before_more a k m es h.1 b.1)
 
-module _ (hs : List Held) where
+module _ (hs : List NumberedFolder) where
   book_left : (a : Members) (es : Rows) → IsStrictlySortedBy nat_cmp (keys_of es) → Before a es
       → members_left (gone_in hs es) (a ++ members_of es) ≡ a ++ members_of (remaining hs es)
   book_left a [] sorted before = refl
@@ -165,7 +165,7 @@ module _ (hs : List Held) where
   below_remaining k (e ∷ es) h = below_put k e.0 (remaining_row hs e.1) (remaining hs es) h.0 (below_remaining k es h.1)
 
 -- the indexes of the rows that remain, after what goes is taken out of them
-pub indexes_left : (hs : List Held) (es rows : Rows) (next : ℕ) (gone : List RemovedEmail) (marks marks' : BTreeMap ℕ ℕ) (book book' : Members)
+pub indexes_left : (hs : List NumberedFolder) (es rows : Rows) (next : ℕ) (gone : List RemovedEmail) (marks marks' : BTreeMap ℕ ℕ) (book book' : Members)
     → IsStrictlySortedBy nat_cmp (keys_of es) → AreIndexes es next marks book
     → rows ≡ remaining hs es → gone ≡ gone_in hs es
     → ((q : ℕ) → get nat_cmp marks' q ≡ number_left gone q (get nat_cmp marks q))
@@ -221,5 +221,5 @@ indexes_more es k v marks marks' book book' was m b = record {
 }
 
 -- the rows that remain are under a number where all were
-pub under_remaining : (hs : List Held) (k : ℕ) (es : Rows) → Under k es → Under k (remaining hs es)
+pub under_remaining : (hs : List NumberedFolder) (k : ℕ) (es : Rows) → Under k es → Under k (remaining hs es)
 under_remaining hs k es u = as_under k (remaining hs es) (below_remaining hs k es (from_under k es u))

@@ -8,7 +8,7 @@ use Rattle.std.proofs.lemmas.Grind.{common_steps}
 use Rattle.thread_rule.specs.Threads.{Members}
 use Rattle.change_list.specs.declared.entries.Entry.{Entry}
 use Rattle.told_folder.specs.declared.message.Message.{Message}
-use Rattle.told_folder.specs.declared.message.Held.{Held}
+use Rattle.told_folder.specs.declared.message.NumberedFolder.{NumberedFolder}
 use Rattle.mail_maps.specs.Visible.{Placed, placed_in}
 use Rattle.mail_rows.specs.declared.remaining.RemovedEmail.{RemovedEmail}
 use Rattle.mail_rows.specs.reading.RowPass.{is_new_message, is_unmarked, unmarked, touch_of_addition}
@@ -46,12 +46,12 @@ module _ (marks : BTreeMap ℕ ℕ) (n : ℕ) (xs : List Message) (i : ℕ) (x :
 -- ---- folders
 
 -- one folder more
-pub folder_taken : (marks : BTreeMap ℕ ℕ) (hs : List Held) (i : ℕ) (h : Held) (a c b : List Placed) → i < length hs → h ≡ get_or hs i h
+pub folder_taken : (marks : BTreeMap ℕ ℕ) (hs : List NumberedFolder) (i : ℕ) (h : NumberedFolder) (a c b : List Placed) → i < length hs → h ≡ get_or hs i h
     → c ≡ a ++ filter (is_unmarked marks) (placed_in h) → a ++ unmarked marks (drop i hs) ≡ b → c ++ unmarked marks (drop (i + 1) hs) ≡ b
 folder_taken marks hs i h a c b within is made all =
     ap (λ (ps : List Placed). ps ++ unmarked marks (drop (i + 1) hs)) made
     ∙ append_assoc a (filter (is_unmarked marks) (placed_in h)) (unmarked marks (drop (i + 1) hs))
-    ∙ sym (ap (λ (ks : List Held). a ++ unmarked marks ks) (next_left hs i h within is)) ∙ all
+    ∙ sym (ap (λ (ks : List NumberedFolder). a ++ unmarked marks ks) (next_left hs i h within is)) ∙ all
 
 -- ---- indexes
 

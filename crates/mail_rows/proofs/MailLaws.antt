@@ -6,7 +6,7 @@ use Rattle.std.specs.List.Sorted.{IsStrictlySortedBy}
 use Rattle.std.specs.Map.{keys_of}
 use Rattle.std.specs.Option.{option_map, option_or}
 use Rattle.std.proofs.lemmas.List.Folds.{list_any-append}
-use Rattle.told_folder.specs.declared.message.Held.{Held}
+use Rattle.told_folder.specs.declared.message.NumberedFolder.{NumberedFolder}
 use Rattle.change_list.specs.Advance.{row_at}
 use Rattle.mail_maps.specs.declared.row.EmailRow.{EmailRow}
 use Rattle.mail_maps.specs.declared.envelope.Envelope.{Envelope}
@@ -19,7 +19,7 @@ use Rattle.mail_rows.proofs.RowLemmas.{row_at-append}
 use Rattle.mail_rows.proofs.TakingLemmas.{added, rows_added}
 use Rattle.mail_rows.proofs.TouchLemmas.{remaining_if, remaining_at}
 
-rows_after : (n : NumberedRows) (hs : List Held) (after : NumberedRows) (t : TakesMail n hs after)
+rows_after : (n : NumberedRows) (hs : List NumberedFolder) (after : NumberedRows) (t : TakesMail n hs after)
     → after.rows ≡ remaining hs n.rows ++ added (left n hs) (arrivals n hs) t.envelopes
 rows_after n hs after t = ap (λ (m : NumberedRows). m.rows) t.after_is ∙ rows_added (left n hs) (arrivals n hs) t.envelopes
 
@@ -72,7 +72,7 @@ any_added n (p ∷ ps) [] mark are = absurd are
 any_added n (p ∷ ps) (e ∷ es) mark are = ap (λ (k : Bool). nat_eq p.message.mark mark || k) (any_added (with_row n p e) ps es mark are.1)
 
 -- a row that remains has a mark that is shown
-shown_left : (hs : List Held) (rows : Rows) (mark : ℕ) → knows (remaining hs rows) mark ≡ true → is_some (shown hs mark) ≡ true
+shown_left : (hs : List NumberedFolder) (rows : Rows) (mark : ℕ) → knows (remaining hs rows) mark ≡ true → is_some (shown hs mark) ≡ true
 shown_left hs [] mark k = absurd (let f : false ≡ true = k in cc)
 shown_left hs (e ∷ es) mark k = by (shown hs e.1.mark) refl k (shown_left hs es mark)
   where
@@ -91,7 +91,7 @@ joined false true f = refl
 joined false false f = refl
 
 -- an Email has a mark exactly where the mail shows it
-pub emails_are_shown : (n : NumberedRows) (hs : List Held) (after : NumberedRows) (mark : ℕ) → TakesMail n hs after → knows after.rows mark ≡ is_some (shown hs mark)
+pub emails_are_shown : (n : NumberedRows) (hs : List NumberedFolder) (after : NumberedRows) (mark : ℕ) → TakesMail n hs after → knows after.rows mark ≡ is_some (shown hs mark)
 emails_are_shown n hs after mark t =
     let rows : Rows = remaining hs n.rows in
     ap (λ (rs : Rows). knows rs mark) (rows_after n hs after t)
@@ -104,7 +104,7 @@ emails_are_shown n hs after mark t =
 -- ---- rows
 
 -- an Email whose mark is shown stays under its number, as its message is
-pub an_email_stays : (n : NumberedRows) (hs : List Held) (after : NumberedRows) (number : ℕ) (row : EmailRow) (p : Placed) → IsStrictlySortedBy nat_cmp (keys_of n.rows)
+pub an_email_stays : (n : NumberedRows) (hs : List NumberedFolder) (after : NumberedRows) (number : ℕ) (row : EmailRow) (p : Placed) → IsStrictlySortedBy nat_cmp (keys_of n.rows)
     → TakesMail n hs after → row_at n.rows number ≡ Some row → shown hs row.mark ≡ Some p → row_at after.rows number ≡ Some (updated row p)
 an_email_stays n hs after number row p sorted t there is =
     let new : Rows = added (left n hs) (arrivals n hs) t.envelopes in

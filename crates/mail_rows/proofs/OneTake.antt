@@ -22,7 +22,7 @@ use Rattle.thread_rule.specs.Ids.{each_once}
 use Rattle.mail_maps.specs.Envelope.{IsFieldText, NoText, Text, IsSearchText, NoSearchText, SearchText, IsFirstOf, NoMailbox, First, first_name, IsAddressFieldOf, IsTimeOf, NoDate, Date, AreIdsOf, NoIds, Ids, AreAllIds}
 use Rattle.mail_maps.specs.Envelope.{SaysEnvelope, IsEnvelopeOf}
 use Rattle.mail_maps.specs.Visible.{Placed}
-use Rattle.told_folder.specs.declared.message.Held.{Held}
+use Rattle.told_folder.specs.declared.message.NumberedFolder.{NumberedFolder}
 use Rattle.mail_rows.specs.NumberedRows.{NumberedRows}
 use Rattle.mail_rows.specs.Taking.{TakesMail, taken, arrivals, AreEnvelopes}
 
@@ -105,5 +105,5 @@ all_one (p ∷ ps) (e ∷ es) (f ∷ fs) g h =
     ap (λ (u : Envelope). u ∷ es) (one_envelope p.message.header e f g.0 h.0) ∙ ap (λ (u : List Envelope). f ∷ u) (all_one ps es fs g.1 h.1)
 
 -- the rows of some mail come of those before in one way
-pub one_take : (n : NumberedRows) (hs : List Held) (a b : NumberedRows) → TakesMail n hs a → TakesMail n hs b → a ≡ b
+pub one_take : (n : NumberedRows) (hs : List NumberedFolder) (a b : NumberedRows) → TakesMail n hs a → TakesMail n hs b → a ≡ b
 one_take n hs a b g h = g.after_is ∙ ap (taken n hs) (all_one (arrivals n hs) g.envelopes h.envelopes g.are_read h.are_read) ∙ sym h.after_is

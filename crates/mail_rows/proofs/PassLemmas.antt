@@ -4,7 +4,7 @@ use Rattle.std.specs.declared.cmp.Ordering.TheVariants.{Less}
 use Rattle.std.specs.List.{AllByRecursion}
 use Rattle.std.specs.List.Sorted.{IsStrictlySortedBy}
 use Rattle.std.specs.Map.{keys_of}
-use Rattle.told_folder.specs.declared.message.Held.{Held}
+use Rattle.told_folder.specs.declared.message.NumberedFolder.{NumberedFolder}
 use Rattle.mail_maps.specs.declared.row.EmailRow.{EmailRow}
 use Rattle.mail_maps.specs.Rows.{Rows}
 use Rattle.mail_maps.specs.Visible.{Placed, shown}
@@ -16,7 +16,7 @@ append_none : {A : Type 0} (xs : List A) → xs ++ [] ≡ xs
 append_none [] = refl
 append_none {A} (x ∷ xs) = ap (λ (r : List A). x ∷ r) (append_none xs)
 
-module _ (hs : List Held) where
+module _ (hs : List NumberedFolder) where
   gone_are : (g : PassSoFar) (es : Rows) → (gather_all hs g es).gone ≡ g.gone ++ gone_in hs es
   gone_are g [] = sym (append_none g.gone)
   gone_are g (e ∷ es) =

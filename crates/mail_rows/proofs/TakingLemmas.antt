@@ -4,7 +4,7 @@ use Rattle.std.proofs.Common.{append_assoc, is_some, length, Option, Some, None,
 use Rattle.std.specs.Map.{keys_of}
 use Rattle.std.specs.BTreeMap.{get}
 use Rattle.std.proofs.lemmas.List.Elements.{filter-append}
-use Rattle.told_folder.specs.declared.message.Held.{Held}
+use Rattle.told_folder.specs.declared.message.NumberedFolder.{NumberedFolder}
 use Rattle.mail_maps.specs.declared.envelope.Envelope.{Envelope}
 use Rattle.mail_maps.specs.Rows.{Rows}
 use Rattle.mail_maps.specs.Visible.{Placed, placed_in, visible, is_visible_place}
@@ -47,7 +47,7 @@ filter_twice v p r same (x ∷ xs) =
     ]
 
 -- the visible messages whose marks the index lacks are those without a row
-pub unmarked_are : (marks : BTreeMap ℕ ℕ) (rows : Rows) → ((q : ℕ) → get nat_cmp marks q ≡ number_of rows q) → (hs : List Held) → unmarked marks hs ≡ newcomers hs rows
+pub unmarked_are : (marks : BTreeMap ℕ ℕ) (rows : Rows) → ((q : ℕ) → get nat_cmp marks q ≡ number_of rows q) → (hs : List NumberedFolder) → unmarked marks hs ≡ newcomers hs rows
 unmarked_are marks rows are [] = refl
 unmarked_are marks rows are (h ∷ hs) =
     ap (λ (ps : List Placed). ps ++ unmarked marks hs)
@@ -72,7 +72,7 @@ adds_more n m p ps after one rest = record {
 }
 
 -- rows that take in the arrivals after those that remain are those of the mail
-pub takes_from_adds : (n : NumberedRows) (hs : List Held) (ps : List Placed) (after : NumberedRows) → ps ≡ arrivals n hs → AddsRows (left n hs) ps after → TakesMail n hs after
+pub takes_from_adds : (n : NumberedRows) (hs : List NumberedFolder) (ps : List Placed) (after : NumberedRows) → ps ≡ arrivals n hs → AddsRows (left n hs) ps after → TakesMail n hs after
 takes_from_adds n hs ps after are adds =
     let P : List Placed → Type 0 = λ xs. AddsRows (left n hs) xs after in
     let a : AddsRows (left n hs) (arrivals n hs) after = subst P are adds in

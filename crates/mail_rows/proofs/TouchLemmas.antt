@@ -11,7 +11,7 @@ use Rattle.change_list.specs.Advance.{Tests, row_at, is_gone, is_changed, differ
 use Rattle.change_list.specs.declared.entries.Entry.{Entry}
 use Rattle.change_list.specs.declared.entries.Kind.TheVariants.{Added, Changed, Removed}
 use Rattle.served_maps.specs.Past.{tests_of}
-use Rattle.told_folder.specs.declared.message.Held.{Held}
+use Rattle.told_folder.specs.declared.message.NumberedFolder.{NumberedFolder}
 use Rattle.mail_maps.specs.declared.row.EmailRow.{EmailRow}
 use Rattle.mail_maps.specs.Rows.{Rows}
 use Rattle.mail_maps.specs.Keywords.{keywords_of}
@@ -66,7 +66,7 @@ none_changed old (e ∷ es) n =
     ap (λ (o : Option EmailRow). map (change_to old) (cond (differs tests.same o e.1) (e ∷ filter (is_changed tests.same old) es) (filter (is_changed tests.same old) es))) n.0
     ∙ none_changed old es n.1
 
-module _ (hs : List Held) (old more : Rows) where
+module _ (hs : List NumberedFolder) (old more : Rows) where
   changes_are : NewIn old more → (es : Rows) → AllIn old es → map (change_to old) (filter (is_changed tests.same old) (remaining hs es ++ more)) ≡ changes_in hs es
   changes_are new [] found = none_changed old more new
   changes_are new (e ∷ es) found = by (shown hs e.1.mark) (changes_are new es found.1)
@@ -97,7 +97,7 @@ all_added old (e ∷ es) n =
     ap (λ (o : Option EmailRow). map addition_of (cond (not (is_some o)) (e ∷ filter (is_gone old) es) (filter (is_gone old) es))) n.0
     ∙ ap (λ (xs : List Entry). touch_of_addition e.0 ∷ xs) (all_added old es n.1)
 
-module _ (hs : List Held) (old more : Rows) where
+module _ (hs : List NumberedFolder) (old more : Rows) where
   additions_are : NewIn old more → (es : Rows) → AllIn old es → map addition_of (filter (is_gone old) (remaining hs es ++ more)) ≡ map touch_of_addition (keys_of more)
   additions_are new [] found = all_added old more new
   additions_are new (e ∷ es) found = by (shown hs e.1.mark) (additions_are new es found.1)
@@ -112,12 +112,12 @@ module _ (hs : List Held) (old more : Rows) where
 
 -- ---- a removal
 
-abbrev pub remaining_if : List Held → Option EmailRow → Option EmailRow
+abbrev pub remaining_if : List NumberedFolder → Option EmailRow → Option EmailRow
 remaining_if hs None = None
 remaining_if hs (Some row) = remaining_row hs row
 
 -- what remains of the row of a number
-pub remaining_at : (hs : List Held) (es : Rows) → IsStrictlySortedBy nat_cmp (keys_of es) → (q : ℕ) → row_at (remaining hs es) q ≡ remaining_if hs (row_at es q)
+pub remaining_at : (hs : List NumberedFolder) (es : Rows) → IsStrictlySortedBy nat_cmp (keys_of es) → (q : ℕ) → row_at (remaining hs es) q ≡ remaining_if hs (row_at es q)
 remaining_at hs [] sorted q = refl
 remaining_at hs (e ∷ es) sorted q = by (is_at (nat_cmp q) e.0) refl (shown hs e.1.mark) refl (remaining_at hs es (sorted_tail nat_cmp e.0 (keys_of es) sorted) q)
   where
@@ -154,7 +154,7 @@ some_mapped f (Some p) = refl
 abbrev removal_of : ℕ × EmailRow → Entry
 removal_of e = record { id = e.0; kind = Removed; counts_only = false }
 
-module _ (hs : List Held) (old more : Rows) (k : ℕ) where
+module _ (hs : List NumberedFolder) (old more : Rows) (k : ℕ) where
   still_there : IsStrictlySortedBy nat_cmp (keys_of old) → From k more → (e : ℕ × EmailRow) → row_at old e.0 ≡ Some e.1 → e.0 < k
       → is_some (row_at (remaining hs old ++ more) e.0) ≡ is_some (shown hs e.1.mark)
   still_there sorted from e found under =
@@ -179,7 +179,7 @@ module _ (hs : List Held) (old more : Rows) (k : ℕ) where
 -- ---- all of them
 
 -- the touches of what goes, what is changed and what is added are those of the step
-pub touches_are : (hs : List Held) (old more : Rows) (k : ℕ) → IsStrictlySortedBy nat_cmp (keys_of old) → Under k old → From k more
+pub touches_are : (hs : List NumberedFolder) (old more : Rows) (k : ℕ) → IsStrictlySortedBy nat_cmp (keys_of old) → Under k old → From k more
     → email_touches old (remaining hs old ++ more) ≡ map touch_of_removal (gone_in hs old) ++ (changes_in hs old ++ map touch_of_addition (keys_of more))
 touches_are hs old more k sorted under from =
     let found : AllIn old old = all_in old sorted in

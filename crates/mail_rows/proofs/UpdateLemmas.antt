@@ -11,7 +11,7 @@ use Rattle.std.proofs.lemmas.Grind.{common_steps}
 use Rattle.std.proofs.lemmas.Map.Keys.{sorted_head, sorted_tail}
 use Rattle.std.proofs.lemmas.Slice.Eq.{bytes_eq-Decides, slice_eq-Decides}
 use Rattle.change_list.specs.Advance.{row_at}
-use Rattle.told_folder.specs.declared.message.Held.{Held}
+use Rattle.told_folder.specs.declared.message.NumberedFolder.{NumberedFolder}
 use Rattle.told_folder.proofs.KeyedLemmas.{lt_same_gt}
 use Rattle.mail_maps.specs.declared.row.EmailRow.{EmailRow}
 use Rattle.mail_maps.specs.Keywords.{keywords_of}
@@ -113,7 +113,7 @@ none_updated (u ∷ us) q =
       | false ↦ none_updated us q
     ]
 
-module _ (hs : List Held) (q : ℕ) where
+module _ (hs : List NumberedFolder) (q : ℕ) where
   -- a number at no row neither goes nor is updated
   left_alone : (es : Rows) (o : Option EmailRow) → row_at es q ≡ None → row_left (gone_in hs es) q o ≡ o
   left_alone [] o none = refl
@@ -235,7 +235,7 @@ same_rows (x ∷ xs) (y ∷ ys) s t same =
     (same_rows xs ys (sorted_tail nat_cmp x.0 (keys_of xs) s) (sorted_tail nat_cmp y.0 (keys_of ys) t) (one_later y xs ys (subst P first s) t (subst Q first same)))
 
 -- rows in order that have at each number what the pass leaves there are those that remain
-pub rows_remain : (hs : List Held) (es after : Rows) (gone : List RemovedEmail) (updates : List Update) → InOrder es → InOrder after → gone ≡ gone_in hs es → updates ≡ updates_in hs es
+pub rows_remain : (hs : List NumberedFolder) (es after : Rows) (gone : List RemovedEmail) (updates : List Update) → InOrder es → InOrder after → gone ≡ gone_in hs es → updates ≡ updates_in hs es
     → ((q : ℕ) → row_at after q ≡ row_updated updates q (row_left gone q (row_at es q))) → after ≡ remaining hs es
 rows_remain hs es after gone updates sorted ordered go up made =
     same_rows after (remaining hs es) ordered (sorted_remaining hs es sorted)

@@ -7,7 +7,7 @@ use Rattle.told_folder.specs.Keyed.{Ascends, AllAbove, with_key}
 use Rattle.told_folder.specs.Folders.{uid_of, folder_number, held_in, messages_of, message_in, mark_in}
 use Rattle.told_folder.specs.Index.{AllAscend}
 use Rattle.told_folder.specs.declared.message.Message.{Message}
-use Rattle.told_folder.specs.declared.message.Held.{Held}
+use Rattle.told_folder.specs.declared.message.NumberedFolder.{NumberedFolder}
 use Rattle.told_folder.proofs.KeyedLemmas.{none_above}
 use Rattle.told_mail.specs.Mail.{Mail, IsMail}
 use Rattle.mail_maps.specs.Visible.{Placed, is_served, is_visible_place, placed_in, visible, shown}
@@ -22,11 +22,11 @@ some_is a b e = cc
 -- ---- visible messages stand at their places
 
 -- the message is at its place, and visible
-pub record IsSeen (hs : List Held) (p : Placed) : Type 0 where
+pub record IsSeen (hs : List NumberedFolder) (p : Placed) : Type 0 where
   pub at : message_in hs p.folder p.message.uid ≡ Some p.message
   pub served : is_served p.message ≡ true
 
-abbrev pub AllSeen : List Held → List Placed → Type 0
+abbrev pub AllSeen : List NumberedFolder → List Placed → Type 0
 AllSeen hs [] = Unit {0}
 AllSeen hs (p ∷ ps) = IsSeen hs p × AllSeen hs ps
 
@@ -46,19 +46,19 @@ all_found : (xs : List Message) → Ascends uid_of xs → AllFound xs xs
 all_found [] a = tt
 all_found (x ∷ xs) a = (ap (λ (b : Bool). cond b (Some x) (with_key uid_of x.uid xs)) (eq-eqb x.uid x.uid refl), found_later x xs xs a.0 (all_found xs a.1))
 
-in_first : (h : Held) (hs : List Held) (u : ℕ) → message_in (h ∷ hs) h.folder.number u ≡ with_key uid_of u h.messages
+in_first : (h : NumberedFolder) (hs : List NumberedFolder) (u : ℕ) → message_in (h ∷ hs) h.folder.number u ≡ with_key uid_of u h.messages
 in_first h hs u = ap (λ (b : Bool). with_key uid_of u (messages_of (cond b (Some h) (held_in hs h.folder.number)))) (eq-eqb h.folder.number h.folder.number refl)
 
-in_later : (h : Held) (hs : List Held) (n u : ℕ) (x : Message) → AllAbove folder_number h.folder.number hs → message_in hs n u ≡ Some x → message_in (h ∷ hs) n u ≡ Some x
+in_later : (h : NumberedFolder) (hs : List NumberedFolder) (n u : ℕ) (x : Message) → AllAbove folder_number h.folder.number hs → message_in hs n u ≡ Some x → message_in (h ∷ hs) n u ≡ Some x
 in_later h hs n u x above is =
     elim (nat_eq h.folder.number n) as (λ (b : Bool). nat_eq h.folder.number n ≡ b → with_key uid_of u (messages_of (cond b (Some h) (held_in hs n))) ≡ Some x) [
       | true ↦ λ same.
           let none : held_in hs n ≡ None = ap (held_in hs) (sym (eqb-true h.folder.number n same)) ∙ none_above folder_number h.folder.number hs above in
-          absurd (let f : None ≡ Some x = sym (ap (λ (o : Option Held). with_key uid_of u (messages_of o)) none) ∙ is in cc)
+          absurd (let f : None ≡ Some x = sym (ap (λ (o : Option NumberedFolder). with_key uid_of u (messages_of o)) none) ∙ is in cc)
       | false ↦ λ other. is
     ] refl
 
-seen_here : (h : Held) (hs : List Held) (xs : List Message) → AllFound h.messages xs
+seen_here : (h : NumberedFolder) (hs : List NumberedFolder) (xs : List Message) → AllFound h.messages xs
     → AllSeen (h ∷ hs) (filter is_visible_place (map (λ x. record { folder = h.folder.number; message = x }) xs))
 seen_here h hs [] found = tt
 seen_here h hs (x ∷ xs) found =
@@ -68,17 +68,17 @@ seen_here h hs (x ∷ xs) found =
       | false ↦ λ is. seen_here h hs xs found.1
     ] refl
 
-seen_later : (h : Held) (hs : List Held) (ps : List Placed) → AllAbove folder_number h.folder.number hs → AllSeen hs ps → AllSeen (h ∷ hs) ps
+seen_later : (h : NumberedFolder) (hs : List NumberedFolder) (ps : List Placed) → AllAbove folder_number h.folder.number hs → AllSeen hs ps → AllSeen (h ∷ hs) ps
 seen_later h hs [] above seen = tt
 seen_later h hs (p ∷ ps) above seen =
     (record { at = in_later h hs p.folder p.message.uid p.message above seen.0.at; served = seen.0.served }, seen_later h hs ps above seen.1)
 
-seen_joined : (hs : List Held) (ps qs : List Placed) → AllSeen hs ps → AllSeen hs qs → AllSeen hs (ps ++ qs)
+seen_joined : (hs : List NumberedFolder) (ps qs : List Placed) → AllSeen hs ps → AllSeen hs qs → AllSeen hs (ps ++ qs)
 seen_joined hs [] qs f g = g
 seen_joined hs (p ∷ ps) qs f g = (f.0, seen_joined hs ps qs f.1 g)
 
 -- each visible message is found at its place
-pub all_seen : (hs : List Held) → Ascends folder_number hs → AllAscend hs → AllSeen hs (visible hs)
+pub all_seen : (hs : List NumberedFolder) → Ascends folder_number hs → AllAscend hs → AllSeen hs (visible hs)
 all_seen [] numbers uids = tt
 all_seen (h ∷ hs) numbers uids =
     seen_joined (h ∷ hs) (filter is_visible_place (placed_in h)) (visible hs)
@@ -88,11 +88,11 @@ all_seen (h ∷ hs) numbers uids =
 -- ---- what is found
 
 -- a visible message of the mark
-pub record IsVisibleOf (hs : List Held) (mark : ℕ) (p : Placed) : Type 0 where
+pub record IsVisibleOf (hs : List NumberedFolder) (mark : ℕ) (p : Placed) : Type 0 where
   pub seen : IsSeen hs p
   pub marked : p.message.mark ≡ mark
 
-among : (hs : List Held) (mark : ℕ) (ps : List Placed) (p : Placed) → AllSeen hs ps → find (λ x. nat_eq x.message.mark mark) ps ≡ Some p → IsVisibleOf hs mark p
+among : (hs : List NumberedFolder) (mark : ℕ) (ps : List Placed) (p : Placed) → AllSeen hs ps → find (λ x. nat_eq x.message.mark mark) ps ≡ Some p → IsVisibleOf hs mark p
 among hs mark [] p seen is = absurd (let f : None ≡ Some p = is in cc)
 among hs mark (x ∷ ps) p seen is =
     elim (nat_eq x.message.mark mark) as (λ (b : Bool). nat_eq x.message.mark mark ≡ b → cond b (Some x) (find (λ y. nat_eq y.message.mark mark) ps) ≡ Some p
@@ -106,7 +106,7 @@ pub visible_of : (m : Mail) (mark : ℕ) (p : Placed) → IsMail m → shown m.f
 visible_of m mark p is e = among m.folders mark (visible m.folders) p (all_seen m.folders is.numbers is.uids) e
 
 -- its mark stands at its place
-pub marked_at : (hs : List Held) (n u : ℕ) (x : Message) → message_in hs n u ≡ Some x → mark_in hs (n, u) ≡ Some x.mark
+pub marked_at : (hs : List NumberedFolder) (n u : ℕ) (x : Message) → message_in hs n u ≡ Some x → mark_in hs (n, u) ≡ Some x.mark
 marked_at hs n u x e = ap (option_map (λ (y : Message). y.mark)) e
 
 -- ---- a message that is visible is found
@@ -148,7 +148,7 @@ in_folder n u mark (y ∷ xs) x is served marked = by (nat_eq y.uid u) refl is (
           | false ↦ later e
         ]
 
-shows : (hs : List Held) (n u mark : ℕ) (x : Message) → message_in hs n u ≡ Some x → is_served x ≡ true → x.mark ≡ mark → is_some (shown hs mark) ≡ true
+shows : (hs : List NumberedFolder) (n u mark : ℕ) (x : Message) → message_in hs n u ≡ Some x → is_served x ≡ true → x.mark ≡ mark → is_some (shown hs mark) ≡ true
 shows [] n u mark x is served marked = absurd (let f : None ≡ Some x = is in cc)
 shows (h ∷ hs) n u mark x is served marked =
     let joined : shown (h ∷ hs) mark ≡ option_or (find (λ p. nat_eq p.message.mark mark) (filter is_visible_place (placed_in h))) (shown hs mark) =

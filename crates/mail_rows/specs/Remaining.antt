@@ -1,7 +1,7 @@
 -- What becomes of the Emails that are there: each remains while the mail shows its mark, in whatever folder.
 use Rattle.std.specs.Prelude.{ℕ, List, [], ◌∷◌, Option, Some, None}
 use Rattle.std.specs.Option.{option_map}
-use Rattle.told_folder.specs.declared.message.Held.{Held}
+use Rattle.told_folder.specs.declared.message.NumberedFolder.{NumberedFolder}
 use Rattle.mail_maps.specs.declared.row.EmailRow.{EmailRow}
 use Rattle.mail_maps.specs.Rows.{Rows}
 use Rattle.mail_maps.specs.Keywords.{keywords_of}
@@ -12,7 +12,7 @@ abbrev pub updated : EmailRow → Placed → EmailRow
 updated row p = record row { folder = p.folder; uid = p.message.uid; keywords = keywords_of p.message.flags }
 
 -- what becomes of a row
-abbrev pub remaining_row : List Held → EmailRow → Option EmailRow
+abbrev pub remaining_row : List NumberedFolder → EmailRow → Option EmailRow
 remaining_row hs row = option_map (updated row) (shown hs row.mark)
 
 abbrev pub put_remaining : ℕ → Option EmailRow → Rows → Rows
@@ -20,6 +20,6 @@ put_remaining number None rest = rest
 put_remaining number (Some row) rest = (number, row) ∷ rest
 
 -- the rows that remain
-abbrev pub remaining : List Held → Rows → Rows
+abbrev pub remaining : List NumberedFolder → Rows → Rows
 remaining hs [] = []
 remaining hs (e ∷ es) = put_remaining e.0 (remaining_row hs e.1) (remaining hs es)

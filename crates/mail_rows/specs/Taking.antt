@@ -1,7 +1,7 @@
 -- What becomes of the Emails as the mail changes: some remain, and what is newly visible becomes new Emails.
 use Rattle.std.specs.Prelude.{◌≡◌, ℕ, ◌+◌, List, [], ◌∷◌, ◌++◌, Bool, not, filter, fold}
 use Rattle.std.specs.List.{AllZip, zip}
-use Rattle.told_folder.specs.declared.message.Held.{Held}
+use Rattle.told_folder.specs.declared.message.NumberedFolder.{NumberedFolder}
 use Rattle.mail_maps.specs.declared.row.EmailRow.{EmailRow}
 use Rattle.mail_maps.specs.declared.envelope.Envelope.{Envelope}
 use Rattle.mail_maps.specs.Envelope.{IsEnvelopeOf}
@@ -19,7 +19,7 @@ abbrev pub is_newcomer : Rows → Placed → Bool
 is_newcomer rows p = not (knows rows p.message.mark)
 
 -- the visible messages without a row, by folder number and then UID
-abbrev pub newcomers : List Held → Rows → List Placed
+abbrev pub newcomers : List NumberedFolder → Rows → List Placed
 newcomers hs rows = filter (is_newcomer rows) (visible hs)
 
 -- the row of a new Email of this number, in this Thread
@@ -54,19 +54,19 @@ AreEnvelopes ps es = AllZip (λ (p : Placed) (e : Envelope). IsEnvelopeOf p.mess
 -- ---- the whole
 
 -- what remains, before new Emails come
-abbrev pub left : NumberedRows → List Held → NumberedRows
+abbrev pub left : NumberedRows → List NumberedFolder → NumberedRows
 left n hs = record { rows = remaining hs n.rows; next = n.next }
 
 -- the messages that become new Emails
-abbrev pub arrivals : NumberedRows → List Held → List Placed
+abbrev pub arrivals : NumberedRows → List NumberedFolder → List Placed
 arrivals n hs = newcomers hs (remaining hs n.rows)
 
 -- what becomes of the rows, where these are the envelopes of the new Emails
-abbrev pub taken : NumberedRows → List Held → List Envelope → NumberedRows
+abbrev pub taken : NumberedRows → List NumberedFolder → List Envelope → NumberedRows
 taken n hs envelopes = with_rows (left n hs) (arrivals n hs) envelopes
 
 -- The rows before become the rows after. The headers of new messages alone are read, and a header has one envelope.
-pub record TakesMail (before : NumberedRows) (hs : List Held) (after : NumberedRows) : Type 0 where
+pub record TakesMail (before : NumberedRows) (hs : List NumberedFolder) (after : NumberedRows) : Type 0 where
   pub envelopes : List Envelope
   pub are_read : AreEnvelopes (arrivals before hs) envelopes
   pub after_is : after ≡ taken before hs envelopes

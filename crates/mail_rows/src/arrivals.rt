@@ -7,7 +7,7 @@ use mail_maps::visible::is_served;
 use std::alloc::{AllocError, Global};
 use std::collections::BTreeMap;
 use std::marker::Model;
-use told_folder::{Held, Message};
+use told_folder::{Message, NumberedFolder};
 
 /// A message that becomes an Email.
 #[derive(Drop)]
@@ -51,7 +51,7 @@ fn add(
 fn add_folder(
     alloc: Global,
     arrivals: &mut Vec<Arrival>,
-    held: &Held,
+    held: &NumberedFolder,
     marks: &BTreeMap<u64, u64>,
 ) -> Result<(), AllocError>
     ensures { OnOk result (arrivals.new.items ≡ arrivals.old.items ++ filter (passes.is_unmarked marks.now) (placed_in held.now)) }
@@ -68,7 +68,7 @@ fn add_folder(
 /// The visible messages that have no row, by folder number and then UID.
 pub fn arrivals_in(
     alloc: Global,
-    folders: &[Held],
+    folders: &[NumberedFolder],
     marks: &BTreeMap<u64, u64>,
 ) -> Result<Vec<Arrival>, AllocError>
     ensures { IfOk result (λ v. v.items ≡ passes.unmarked marks.now folders.now) }

@@ -11,7 +11,7 @@ use Rattle.change_list.specs.declared.entries.Entry.{Entry}
 use Rattle.served_maps.specs.Past.{Past, served, tests_of, had_at, has_now, place_now, gone_on, AreFresh, IsEverBelow}
 use Rattle.served_maps.proofs.StandsOn.{row_at-served, entries_served, rises}
 use Rattle.served_maps.proofs.Between.{same_part}
-use Rattle.told_folder.specs.declared.message.Held.{Held}
+use Rattle.told_folder.specs.declared.message.NumberedFolder.{NumberedFolder}
 use Rattle.told_folder.proofs.KeyedLemmas.{lt_same_gt}
 use Rattle.told_mail.specs.Mail.{Mail}
 use Rattle.mail_maps.specs.declared.row.EmailRow.{EmailRow}
@@ -59,11 +59,11 @@ all_in_order n (p ∷ ps) [] o = o
 all_in_order n (p ∷ ps) (e ∷ es) o =
     all_in_order (with_row n p e) ps es (record { sorted = sorted_last n.rows n.next (new_row n p e) o.sorted o.under; under = under_more n.rows n.next (new_row n p e) o.under })
 
-left_in_order : (n : NumberedRows) (hs : List Held) → InOrder n → InOrder (left n hs)
+left_in_order : (n : NumberedRows) (hs : List NumberedFolder) → InOrder n → InOrder (left n hs)
 left_in_order n hs o = record { sorted = sorted_remaining hs n.rows o.sorted; under = under_remaining hs n.next n.rows o.under }
 
 -- so are the rows that come of some mail
-pub taken_in_order : (n : NumberedRows) (hs : List Held) (after : NumberedRows) → InOrder n → TakesMail n hs after → InOrder after
+pub taken_in_order : (n : NumberedRows) (hs : List NumberedFolder) (after : NumberedRows) → InOrder n → TakesMail n hs after → InOrder after
 taken_in_order n hs after o takes =
     let P : NumberedRows → Type 0 = λ x. InOrder x in
     subst P (sym takes.after_is) (all_in_order (left n hs) (arrivals n hs) takes.envelopes (left_in_order n hs o))
@@ -75,7 +75,7 @@ served_rows serve es h = let S : List ℕ → Type 0 = λ ks. IsStrictlySortedBy
 -- ---- what is found below the next number
 
 -- below the next number nothing new comes: what is found there is what remains of what was
-pub taken_at : (n : NumberedRows) (hs : List Held) (after : NumberedRows) → InOrder n → TakesMail n hs after → (q : ℕ) → q < n.next
+pub taken_at : (n : NumberedRows) (hs : List NumberedFolder) (after : NumberedRows) → InOrder n → TakesMail n hs after → (q : ℕ) → q < n.next
     → row_at after.rows q ≡ remaining_if hs (row_at n.rows q)
 taken_at n hs after o takes q under =
     let more : Rows = added (left n hs) (arrivals n hs) takes.envelopes in
@@ -87,7 +87,7 @@ taken_at n hs after o takes q under =
     ∙ remaining_at hs n.rows o.sorted q
 
 -- the next number does not fall
-pub next_rises : (n : NumberedRows) (hs : List Held) (after : NumberedRows) → TakesMail n hs after → n.next ≤ after.next
+pub next_rises : (n : NumberedRows) (hs : List NumberedFolder) (after : NumberedRows) → TakesMail n hs after → n.next ≤ after.next
 next_rises n hs after takes =
     let k : after.next ≡ n.next + length (added (left n hs) (arrivals n hs) takes.envelopes) =
     ap (λ (x : NumberedRows). x.next) takes.after_is ∙ next_added (left n hs) (arrivals n hs) takes.envelopes in
@@ -115,7 +115,7 @@ was_row rows q e = by (row_at rows q) (sym (row_at-served email_of rows q) ∙ e
     by (Some r) f = absurd (let g : Some (email_of r) ≡ None = f in cc)
 
 -- an advance brings back no Email that is gone
-pub emails_are_fresh : (h : MailHistory) (hs : List Held) (n : NumberedRows) → IsSound h → TakesMail h.numbered hs n → AreFresh h.emails (served_emails n.rows)
+pub emails_are_fresh : (h : MailHistory) (hs : List NumberedFolder) (n : NumberedRows) → IsSound h → TakesMail h.numbered hs n → AreFresh h.emails (served_emails n.rows)
 emails_are_fresh h hs n sound takes q place gone comes = by (under_or_over q h.numbered.next)
   where
     by : (q < h.numbered.next) ⊎ (h.numbered.next ≤ q) → had_at h.emails place q ≡ None
@@ -127,7 +127,7 @@ emails_are_fresh h hs n sound takes q place gone comes = by (under_or_over q h.n
 
 -- ---- the same Email for good
 
-same_immutable_part : (hs : List Held) (o : Option EmailRow) (w : Option EmailRow) (u v : Email) → w ≡ remaining_if hs o → option_map email_of o ≡ Some u
+same_immutable_part : (hs : List NumberedFolder) (o : Option EmailRow) (w : Option EmailRow) (u v : Email) → w ≡ remaining_if hs o → option_map email_of o ≡ Some u
     → option_map email_of w ≡ Some v → u.immutable ≡ v.immutable
 same_immutable_part hs None w u v is f g = absurd (let k : None ≡ Some u = f in cc)
 same_immutable_part hs (Some r) w u v is f g = by (shown hs r.mark) (sym (ap (option_map email_of) is) ∙ g)
@@ -142,7 +142,7 @@ same_immutable_part hs (Some r) w u v is f g = by (shown hs r.mark) (sym (ap (op
         ap (λ (x : Email). x.immutable) (sym first) ∙ ap (λ (x : Email). x.immutable) second
 
 -- a number goes on to name the Email that it named
-pub keeps_immutable : (h : MailHistory) (hs : List Held) (n : NumberedRows) → IsSound h → TakesMail h.numbered hs n → AreRows (served_emails n.rows)
+pub keeps_immutable : (h : MailHistory) (hs : List NumberedFolder) (n : NumberedRows) → IsSound h → TakesMail h.numbered hs n → AreRows (served_emails n.rows)
     → KeepsImmutable (gone_on email_tests h.emails (served_emails n.rows))
 keeps_immutable h hs n sound takes rows =
     same_part (λ (x : Email). x.immutable) email_tests h.emails (served_emails n.rows) rows sound.emails (emails_are_fresh h hs n sound takes) keeps sound.immutable
@@ -161,7 +161,7 @@ keeps_immutable h hs n sound takes rows =
 -- ---- the next number
 
 -- the next number rises by no more than the touches of Emails
-pub email_count : (n : NumberedRows) (hs : List Held) (after : NumberedRows) → InOrder n → TakesMail n hs after → after.next ≤ n.next + length (email_touches n.rows after.rows)
+pub email_count : (n : NumberedRows) (hs : List NumberedFolder) (after : NumberedRows) → InOrder n → TakesMail n hs after → after.next ≤ n.next + length (email_touches n.rows after.rows)
 email_count n hs after o takes =
     let more : Rows = added (left n hs) (arrivals n hs) takes.envelopes in
     let next : after.next ≡ n.next + length more = ap (λ (x : NumberedRows). x.next) takes.after_is ∙ next_added (left n hs) (arrivals n hs) takes.envelopes in

@@ -8,7 +8,7 @@ use Rattle.served_maps.specs.Past.{served, AreFresh}
 use Rattle.told_folder.specs.Keyed.{Ascends, AllAbove}
 use Rattle.told_folder.specs.Folders.{folder_number, folder_in, held_in}
 use Rattle.told_folder.specs.declared.message.Folder.{Folder}
-use Rattle.told_folder.specs.declared.message.Held.{Held}
+use Rattle.told_folder.specs.declared.message.NumberedFolder.{NumberedFolder}
 use Rattle.told_mail.specs.Mail.{Mail, IsMail, IsNextMail, AllBelow}
 use Rattle.mail_maps.specs.declared.row.MailboxRow.{MailboxRow}
 use Rattle.mail_maps.specs.Rows.{Rows}
@@ -25,25 +25,25 @@ key_test : (q k : ℕ) → is_at (nat_cmp q) k ≡ nat_eq k q
 key_test q k = grind (arith, common_steps)
 
 module _ (fs : List Folder) (rows : Rows) where
-  abbrev boxes : List Held → List (ℕ × MailboxRow)
+  abbrev boxes : List NumberedFolder → List (ℕ × MailboxRow)
   boxes hs = map {B = ℕ × MailboxRow} (λ (f : Folder). (f.number, mailbox_row fs rows f)) (folders_of hs)
 
-  boxes_have : (hs : List Held) (q : ℕ) → is_some (row_at (served mailbox_of (boxes hs)) q) ≡ is_some (folder_in hs q)
+  boxes_have : (hs : List NumberedFolder) (q : ℕ) → is_some (row_at (served mailbox_of (boxes hs)) q) ≡ is_some (folder_in hs q)
   boxes_have [] q = refl
   boxes_have (h ∷ hs) q =
       ap (λ (b : Bool). is_some (cond b (Some (mailbox_of (mailbox_row fs rows h.folder))) (row_at (served mailbox_of (boxes hs)) q))) (key_test q h.folder.number)
       ∙ elim (nat_eq h.folder.number q) as (λ (b : Bool). is_some (cond b (Some (mailbox_of (mailbox_row fs rows h.folder))) (row_at (served mailbox_of (boxes hs)) q))
-      ≡ is_some (option_map (λ (x : Held). x.folder) (cond b (Some h) (held_in hs q)))) [
+      ≡ is_some (option_map (λ (x : NumberedFolder). x.folder) (cond b (Some h) (held_in hs q)))) [
         | true ↦ refl
         | false ↦ boxes_have hs q
       ]
 
-  no_box : (k : ℕ) (hs : List Held) → AllAbove folder_number k hs → row_at (served mailbox_of (boxes hs)) k ≡ None
+  no_box : (k : ℕ) (hs : List NumberedFolder) → AllAbove folder_number k hs → row_at (served mailbox_of (boxes hs)) k ≡ None
   no_box k [] a = refl
   no_box k (h ∷ hs) a =
       ap (λ (b : Bool). cond b (Some (mailbox_of (mailbox_row fs rows h.folder))) (row_at (served mailbox_of (boxes hs)) k)) (above_is_not k h.folder.number a.0) ∙ no_box k hs a.1
 
-  box_rows : (hs : List Held) → Ascends folder_number hs → AreRows (served mailbox_of (boxes hs))
+  box_rows : (hs : List NumberedFolder) → Ascends folder_number hs → AreRows (served mailbox_of (boxes hs))
   box_rows [] a = tt
   box_rows (h ∷ hs) a = (no_box h.folder.number hs a.0, box_rows hs a.1)
 
@@ -58,10 +58,10 @@ mailbox_rows m rows is = box_rows (folders_of m.folders) rows m.folders is.numbe
 -- ---- folders are below their counter
 
 -- a number that has a folder is below the folder counter
-pub folder_below : (next : ℕ) (hs : List Held) (q : ℕ) → AllBelow next hs → is_some (folder_in hs q) ≡ true → q < next
+pub folder_below : (next : ℕ) (hs : List NumberedFolder) (q : ℕ) → AllBelow next hs → is_some (folder_in hs q) ≡ true → q < next
 folder_below next [] q below some = absurd (let f : false ≡ true = some in cc)
 folder_below next (h ∷ hs) q below some =
-    elim (nat_eq h.folder.number q) as (λ (b : Bool). nat_eq h.folder.number q ≡ b → is_some (option_map (λ (x : Held). x.folder) (cond b (Some h) (held_in hs q))) ≡ true
+    elim (nat_eq h.folder.number q) as (λ (b : Bool). nat_eq h.folder.number q ≡ b → is_some (option_map (λ (x : NumberedFolder). x.folder) (cond b (Some h) (held_in hs q))) ≡ true
     → q < next) [
       | true ↦ λ same e. let k : h.folder.number ≡ q = eqb-true h.folder.number q same in let l = below.0 in omega (arith, k, l)
       | false ↦ λ other e. folder_below next hs q below.1 e

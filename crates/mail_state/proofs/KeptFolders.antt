@@ -5,7 +5,7 @@ use Rattle.std.specs.Option.{option_eq}
 use Rattle.std.proofs.lemmas.Slice.Eq.{slice_eq-Decides, bytes_eq-Decides}
 use Rattle.std.proofs.lemmas.Bool.Decides.{Decides-eqb, Decides-and, Decides-like}
 use Rattle.told_folder.specs.declared.message.Folder.{Folder}
-use Rattle.told_folder.specs.declared.message.Held.{Held}
+use Rattle.told_folder.specs.declared.message.NumberedFolder.{NumberedFolder}
 use Rattle.mail_state.specs.reading.Boxes.{is_stripped, are_stripped, stripped, stripped_folders}
 
 some_is : (x y : ℕ) → Some x ≡ Some y → x ≡ y
@@ -51,7 +51,7 @@ both true b e = (refl, e)
 both false b e = absurd (let f : false ≡ true = e in cc)
 
 -- folders that pass the test are those without what no Mailbox shows of them
-pub stripped_all : (ks : List Folder) (hs : List Held) → are_stripped ks hs ≡ true → ks ≡ stripped_folders hs
+pub stripped_all : (ks : List Folder) (hs : List NumberedFolder) → are_stripped ks hs ≡ true → ks ≡ stripped_folders hs
 stripped_all [] [] e = refl
 stripped_all [] (h ∷ hs) e = absurd (let f : false ≡ true = e in cc)
 stripped_all (k ∷ ks) [] e = absurd (let f : false ≡ true = e in cc)
@@ -60,7 +60,7 @@ stripped_all (k ∷ ks) (h ∷ hs) e =
     ap (λ (f : Folder). f ∷ ks) ((stripped_decides k h.folder).0 parts.0) ∙ ap (λ (fs : List Folder). stripped h.folder ∷ fs) (stripped_all ks hs parts.1)
 
 -- the same of folders that are lent
-pub kept_all : (ks lent : List Folder) (hs mail : List Held) (b : Bool) → lent ≡ ks → mail ≡ hs → b ≡ are_stripped lent mail → b ≡ true → ks ≡ stripped_folders hs
+pub kept_all : (ks lent : List Folder) (hs mail : List NumberedFolder) (b : Bool) → lent ≡ ks → mail ≡ hs → b ≡ are_stripped lent mail → b ≡ true → ks ≡ stripped_folders hs
 kept_all ks lent hs mail b same there tested is =
     stripped_all ks hs
     (ap (λ (fs : List Folder). are_stripped fs hs) (sym same) ∙ ap (are_stripped lent) (sym there) ∙ sym tested ∙ is)
@@ -69,7 +69,7 @@ one_more : (n : ℕ) → nat_eq (suc n) 0 ≡ false
 one_more n = grind arith
 
 -- where no folder is left, nothing is left of what is kept
-pub none_left : (ks : List Folder) (hs : List Held) (i : ℕ) → length hs ≤ i → nat_eq (length ks) 0 ≡ are_stripped ks (drop i hs)
+pub none_left : (ks : List Folder) (hs : List NumberedFolder) (i : ℕ) → length hs ≤ i → nat_eq (length ks) 0 ≡ are_stripped ks (drop i hs)
 none_left [] [] zero within = refl
 none_left [] [] (suc i) within = refl
 none_left (k ∷ ks) [] zero within = one_more (length ks)

@@ -13,7 +13,7 @@ use Rattle.change_list.specs.Advance.{advance_entries}
 use Rattle.change_list.specs.declared.entries.Entry.{Entry}
 use Rattle.served_maps.specs.Past.{tests_of}
 use Rattle.told_folder.specs.declared.message.Folder.{Folder}
-use Rattle.told_folder.specs.declared.message.Held.{Held}
+use Rattle.told_folder.specs.declared.message.NumberedFolder.{NumberedFolder}
 use Rattle.mail_maps.specs.declared.row.EmailRow.{EmailRow}
 use Rattle.mail_maps.specs.declared.row.MailboxRow.{MailboxRow}
 use Rattle.mail_maps.specs.declared.tally.FolderCounts.{FolderCounts}
@@ -110,7 +110,7 @@ strip_each fs rows (g ∷ gs) =
     ∙ ap (λ (es : List (ℕ × MailboxRow)). (g.number, mailbox_row fs rows g) ∷ es) (strip_each fs rows gs)
 
 -- the Mailboxes of stripped folders are those of the folders
-pub strip_boxes : (hs : List Held) (rows : Rows) → boxes_by (stripped_folders hs) rows ≡ mailboxes_of hs rows
+pub strip_boxes : (hs : List NumberedFolder) (rows : Rows) → boxes_by (stripped_folders hs) rows ≡ mailboxes_of hs rows
 strip_boxes hs rows = strip_each (folders_of hs) rows (folders_of hs)
 
 -- ---- what it shows of Emails
@@ -231,7 +231,7 @@ unmoved e p still =
       keywords = (slice_eq-Decides bytes_eq-Decides e.1.keywords (keywords_of p.message.flags) _ refl).0 (is_not (same_names e.1.keywords (keywords_of p.message.flags)) parts.1);
     }
 
-like_remaining : (hs : List Held) (rows : Rows) → gone_in hs rows ≡ [] → changes_in hs rows ≡ [] → AreLike rows (remaining hs rows)
+like_remaining : (hs : List NumberedFolder) (rows : Rows) → gone_in hs rows ≡ [] → changes_in hs rows ≡ [] → AreLike rows (remaining hs rows)
 like_remaining hs [] gone changed = tt
 like_remaining hs (e ∷ es) gone changed = by (shown hs e.1.mark) gone changed (like_remaining hs es)
   where
@@ -250,7 +250,7 @@ like_remaining hs (e ∷ es) gone changed = by (shown hs e.1.mark) gone changed 
         still false k = refl
 
 -- the Mailboxes of the same folders stay where no Email was touched
-pub mailboxes_kept : (n : NumberedRows) (hs : List Held) (after : NumberedRows) (kept : List Folder) (before : List (ℕ × MailboxRow)) → InOrder n → TakesMail n hs after
+pub mailboxes_kept : (n : NumberedRows) (hs : List NumberedFolder) (after : NumberedRows) (kept : List Folder) (before : List (ℕ × MailboxRow)) → InOrder n → TakesMail n hs after
     → before ≡ boxes_by kept n.rows → email_touches n.rows after.rows ≡ [] → before ≡ boxes_by kept after.rows
 mailboxes_kept n hs after kept before o takes was none =
     let more : Rows = added (left n hs) (arrivals n hs) takes.envelopes in
@@ -265,7 +265,7 @@ mailboxes_kept n hs after kept before o takes was none =
     was ∙ boxes_like kept kept n.rows after.rows (subst L is (like_remaining hs n.rows (no_removals (gone_in hs n.rows) first.0) second.0))
 
 -- Mailboxes that stay as they are are those of the folders and rows, without touches
-pub boxes_step : (before : List (ℕ × MailboxRow)) (kept : List Folder) (hs : List Held) (rows : Rows) (touches : List Entry) → IsStrictlySortedBy nat_cmp (keys_of before)
+pub boxes_step : (before : List (ℕ × MailboxRow)) (kept : List Folder) (hs : List NumberedFolder) (rows : Rows) (touches : List Entry) → IsStrictlySortedBy nat_cmp (keys_of before)
     → (steps : List Entry) → steps ≡ [] → touches ≡ [] → kept ≡ stripped_folders hs → BoxesStay before kept rows touches → StepsMailboxes before hs rows before steps
 boxes_step before kept hs rows touches sorted steps empty none same stays = record {
   mailboxes = stays.stay none ∙ ap (λ (fs : List Folder). boxes_by fs rows) same ∙ strip_boxes hs rows;
@@ -279,7 +279,7 @@ counted_anew fs was rows [] = refl
 counted_anew fs was rows (g ∷ gs) = ap (λ (es : List (ℕ × MailboxRow)). (g.number, mailbox_row fs rows g) ∷ es) (counted_anew fs was rows gs)
 
 -- Mailboxes of the same folders, with the counts of these rows, are those of the folders and rows
-pub boxes_recounted : (before now : List (ℕ × MailboxRow)) (kept : List Folder) (hs : List Held) (rows : Rows) (touches steps : List Entry)
+pub boxes_recounted : (before now : List (ℕ × MailboxRow)) (kept : List Folder) (hs : List NumberedFolder) (rows : Rows) (touches steps : List Entry)
     → now ≡ all_recounted (counts_in rows) before → steps ≡ advance_entries (tests_of mailbox_of mailbox_tests) before now → kept ≡ stripped_folders hs
     → BoxesStay before kept rows touches → StepsMailboxes before hs rows now steps
 boxes_recounted before now kept hs rows touches steps are steps_are same stays = record {
@@ -295,7 +295,7 @@ none_in (x ∷ es) e = absurd (let f : suc (length es) ≡ 0 = eqb-true (length 
 -- ---- the step of the rows
 
 -- in a step, the Mailboxes are those of the folders kept, and where no Email was touched, of the rows now
-pub boxes_stay : (n : NumberedRows) (hs : List Held) (after : NumberedRows) (kept : List Folder) (before : List (ℕ × MailboxRow)) (rows : Rows) (touches : List Entry)
+pub boxes_stay : (n : NumberedRows) (hs : List NumberedFolder) (after : NumberedRows) (kept : List Folder) (before : List (ℕ × MailboxRow)) (rows : Rows) (touches : List Entry)
     → InOrder n → TakesMail n hs after → before ≡ boxes_by kept n.rows → rows ≡ after.rows → touches ≡ email_touches n.rows after.rows → BoxesStay before kept rows touches
 boxes_stay n hs after kept before rows touches o takes was rows_are touches_are = record {
   was = n.rows;
@@ -304,7 +304,7 @@ boxes_stay n hs after kept before rows touches o takes was rows_are touches_are 
 }
 
 -- Mailboxes of folders are those of the folders that are kept of them
-pub boxes_are : (hs : List Held) (rows after : Rows) (kept : List Folder) (boxes : List (ℕ × MailboxRow)) → boxes ≡ mailboxes_of hs rows → kept ≡ stripped_folders hs → rows ≡ after
+pub boxes_are : (hs : List NumberedFolder) (rows after : Rows) (kept : List Folder) (boxes : List (ℕ × MailboxRow)) → boxes ≡ mailboxes_of hs rows → kept ≡ stripped_folders hs → rows ≡ after
     → boxes ≡ boxes_by kept after
 boxes_are hs rows after kept boxes are kept_are rows_are =
     are ∙ sym (strip_boxes hs rows) ∙ ap (λ (fs : List Folder). boxes_by fs rows) (sym kept_are) ∙ ap (boxes_by kept) rows_are

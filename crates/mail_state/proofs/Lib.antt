@@ -1,6 +1,6 @@
 mod EmailLemmas
 mod ThreadLemmas
-mod FolderLemmas
+pub mod FolderLemmas
 mod MarkLemmas
 mod NumberLemmas
 mod NoTouches
@@ -12,6 +12,7 @@ mod CountLemmas
 mod SoundLemmas
 mod FollowLemmas
 mod StayLemmas
+mod ChangeLemmas
 mod ValidityLemmas
 mod ToldRows
 mod KeyLemmas

@@ -41,7 +41,7 @@ use Rattle.told_folder.specs.Keyed.{Ascends, AllAbove}
 use Rattle.told_folder.specs.Folders.{uid_of, folder_number, mark_in, message_in}
 use Rattle.told_folder.specs.Index.{AllAscend}
 use Rattle.told_folder.specs.declared.message.Message.{Message}
-use Rattle.told_folder.specs.declared.message.Held.{Held}
+use Rattle.told_folder.specs.declared.message.NumberedFolder.{NumberedFolder}
 use Rattle.told_mail.specs.Mail.{Mail, IsMail}
 use Rattle.mail_maps.specs.declared.row.EmailRow.{EmailRow}
 use Rattle.mail_maps.specs.declared.envelope.Envelope.{Envelope}
@@ -120,7 +120,7 @@ above_joined : (k : ℕ) (ps qs : List Placed) → FoldersAbove k ps → Folders
 above_joined k [] qs f g = g
 above_joined k (p ∷ ps) qs f g = (f.0, above_joined k ps qs f.1 g)
 
-visible_above : (k : ℕ) (hs : List Held) → AllAbove folder_number k hs → FoldersAbove k (visible hs)
+visible_above : (k : ℕ) (hs : List NumberedFolder) → AllAbove folder_number k hs → FoldersAbove k (visible hs)
 visible_above k [] a = tt
 visible_above k (h ∷ hs) a =
     above_joined k (filter is_visible_place (placed_in h)) (visible hs) (above_filtered is_visible_place k (placed_in h) (above_placed k h.folder.number h.messages a.0))
@@ -138,7 +138,7 @@ order_joined : (k : ℕ) (ps qs : List Placed) → AllInFolder k ps → FoldersA
 order_joined k [] qs i a o r = r
 order_joined k (p ∷ ps) qs i a o r = (behind_joined p ps qs o.0 (behind_above p k qs i.0 a), order_joined k ps qs i.1 a o.1 r)
 
-visible_in_order : (hs : List Held) → Ascends folder_number hs → AllAscend hs → IsOrdered (visible hs)
+visible_in_order : (hs : List NumberedFolder) → Ascends folder_number hs → AllAscend hs → IsOrdered (visible hs)
 visible_in_order [] numbers uids = tt
 visible_in_order (h ∷ hs) numbers uids =
     order_joined h.folder.number (filter is_visible_place (placed_in h)) (visible hs)
@@ -182,7 +182,7 @@ apart : (m : Mail) (ps : List Placed) → IsMail m → AllSeen m.folders ps → 
 apart m [] is seen order = tt
 apart m (p ∷ ps) is seen order = (apart_behind m p ps is seen.0 seen.1 order.0, apart m ps is seen.1 order.1)
 
-seen_filtered : (hs : List Held) (f : Placed → Bool) (ps : List Placed) → AllSeen hs ps → AllSeen hs (filter f ps)
+seen_filtered : (hs : List NumberedFolder) (f : Placed → Bool) (ps : List Placed) → AllSeen hs ps → AllSeen hs (filter f ps)
 seen_filtered hs f [] s = tt
 seen_filtered hs f (p ∷ ps) s = elim (f p) as (λ (b : Bool). AllSeen hs (cond b (p ∷ filter f ps) (filter f ps)))
     [ true ↦ (s.0, seen_filtered hs f ps s.1) | false ↦ seen_filtered hs f ps s.1 ]
@@ -207,28 +207,28 @@ seen_is_shown m p is seen =
     ∙ ap (served_if p.folder) seen.at
     ∙ ap (λ (b : Bool). cond b (Some (record { folder = p.folder; message = p.message })) None) seen.served
 
-abbrev RowsAre : List Held → Rows → Type 0
+abbrev RowsAre : List NumberedFolder → Rows → Type 0
 RowsAre hs [] = Unit {0}
 RowsAre hs (e ∷ es) = IsRowOf hs e × RowsAre hs es
 
-to_rows : (hs : List Held) (rows : Rows) → All (IsRowOf hs) rows → RowsAre hs rows
+to_rows : (hs : List NumberedFolder) (rows : Rows) → All (IsRowOf hs) rows → RowsAre hs rows
 to_rows hs [] a = tt
 to_rows hs (e ∷ rows) a = (All-head (IsRowOf hs) e rows a, to_rows hs rows (All-tail (IsRowOf hs) e rows a))
 
-from_rows : (hs : List Held) (rows : Rows) → RowsAre hs rows → All (IsRowOf hs) rows
+from_rows : (hs : List NumberedFolder) (rows : Rows) → RowsAre hs rows → All (IsRowOf hs) rows
 from_rows hs [] a = All-nil (IsRowOf hs)
 from_rows hs (e ∷ rows) a = All-cons (IsRowOf hs) e rows a.0 (from_rows hs rows a.1)
 
-rows_joined : (hs : List Held) (a b : Rows) → RowsAre hs a → RowsAre hs b → RowsAre hs (a ++ b)
+rows_joined : (hs : List NumberedFolder) (a b : Rows) → RowsAre hs a → RowsAre hs b → RowsAre hs (a ++ b)
 rows_joined hs [] b f g = g
 rows_joined hs (e ∷ a) b f g = (f.0, rows_joined hs a b f.1 g)
 
-put_are : (old hs : List Held) (e : ℕ × EmailRow) (o : Option Placed) (more : Rows) → shown hs e.1.mark ≡ o → IsRowOf old e → RowsAre hs more
+put_are : (old hs : List NumberedFolder) (e : ℕ × EmailRow) (o : Option Placed) (more : Rows) → shown hs e.1.mark ≡ o → IsRowOf old e → RowsAre hs more
     → RowsAre hs (put_remaining e.0 (option_map (updated e.1) o) more)
 put_are old hs e None more is row are = are
 put_are old hs e (Some p) more is row are = (record { number = row.number; message = p; there = is; placed = refl; read = row.read }, are)
 
-remaining_are : (old hs : List Held) (rows : Rows) → RowsAre old rows → RowsAre hs (remaining hs rows)
+remaining_are : (old hs : List NumberedFolder) (rows : Rows) → RowsAre old rows → RowsAre hs (remaining hs rows)
 remaining_are old hs [] are = tt
 remaining_are old hs (e ∷ rows) are = put_are old hs e (shown hs e.1.mark) (remaining hs rows) refl are.0 (remaining_are old hs rows are.1)
 
@@ -243,7 +243,7 @@ all_are m n (p ∷ ps) (e ∷ es) is are seen read =
     seen.1 read.1
 
 -- after a step each row is as its message is
-pub rows_are : (old : List Held) (m : Mail) (n after : NumberedRows) → IsMail m → All (IsRowOf old) n.rows → TakesMail n m.folders after → All (IsRowOf m.folders) after.rows
+pub rows_are : (old : List NumberedFolder) (m : Mail) (n after : NumberedRows) → IsMail m → All (IsRowOf old) n.rows → TakesMail n m.folders after → All (IsRowOf m.folders) after.rows
 rows_are old m n after is are takes =
     let P : NumberedRows → Type 0 = λ x. RowsAre m.folders x.rows in
     from_rows m.folders after.rows (subst P (sym takes.after_is)
@@ -271,7 +271,7 @@ put_knows : (e : ℕ × EmailRow) (to : Option Placed) (more rest : Rows) (q : �
 put_knows e None more rest q f k = f (split (nat_eq e.1.mark q) (knows rest q) k).1
 put_knows e (Some p) more rest q f k = let s = split (nat_eq e.1.mark q) (knows rest q) k in neither (nat_eq e.1.mark q) (knows more q) s.0 (f s.1)
 
-remaining_knows : (hs : List Held) (rows : Rows) (q : ℕ) → knows rows q ≡ false → knows (remaining hs rows) q ≡ false
+remaining_knows : (hs : List NumberedFolder) (rows : Rows) (q : ℕ) → knows rows q ≡ false → knows (remaining hs rows) q ≡ false
 remaining_knows hs [] q k = refl
 remaining_knows hs (e ∷ rows) q k = put_knows e (shown hs e.1.mark) (remaining hs rows) rows q (remaining_knows hs rows q) k
 
@@ -280,7 +280,7 @@ put_apart : (e : ℕ × EmailRow) (to : Option Placed) (more : Rows) → knows m
 put_apart e None more none a = a
 put_apart e (Some p) more none a = (none, a)
 
-remaining_apart : (hs : List Held) (rows : Rows) → MarksApart rows → MarksApart (remaining hs rows)
+remaining_apart : (hs : List NumberedFolder) (rows : Rows) → MarksApart rows → MarksApart (remaining hs rows)
 remaining_apart hs [] a = tt
 remaining_apart hs (e ∷ rows) a = put_apart e (shown hs e.1.mark) (remaining hs rows) (remaining_knows hs rows e.1.mark a.0) (remaining_apart hs rows a.1)
 

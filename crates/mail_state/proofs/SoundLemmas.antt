@@ -15,7 +15,7 @@ use Rattle.change_list.proofs.CopyLaws as copies
 use Rattle.served_maps.specs.Past.{Past, IsPast, AreFresh, no_past, gone_on, had_at, has_now, place_now}
 use Rattle.served_maps.proofs.StandsOn.{past_on, row_at-served}
 use Rattle.served_maps.proofs.Between.{ever_below}
-use Rattle.told_folder.specs.declared.message.Held.{Held}
+use Rattle.told_folder.specs.declared.message.NumberedFolder.{NumberedFolder}
 use Rattle.told_mail.specs.Mail.{Mail, no_mail, IsMail, IsNextMail}
 use Rattle.mail_maps.specs.Serve.{Immutable, Email, ServedMailbox, email_of, same_counts, same_but_counts, mailbox_tests, email_tests, thread_tests}
 use Rattle.mail_rows.specs.NumberedRows.{NumberedRows}

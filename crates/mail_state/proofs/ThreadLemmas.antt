@@ -39,7 +39,7 @@ use Rattle.std.specs.Option.{option_map, unwrap_or}
 use Rattle.change_list.specs.Advance.{row_at, AreRows}
 use Rattle.thread_rule.specs.Threads.{Members}
 use Rattle.served_maps.specs.Past.{Past, served, AreFresh, IsEverBelow, place_now}
-use Rattle.told_folder.specs.declared.message.Held.{Held}
+use Rattle.told_folder.specs.declared.message.NumberedFolder.{NumberedFolder}
 use Rattle.mail_maps.specs.declared.row.EmailRow.{EmailRow}
 use Rattle.mail_maps.specs.declared.envelope.Envelope.{Envelope}
 use Rattle.mail_maps.specs.Rows.{Rows}
@@ -95,7 +95,7 @@ put_has number row (Some p) more rest q f e =
     elim (nat_eq row.thread q) as (λ (b : Bool). cond b true (has_thread rest q) ≡ false → cond b true (has_thread more q) ≡ false) [ true ↦ λ g. g | false ↦ f ] e
 
 -- what remains is in no Thread in which nothing was
-pub remaining_has : (hs : List Held) (rows : Rows) (q : ℕ) → has_thread rows q ≡ false → has_thread (remaining hs rows) q ≡ false
+pub remaining_has : (hs : List NumberedFolder) (rows : Rows) (q : ℕ) → has_thread rows q ≡ false → has_thread (remaining hs rows) q ≡ false
 remaining_has hs [] q e = refl
 remaining_has hs (r ∷ rows) q e = put_has r.0 r.1 (shown hs r.1.mark) (remaining hs rows) rows q (remaining_has hs rows q) e
 
@@ -159,7 +159,7 @@ some_not None e f = let g : false ≡ true = e in cc
 some_not (Some v) e f = cc
 
 -- an advance brings back no Thread that is gone
-pub threads_are_fresh : (h : MailHistory) (hs : List Held) (n : NumberedRows) → IsSound h → TakesMail h.numbered hs n → AreFresh h.threads (served_threads n.rows)
+pub threads_are_fresh : (h : MailHistory) (hs : List NumberedFolder) (n : NumberedRows) → IsSound h → TakesMail h.numbered hs n → AreFresh h.threads (served_threads n.rows)
 threads_are_fresh h hs n sound takes q place gone comes =
     let old : has_thread h.numbered.rows q ≡ false =
     sym (threads_have h.numbered.rows q) ∙ ap (λ (rows : List (ℕ × List ℕ)). is_some (row_at rows q)) (sym sound.threads_now) ∙ none_is (row_at h.threads.now q) gone in
@@ -195,7 +195,7 @@ all_below n [] es below = below
 all_below n (p ∷ ps) [] below = below
 all_below n (p ∷ ps) (e ∷ es) below = all_below (with_row n p e) ps es (one_below n p e below)
 
-left_below : (n : NumberedRows) (hs : List Held) → ThreadsBelow n → ThreadsBelow (left n hs)
+left_below : (n : NumberedRows) (hs : List NumberedFolder) → ThreadsBelow n → ThreadsBelow (left n hs)
 left_below n hs below q some =
     elim (has_thread n.rows q) as (λ (b : Bool). has_thread n.rows q ≡ b → q < n.next) [
       | true ↦ λ is. below q is
@@ -208,7 +208,7 @@ threads_below_now h sound q some =
     (ap (λ (x : List (ℕ × List ℕ)). row_at x q) (sym sound.threads_now) ∙ sound.threads.last q ∙ e))
 
 -- after a step each Thread is below the next number
-pub threads_below_then : (h : MailHistory) (hs : List Held) (n : NumberedRows) → IsSound h → TakesMail h.numbered hs n → ThreadsBelow n
+pub threads_below_then : (h : MailHistory) (hs : List NumberedFolder) (n : NumberedRows) → IsSound h → TakesMail h.numbered hs n → ThreadsBelow n
 threads_below_then h hs n sound takes =
     let P : NumberedRows → Type 0 = λ x. ThreadsBelow x in
     subst P (sym takes.after_is) (all_below (left h.numbered hs) (arrivals h.numbered hs) takes.envelopes (left_below h.numbered hs (threads_below_now h sound)))

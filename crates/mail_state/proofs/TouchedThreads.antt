@@ -13,7 +13,7 @@ use Rattle.std.proofs.lemmas.List.Folds.{list_any-append}
 use Rattle.change_list.specs.Advance.{row_at, advance_entries}
 use Rattle.change_list.specs.declared.entries.Entry.{Entry}
 use Rattle.served_maps.specs.Past.{tests_of}
-use Rattle.told_folder.specs.declared.message.Held.{Held}
+use Rattle.told_folder.specs.declared.message.NumberedFolder.{NumberedFolder}
 use Rattle.mail_maps.specs.declared.row.EmailRow.{EmailRow}
 use Rattle.mail_maps.specs.Rows.{Rows, in_thread}
 use Rattle.mail_maps.specs.Keywords.{sorted_into}
@@ -78,17 +78,17 @@ one_of f (d ∷ threads) t v none is =
 -- ---- no Email of the Thread goes
 
 -- each hidden row of these passes the test
-abbrev AllRemoved : List Held → (ℕ → Bool) → Rows → Type 0
+abbrev AllRemoved : List NumberedFolder → (ℕ → Bool) → Rows → Type 0
 AllRemoved hs f [] = Unit {0}
 AllRemoved hs f (e ∷ es) = (is_hidden hs e ≡ true → f e.0 ≡ true) × AllRemoved hs f es
 
-abbrev removed_in : List Held → Rows → List Entry
+abbrev removed_in : List NumberedFolder → Rows → List Entry
 removed_in hs rows = map touch_of_removal (gone_in hs rows)
 
 removed_self : (n : ℕ) (es : List Entry) (m : ℕ) → n ≡ m → (nat_eq n m && true) || list_any (removes m) es ≡ true
 removed_self n es m e = ap (λ (b : Bool). (b && true) || list_any (removes m) es) (eq-eqb n m e)
 
-all_removed : (hs : List Held) (f : ℕ → Bool) (rows : Rows) → ((n : ℕ) → list_any (removes n) (removed_in hs rows) ≡ true → f n ≡ true) → AllRemoved hs f rows
+all_removed : (hs : List NumberedFolder) (f : ℕ → Bool) (rows : Rows) → ((n : ℕ) → list_any (removes n) (removed_in hs rows) ≡ true → f n ≡ true) → AllRemoved hs f rows
 all_removed hs f [] covers = tt
 all_removed hs f (e ∷ es) covers =
     let rest : List RemovedEmail = map gone_of (filter (is_hidden hs) es) in (
@@ -107,7 +107,7 @@ all_removed hs f (e ∷ es) covers =
 abbrev pair_of : ℕ × EmailRow → ℤ × ℕ
 pair_of e = (e.1.received, e.0)
 
-module _ (hs : List Held) (f : ℕ → Bool) (t : ℕ) where
+module _ (hs : List NumberedFolder) (f : ℕ → Bool) (t : ℕ) where
   same_with : (e : ℕ × EmailRow) (p : Placed) (es : Rows) → pairs_in (remaining hs es) t ≡ pairs_in es t → pairs_in ((e.0, updated e.1 p) ∷ remaining hs es) t ≡ pairs_in (e ∷ es) t
   same_with e p es rest =
       elim (nat_eq e.1.thread t) as (λ (b : Bool). map pair_of (cond b ((e.0, updated e.1 p) ∷ filter (in_thread t) (remaining hs es)) (filter (in_thread t) (remaining hs es)))
@@ -188,7 +188,7 @@ none_lost f rows t none = by (pairs_in rows t) refl
         ∙ one_of (list_any f) (threads_of rows) t (emails_in rows t) none (threads_at rows t ∙ ap (λ (xs : List (ℤ × ℕ)). where_any xs (emails_in rows t)) e)
 
 -- the Threads that aren't touched stay as they were
-pub others_stay : (n : NumberedRows) (hs : List Held) (after : NumberedRows) → InOrder n → InOrder after → TakesMail n hs after
+pub others_stay : (n : NumberedRows) (hs : List NumberedFolder) (after : NumberedRows) → InOrder n → InOrder after → TakesMail n hs after
     → OthersStay (threads_of n.rows) after.rows (email_touches n.rows after.rows)
 others_stay n hs after o then takes t none =
     let more : Rows = added (left n hs) (arrivals n hs) takes.envelopes in
@@ -278,7 +278,7 @@ threads_stay old rows touches steps among covers none sorted empty stay = record
 }
 
 -- after a step, the Threads that no Email joins or leaves are those of before
-pub others_follow : (n : NumberedRows) (hs : List Held) (after : NumberedRows) (before : List (ℕ × List ℕ)) (rows : Rows) (touches : List Entry) → InOrder n → TakesMail n hs after
+pub others_follow : (n : NumberedRows) (hs : List NumberedFolder) (after : NumberedRows) (before : List (ℕ × List ℕ)) (rows : Rows) (touches : List Entry) → InOrder n → TakesMail n hs after
     → before ≡ threads_of n.rows → rows ≡ after.rows → touches ≡ email_touches n.rows after.rows → OthersStay before rows touches
 others_follow n hs after before rows touches o takes was rows_are touches_are =
     let T : List (ℕ × List ℕ) → Type 0 = λ ts. OthersStay ts after.rows (email_touches n.rows after.rows) in

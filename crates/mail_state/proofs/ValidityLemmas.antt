@@ -4,15 +4,13 @@ use Rattle.std.proofs.Common.{cond, refl, sym, ap, ◌∙◌, subst, arith, inl,
 use Rattle.std.specs.BTreeMap.{is_at}
 use Rattle.std.specs.Option.{option_map}
 use Rattle.change_list.specs.Advance.{row_at}
-use Rattle.told_folder.specs.Folders.{uid_of, held_in, folder_in, message_in, messages_of}
-use Rattle.told_folder.specs.Keyed.{with_key}
+use Rattle.told_folder.specs.Folders.{folder_in, message_in}
 use Rattle.told_folder.specs.declared.exchange.Exchange.{Exchange}
 use Rattle.told_folder.specs.declared.message.Folder.{Folder}
-use Rattle.told_folder.specs.declared.message.Held.{Held}
+use Rattle.told_folder.specs.declared.message.NumberedFolder.{NumberedFolder}
 use Rattle.told_folder.specs.declared.message.Message.{Message}
-use Rattle.told_mail.specs.Exchanges.{tell}
 use Rattle.told_mail.specs.Mail.{Mail, IsMail}
-use Rattle.told_mail.proofs.NextLemmas.{all_next}
+use Rattle.told_changes.specs.Told.{told}
 use Rattle.mail_maps.specs.declared.row.EmailRow.{EmailRow}
 use Rattle.mail_maps.specs.Rows.{Rows}
 use Rattle.mail_maps.specs.Visible.{Placed, shown}
@@ -22,70 +20,54 @@ use Rattle.mail_rows.proofs.TouchLemmas.{remaining_if}
 use Rattle.mail_rows.proofs.VisibleLemmas.{IsVisibleOf, visible_of, marked_at, hidden_mark}
 use Rattle.mail_state.specs.History.{MailHistory, Advances}
 use Rattle.mail_state.specs.Sound.{IsSound}
-use Rattle.mail_state.specs.Telling.{IsSameMessage}
+use Rattle.mail_state.specs.Telling.{IsSameMessage, NoneMoves}
 use Rattle.mail_state.proofs.EmailLemmas.{in_order, taken_at, under_or_over}
-use Rattle.mail_state.proofs.StayLemmas.{all_stay}
-
--- ---- places
+use Rattle.mail_state.proofs.ChangeLemmas.{IsHeldAt, held_at, at_place, all_keep, all_next, all_stay}
 
 some_is : {A : Type 0} (a b : A) → Some a ≡ Some b → a ≡ b
 some_is a b e = cc
 
--- a message is of a folder that is held
-record IsHeldAt (hs : List Held) (n u : ℕ) (x : Message) : Type 0 where
-  pub held : Held
-  pub is_held : held_in hs n ≡ Some held
-  pub there : with_key uid_of u held.messages ≡ Some x
-
-held_at : (hs : List Held) (n u : ℕ) (x : Message) → message_in hs n u ≡ Some x → IsHeldAt hs n u x
-held_at hs n u x e = by (held_in hs n) refl e
-  where
-    by : (o : Option Held) → held_in hs n ≡ o → with_key uid_of u (messages_of o) ≡ Some x → IsHeldAt hs n u x
-    by None is f = absurd (let g : None ≡ Some x = f in cc)
-    by (Some h) is f = record { held = h; is_held = is; there = f }
-
-at_place : (hs : List Held) (n u : ℕ) (h : Held) (x : Message) → held_in hs n ≡ Some h → with_key uid_of u h.messages ≡ Some x → message_in hs n u ≡ Some x
-at_place hs n u h x held there = ap (λ (o : Option Held). with_key uid_of u (messages_of o)) held ∙ there
-
 -- ---- a mark names one message
 
--- a message after exchanges whose mark a message had before is that one, at its place
-told_message : (m : Mail) (xs : List Exchange) (p q : ℕ × ℕ) (a b : Message) → IsMail m → message_in m.folders p.0 p.1 ≡ Some a
-    → message_in (fold tell m xs).folders q.0 q.1 ≡ Some b → b.mark ≡ a.mark → (q ≡ p) × IsSameMessage a b
-told_message m xs p q a b is at_p at_q marks =
-    let k : IsHeldAt (fold tell m xs).folders q.0 q.1 b = held_at (fold tell m xs).folders q.0 q.1 b at_q in
-    elim (all_stay m xs is q k.held b k.is_held k.there) [
-      | inl stood ↦
-          let there : message_in m.folders q.0 q.1 ≡ Some stood.was = at_place m.folders q.0 q.1 stood.held stood.was stood.is_held stood.there in
-          let mark : stood.was.mark ≡ a.mark = sym stood.same.mark ∙ marks in
-          let place : q ≡ p = is.marks q p a.mark (marked_at m.folders q.0 q.1 stood.was there ∙ ap (λ (n : ℕ). Some n) mark) (marked_at m.folders p.0 p.1 a at_p) in
-          let same : stood.was ≡ a = some_is stood.was a (sym there ∙ ap (λ (r : ℕ × ℕ). message_in m.folders r.0 r.1) place ∙ at_p) in
+-- a message after exchanges whose mark a message had before is that one
+pub one_message : (m : Mail) (xs : List Exchange) (p q : ℕ × ℕ) (a b : Message) → IsMail m → message_in m.folders p.0 p.1 ≡ Some a
+    → message_in (fold told m xs).folders q.0 q.1 ≡ Some b → b.mark ≡ a.mark → IsSameMessage a b
+one_message m xs p q a b is at_p at_q marks =
+    elim ((all_keep m xs is).each q b at_q) [
+      | inl w ↦
+          let mark : w.was.mark ≡ a.mark = sym w.same.mark ∙ marks in
+          let place : w.place ≡ p =
+          is.marks w.place p a.mark (marked_at m.folders w.place.0 w.place.1 w.was w.there ∙ ap (λ (n : ℕ). Some n) mark) (marked_at m.folders p.0 p.1 a at_p) in
+          let same : w.was ≡ a = some_is w.was a (sym w.there ∙ ap (λ (r : ℕ × ℕ). message_in m.folders r.0 r.1) place ∙ at_p) in
           let S : Message → Type 0 = λ z. IsSameMessage z b in
-          (place, subst S same stood.same)
+          subst S same w.same
       | inr new ↦ absurd (let less : a.mark < m.next_mark = is.marks_below p a.mark (marked_at m.folders p.0 p.1 a at_p) in omega (arith, new, less, marks))
     ]
 
--- such a message stands at the place of before
-pub one_place : (m : Mail) (xs : List Exchange) (p q : ℕ × ℕ) (a b : Message) → IsMail m → message_in m.folders p.0 p.1 ≡ Some a
-    → message_in (fold tell m xs).folders q.0 q.1 ≡ Some b → b.mark ≡ a.mark → q ≡ p
-one_place m xs p q a b is at_p at_q marks = (told_message m xs p q a b is at_p at_q marks).0
-
--- and is the same
-pub one_message : (m : Mail) (xs : List Exchange) (p q : ℕ × ℕ) (a b : Message) → IsMail m → message_in m.folders p.0 p.1 ≡ Some a
-    → message_in (fold tell m xs).folders q.0 q.1 ≡ Some b → b.mark ≡ a.mark → IsSameMessage a b
-one_message m xs p q a b is at_p at_q marks = (told_message m xs p q a b is at_p at_q marks).1
+-- and stands at its place of before, as long as no MOVE is told
+pub one_place : (m : Mail) (xs : List Exchange) (p q : ℕ × ℕ) (a b : Message) → IsMail m → NoneMoves xs → message_in m.folders p.0 p.1 ≡ Some a
+    → message_in (fold told m xs).folders q.0 q.1 ≡ Some b → b.mark ≡ a.mark → q ≡ p
+one_place m xs p q a b is none at_p at_q marks =
+    let k : IsHeldAt (fold told m xs).folders q.0 q.1 b = held_at (fold told m xs).folders q.0 q.1 b at_q in
+    elim (all_stay m xs is none q k.held b k.is_held k.there) [
+      | inl stood ↦
+          let there : message_in m.folders q.0 q.1 ≡ Some stood.was = at_place m.folders q.0 q.1 stood.held stood.was stood.is_held stood.there in
+          let mark : stood.was.mark ≡ a.mark = sym stood.same.mark ∙ marks in
+          is.marks q p a.mark (marked_at m.folders q.0 q.1 stood.was there ∙ ap (λ (n : ℕ). Some n) mark) (marked_at m.folders p.0 p.1 a at_p)
+      | inr new ↦ absurd (let less : a.mark < m.next_mark = is.marks_below p a.mark (marked_at m.folders p.0 p.1 a at_p) in omega (arith, new, less, marks))
+    ]
 
 -- ---- under another validity
 
 -- the folder after exchanges, under another validity, has messages of new marks alone
-pub new_marks : (m : Mail) (xs : List Exchange) (n u : ℕ) (f g : Folder) (x : Message) → IsMail m → folder_in m.folders n ≡ Some f
-    → folder_in (fold tell m xs).folders n ≡ Some g → f.validity ≢ g.validity → message_in (fold tell m xs).folders n u ≡ Some x → m.next_mark ≤ x.mark
-new_marks m xs n u f g x is was now other at =
-    let k : IsHeldAt (fold tell m xs).folders n u x = held_at (fold tell m xs).folders n u x at in
-    elim (all_stay m xs is (n, u) k.held x k.is_held k.there) [
+pub new_marks : (m : Mail) (xs : List Exchange) (n u : ℕ) (f g : Folder) (x : Message) → IsMail m → NoneMoves xs → folder_in m.folders n ≡ Some f
+    → folder_in (fold told m xs).folders n ≡ Some g → f.validity ≢ g.validity → message_in (fold told m xs).folders n u ≡ Some x → m.next_mark ≤ x.mark
+new_marks m xs n u f g x is none was now other at =
+    let k : IsHeldAt (fold told m xs).folders n u x = held_at (fold told m xs).folders n u x at in
+    elim (all_stay m xs is none (n, u) k.held x k.is_held k.there) [
       | inl stood ↦
-          let before : stood.held.folder ≡ f = some_is stood.held.folder f (sym (ap (option_map (λ (h : Held). h.folder)) stood.is_held) ∙ was) in
-          let after : k.held.folder ≡ g = some_is k.held.folder g (sym (ap (option_map (λ (h : Held). h.folder)) k.is_held) ∙ now) in
+          let before : stood.held.folder ≡ f = some_is stood.held.folder f (sym (ap (option_map (λ (h : NumberedFolder). h.folder)) stood.is_held) ∙ was) in
+          let after : k.held.folder ≡ g = some_is k.held.folder g (sym (ap (option_map (λ (h : NumberedFolder). h.folder)) k.is_held) ∙ now) in
           absurd (other (ap (λ (h : Folder). h.validity) (sym before) ∙ sym stood.valid ∙ ap (λ (h : Folder). h.validity) after))
       | inr new ↦ new
     ]
@@ -105,14 +87,14 @@ known_row (d ∷ rows) q row e =
     or_true false b t = t
 
 -- what remains of a row is of a message that is shown
-record IsRest (hs : List Held) (o : Option EmailRow) (row : EmailRow) : Type 0 where
+record IsRest (hs : List NumberedFolder) (o : Option EmailRow) (row : EmailRow) : Type 0 where
   pub old : EmailRow
   pub there : o ≡ Some old
   pub message : Placed
   pub is_shown : shown hs old.mark ≡ Some message
   pub now : updated old message ≡ row
 
-rest_of : (hs : List Held) (o : Option EmailRow) (row : EmailRow) → remaining_if hs o ≡ Some row → IsRest hs o row
+rest_of : (hs : List NumberedFolder) (o : Option EmailRow) (row : EmailRow) → remaining_if hs o ≡ Some row → IsRest hs o row
 rest_of hs None row e = absurd (let f : None ≡ Some row = e in cc)
 rest_of hs (Some old) row e = by (shown hs old.mark) refl e
   where
@@ -125,14 +107,14 @@ never_shown : (m : Mail) (mark : ℕ) → IsMail m → m.next_mark ≤ mark → 
 never_shown m mark is least = hidden_mark m mark is (λ p at. (let less : mark < m.next_mark = is.marks_below p mark at in omega (arith, less, least)))
 
 -- an Email of a folder under another validity has a new number
-pub new_ids : (h after : MailHistory) (xs : List Exchange) (f g : Folder) (number : ℕ) (row : EmailRow) → IsSound h → Advances h (fold tell h.mail xs) after
+pub new_ids : (h after : MailHistory) (xs : List Exchange) (f g : Folder) (number : ℕ) (row : EmailRow) → IsSound h → NoneMoves xs → Advances h (fold told h.mail xs) after
     → folder_in h.mail.folders row.folder ≡ Some f → folder_in after.mail.folders row.folder ≡ Some g → f.validity ≢ g.validity
     → row_at after.numbered.rows number ≡ Some row → h.numbered.next ≤ number
-new_ids h after xs f g number row sound a was now other there =
+new_ids h after xs f g number row sound none a was now other there =
     elim (under_or_over number h.numbered.next) [ inl under ↦ absurd (never under) | inr over ↦ over ]
   where
     m : Mail
-    m = fold tell h.mail xs
+    m = fold told h.mail xs
 
     is_mail : IsMail m
     is_mail = (all_next h.mail xs sound.is_mail).is_mail
@@ -149,7 +131,7 @@ new_ids h after xs f g number row sound a was now other there =
         let at : message_in m.folders row.folder rest.message.message.uid ≡ Some rest.message.message =
         ap (λ (n : ℕ). message_in m.folders n rest.message.message.uid) (sym folder) ∙ seen.seen.at in
         let new : h.mail.next_mark ≤ rest.message.message.mark =
-        new_marks h.mail xs row.folder rest.message.message.uid f g rest.message.message sound.is_mail was folder_now other at in
+        new_marks h.mail xs row.folder rest.message.message.uid f g rest.message.message sound.is_mail none was folder_now other at in
         let mark : rest.message.message.mark ≡ rest.old.mark = seen.marked in
         let known : is_some (shown h.mail.folders rest.old.mark) ≡ true = sym (sound.marks_shown rest.old.mark) ∙ known_row h.numbered.rows number rest.old rest.there in
         let hidden : shown h.mail.folders rest.old.mark ≡ None = never_shown h.mail rest.old.mark sound.is_mail (omega (arith, new, mark)) in

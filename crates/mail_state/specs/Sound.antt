@@ -4,7 +4,7 @@ use Rattle.std.specs.List.Sorted.{IsStrictlySortedBy}
 use Rattle.std.specs.Map.{keys_of}
 use Rattle.std.specs.Ordering.{nat_cmp}
 use Rattle.change_list.specs.History.{Touch, map_then}
-use Rattle.told_folder.specs.declared.message.Held.{Held}
+use Rattle.told_folder.specs.declared.message.NumberedFolder.{NumberedFolder}
 use Rattle.told_mail.specs.Mail.{IsMail}
 use Rattle.served_maps.specs.Past.{Past, IsPast, IsEverBelow, had_at, place_now}
 use Rattle.mail_maps.specs.declared.row.EmailRow.{EmailRow}
@@ -16,7 +16,7 @@ use Rattle.mail_rows.specs.Remaining.{updated}
 use Rattle.mail_state.specs.History.{MailHistory, served_mailboxes, served_emails, served_threads}
 
 -- a row knows its number, has the folder, UID and keywords of its message, and the envelope of its header
-pub record IsRowOf (hs : List Held) (e : ℕ × EmailRow) : Type 0 where
+pub record IsRowOf (hs : List NumberedFolder) (e : ℕ × EmailRow) : Type 0 where
   pub number : e.1.number ≡ e.0
   pub message : Placed
   pub there : shown hs e.1.mark ≡ Some message

@@ -5,10 +5,10 @@ use Rattle.imap_types.specs.declared.command.Command.TheVariants as command
 use Rattle.told_folder.specs.Folders.{uid_of, message_in}
 use Rattle.told_folder.specs.Keyed.{with_key}
 use Rattle.told_folder.specs.declared.exchange.Exchange.{Exchange}
-use Rattle.told_folder.specs.declared.message.Held.{Held}
+use Rattle.told_folder.specs.declared.message.NumberedFolder.{NumberedFolder}
 use Rattle.told_folder.specs.declared.message.Message.{Message}
-use Rattle.told_mail.specs.Exchanges.{tell}
 use Rattle.told_mail.specs.Mail.{Mail, held_in}
+use Rattle.told_changes.specs.Told.{told}
 use Rattle.mail_maps.specs.declared.row.EmailRow.{EmailRow}
 use Rattle.mail_state.specs.History.{MailHistory, Advances, first_history}
 
@@ -30,7 +30,7 @@ pub record IsSameMessage (a b : Message) : Type 0 where
 
 -- the message stood at the place, which is a folder's number and a UID, under this validity
 pub record StoodThere (m : Mail) (place : ℕ × ℕ) (validity : ℕ) (x : Message) : Type 0 where
-  pub held : Held
+  pub held : NumberedFolder
   pub is_held : held_in m.folders place.0 ≡ Some held
   pub valid : validity ≡ held.folder.validity
   pub was : Message
@@ -39,16 +39,16 @@ pub record StoodThere (m : Mail) (place : ℕ × ℕ) (validity : ℕ) (x : Mess
 
 -- each message of m stood at its place before, or its mark was never given then
 abbrev pub StaysOrIsNew : Mail → Mail → Type 0
-StaysOrIsNew before m = (place : ℕ × ℕ) (h : Held) (x : Message) → held_in m.folders place.0 ≡ Some h → with_key uid_of place.1 h.messages ≡ Some x
+StaysOrIsNew before m = (place : ℕ × ℕ) (h : NumberedFolder) (x : Message) → held_in m.folders place.0 ≡ Some h → with_key uid_of place.1 h.messages ≡ Some x
     → StoodThere before place h.folder.validity x ⊎ (before.next_mark ≤ x.mark)
 
 -- histories of what exchanges told
 pub data IsTold : MailHistory → Type 0 where
   Begins : (epoch : ℕ) → IsTold (first_history epoch)
-  Goes : (h after : MailHistory) (xs : List Exchange) → IsTold h → Advances h (fold tell h.mail xs) after → IsTold after
+  Goes : (h after : MailHistory) (xs : List Exchange) → IsTold h → Advances h (fold told h.mail xs) after → IsTold after
 
 -- the message that stands at the Email's folder and UID has its mark, header, date and size
-pub record HasItsMessage (hs : List Held) (e : ℕ × EmailRow) : Type 0 where
+pub record HasItsMessage (hs : List NumberedFolder) (e : ℕ × EmailRow) : Type 0 where
   pub message : Message
   pub there : message_in hs e.1.folder e.1.uid ≡ Some message
   pub mark : e.1.mark ≡ message.mark

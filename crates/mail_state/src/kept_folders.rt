@@ -3,7 +3,7 @@ ghost use Rattle.std.specs.Prelude.{◌≡◌, IfOk};
 ghost use Rattle.mail_state.specs.reading.Boxes.{are_stripped, is_stripped, stripped, stripped_folders};
 
 use std::alloc::{AllocError, Global};
-use told_folder::{Folder, Held};
+use told_folder::{Folder, NumberedFolder};
 
 /// A folder without what no Mailbox shows of it. Its octets are shared.
 fn stripped_of(alloc: Global, folder: &Folder) -> Result<Folder, AllocError>
@@ -23,7 +23,7 @@ fn stripped_of(alloc: Global, folder: &Folder) -> Result<Folder, AllocError>
 }
 
 /// The folders without what no Mailbox shows of them.
-pub fn strip(alloc: Global, folders: &[Held]) -> Result<Vec<Folder>, AllocError>
+pub fn strip(alloc: Global, folders: &[NumberedFolder]) -> Result<Vec<Folder>, AllocError>
     ensures { IfOk result (λ v. v.items ≡ stripped_folders folders.now) }
 {
     let mut stripped = Vec::new(alloc);
@@ -48,7 +48,7 @@ fn is_stripped(kept: &Folder, folder: &Folder) -> bool
 }
 
 /// Whether these are the folders without what no Mailbox shows of them. It takes no memory.
-pub fn are_kept(kept: &[Folder], folders: &[Held]) -> bool
+pub fn are_kept(kept: &[Folder], folders: &[NumberedFolder]) -> bool
     ensures { result ≡ are_stripped kept.now folders.now }
 {
     let mut left = kept;

@@ -7,8 +7,8 @@ ghost use Rattle.change_list.specs.declared.answer.Changes.{Changes};
 ghost use Rattle.told_folder.specs.declared.exchange.Exchange.{Exchange};
 ghost use Rattle.told_folder.specs.declared.message.Folder.{Folder};
 ghost use Rattle.told_folder.specs.declared.message.Message.{Message};
-ghost use Rattle.told_mail.specs.Exchanges.{tell};
 ghost use Rattle.told_mail.specs.Mail.{Mail, IsMail, IsNextMail, folder_in, message_in};
+ghost use Rattle.told_changes.specs.Told.{told};
 ghost use Rattle.served_maps.specs.Past.{had_at};
 ghost use Rattle.mail_maps.specs.declared.row.EmailRow.{EmailRow};
 ghost use Rattle.mail_maps.specs.Serve.{Email, ServedMailbox, mailbox_tests, email_tests, thread_tests};
@@ -47,25 +47,25 @@ pub fn one_mark()
 /// As long as no MOVE is told, each message that exchanges leave stood at its place before, under its folder's validity, or its
 /// mark is new.
 pub fn messages_stay()
-    ensures { (m : Mail) (xs : List Exchange) → IsMail m → NoneMoves xs → StaysOrIsNew m (fold tell m xs) }
+    ensures { (m : Mail) (xs : List Exchange) → IsMail m → NoneMoves xs → StaysOrIsNew m (fold told m xs) }
 {}
 
 /// As long as no MOVE is told, a mark that a message had names a message at the same place.
 pub fn told_places_stay()
     ensures { (m : Mail) (xs : List Exchange) (p q : ℕ × ℕ) (a b : Message) → IsMail m → NoneMoves xs → message_in m.folders p.0 p.1 ≡ Some a
-        → message_in (fold tell m xs).folders q.0 q.1 ≡ Some b → b.mark ≡ a.mark → q ≡ p }
+        → message_in (fold told m xs).folders q.0 q.1 ≡ Some b → b.mark ≡ a.mark → q ≡ p }
 {}
 
 /// A mark names one message for good: its header, date and size stay.
 pub fn a_mark_names_one_message()
     ensures { (m : Mail) (xs : List Exchange) (p q : ℕ × ℕ) (a b : Message) → IsMail m → message_in m.folders p.0 p.1 ≡ Some a
-        → message_in (fold tell m xs).folders q.0 q.1 ≡ Some b → b.mark ≡ a.mark → IsSameMessage a b }
+        → message_in (fold told m xs).folders q.0 q.1 ≡ Some b → b.mark ≡ a.mark → IsSameMessage a b }
 {}
 
 /// As long as no MOVE is told, no Email of a folder that has another validity has a number of before.
 pub fn a_new_validity_makes_new_ids()
     ensures { (h after : MailHistory) (xs : List Exchange) (f g : Folder) (number : ℕ) (row : EmailRow)
-        → IsSound h → NoneMoves xs → Advances h (fold tell h.mail xs) after → folder_in h.mail.folders row.folder ≡ Some f
+        → IsSound h → NoneMoves xs → Advances h (fold told h.mail xs) after → folder_in h.mail.folders row.folder ≡ Some f
         → folder_in after.mail.folders row.folder ≡ Some g → f.validity ≢ g.validity → row_at after.numbered.rows number ≡ Some row → h.numbered.next ≤ number }
 {}
 

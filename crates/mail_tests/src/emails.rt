@@ -1,5 +1,5 @@
 // Emails as objects.
-use body_parts::Message;
+use body_parts::ParsedMessage;
 use email_objects::{email_object, email_value, parsed_value};
 use email_properties::{Defaults, EmailWanted, email_wanted};
 use jmap_arguments::MethodError;
@@ -67,10 +67,10 @@ fn object_of(
 ) -> Result<Value, AllocError> {
     match word {
         "email" => email_value(alloc, &row_of(alloc, octets)?, Some(octets), wanted),
-        "nameless" => parsed_value(alloc, None, &Message { octets, id: None }, wanted),
+        "nameless" => parsed_value(alloc, None, &ParsedMessage { octets, id: None }, wanted),
         _ => {
             let id = Some(LEAF_ID);
-            parsed_value(alloc, id, &Message { octets, id }, wanted)
+            parsed_value(alloc, id, &ParsedMessage { octets, id }, wanted)
         }
     }
 }

@@ -27,6 +27,7 @@ use std::alloc::Global;
 pub fn check_email_query_changes(alloc: Global, arguments: &Value) -> Result<(), MethodError>
     ensures { Agrees Memory (λ u. u) result (email_query_changes_refused (view arguments.now)) }
 {
+    // (only whether it is refused is told)
     let _asked = email_query_changes_asked(alloc, arguments)?;
     Ok(())
 }
@@ -35,6 +36,7 @@ pub fn check_email_query_changes(alloc: Global, arguments: &Value) -> Result<(),
 pub fn check_mailbox_query_changes(alloc: Global, arguments: &Value) -> Result<(), MethodError>
     ensures { Agrees Memory (λ u. u) result (mailbox_query_changes_refused (view arguments.now)) }
 {
+    // (only whether it is refused is told)
     let _asked = mailbox_query_changes_asked(alloc, arguments)?;
     Ok(())
 }

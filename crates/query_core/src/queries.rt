@@ -24,6 +24,7 @@ use std::alloc::Global;
 pub fn check_email_query(alloc: Global, arguments: &Value) -> Result<(), MethodError>
     ensures { Agrees Memory (λ u. u) result (email_query_refused (view arguments.now)) }
 {
+    // (only whether it is refused is told)
     let _asked = email_query_asked(alloc, arguments)?;
     Ok(())
 }
@@ -32,6 +33,7 @@ pub fn check_email_query(alloc: Global, arguments: &Value) -> Result<(), MethodE
 pub fn check_mailbox_query(alloc: Global, arguments: &Value) -> Result<(), MethodError>
     ensures { Agrees Memory (λ u. u) result (mailbox_query_refused (view arguments.now)) }
 {
+    // (only whether it is refused is told)
     let _asked = mailbox_query_asked(alloc, arguments)?;
     Ok(())
 }

@@ -2,7 +2,7 @@
 use std::alloc::{AllocError, Global};
 use std::collections::BTreeMap;
 use std::str;
-use told_mail::{Folder, Held, Message, Mirror};
+use told_mail::{Folder, Message, Mirror, NumberedFolder};
 
 /// From this many messages on, one goes where else one would come.
 const MANY: usize = 60;
@@ -108,14 +108,14 @@ impl Random {
     }
 
     /// One of the folders.
-    fn folder<'a>(&mut self, mirror: &'a Mirror) -> Option<&'a Held> {
+    fn folder<'a>(&mut self, mirror: &'a Mirror) -> Option<&'a NumberedFolder> {
         let folders = mirror.folders();
         let at = self.next().checked_rem(folders.len())?;
         folders.get(at)
     }
 
     /// One of the messages of a folder.
-    fn message<'a>(&mut self, held: &'a Held) -> Option<&'a Message> {
+    fn message<'a>(&mut self, held: &'a NumberedFolder) -> Option<&'a Message> {
         let messages = held.messages.as_slice();
         let at = self.next().checked_rem(messages.len())?;
         messages.get(at)
@@ -177,7 +177,7 @@ impl Random {
         &mut self,
         chance: usize,
         mirror: &Mirror,
-        held: &Held,
+        held: &NumberedFolder,
     ) -> Result<Change, AllocError> {
         let Some(message) = self.message(held) else {
             return Ok(("", String::new(self.alloc)));

@@ -46,6 +46,7 @@ fn asked_of(arguments: &Value) -> Result<Asked<'_>, MethodError>
 pub fn check_changes(arguments: &Value) -> Result<(), MethodError>
     ensures { result ≡ spec.changes_refused (view arguments.now) }
 {
+    // (only whether it is refused is told)
     let _asked = asked_of(arguments)?;
     Ok(())
 }

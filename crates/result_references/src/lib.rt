@@ -16,4 +16,5 @@ mod sources;
 
 pub use call::Call;
 pub use counted_octets::MAX_RESOLVED_OCTETS;
+pub use path::unescaped;
 pub use references::resolve;

@@ -55,8 +55,8 @@ fn behind_tilde(text: &str) -> (&'static str, &str)
     }
 }
 
-/// The name that a token stands for.
-fn unescaped(alloc: Global, token: &str) -> Result<String, AllocError>
+/// The name that a token of a JSON Pointer stands for (RFC 6901 section 4).
+pub fn unescaped(alloc: Global, token: &str) -> Result<String, AllocError>
     ensures { IfOk result (λ name. string_bytes name ≡ unescape token.now) }
 {
     let mut name = String::new(alloc);

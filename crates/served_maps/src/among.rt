@@ -44,6 +44,7 @@ pub fn updated<R: Drop>(
         → (q : ℕ) → row_at rows.entries q ≡ then_at ids.now old.entries fresh.entries q) }
 {
     let mut rows = old;
+    // (the length says that keys ascend)
     let _count = fresh.len();
     clear_among(&mut rows, ids);
     put_rows(&mut rows, fresh)?;
@@ -154,6 +155,7 @@ pub fn steps_among<R: Row>(
         → ((row : R) → R.same row row ≡ true)
         → v.items ≡ advance_entries (record { same = R.same; counts = R.but_for_counts }) old.now.entries new) }
 {
+    // (the lengths say that keys ascend)
     let _count = old.len();
     let _ids = ids.len();
     let first = removals(alloc, old, fresh, ids)?;

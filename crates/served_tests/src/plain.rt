@@ -3,7 +3,7 @@ use crate::shown::put_rows;
 use mail_state::{MailState, MailType};
 use std::alloc::{AllocError, Global};
 use test_rows::put_octets;
-use told_mail::{Folder, Held, Message};
+use told_mail::{Folder, Message, NumberedFolder};
 
 /// An Email. Its header has one digit each for its own id, the id that it answers and its subject.
 #[derive(Clone, Copy)]
@@ -60,7 +60,7 @@ fn email_of(number: u64, folder: u64, message: &Message, thread: u64) -> PlainEm
 }
 
 /// The visible message of a mark, with its folder's number.
-fn visible(folders: &[Held], mark: u64) -> Option<(u64, &Message)> {
+fn visible(folders: &[NumberedFolder], mark: u64) -> Option<(u64, &Message)> {
     for held in folders {
         for message in held.messages.as_slice() {
             if message.mark == mark && !has_flag(message, b"\\deleted") {
@@ -117,7 +117,7 @@ fn is_below(name: &[u8], other: &[u8]) -> bool {
 }
 
 /// The folder with the longest name that is above this one.
-fn parent<'a>(folders: &'a [Held], name: &[u8]) -> Option<&'a Folder> {
+fn parent<'a>(folders: &'a [NumberedFolder], name: &[u8]) -> Option<&'a Folder> {
     let mut best: Option<&'a Folder> = None;
     for held in folders {
         let other = held.folder.name.as_slice();
@@ -147,7 +147,7 @@ impl Plain {
     }
 
     /// Leaves the Emails that remain.
-    fn keep(&mut self, folders: &[Held]) -> Result<(), AllocError> {
+    fn keep(&mut self, folders: &[NumberedFolder]) -> Result<(), AllocError> {
         let mut left = Vec::new(self.alloc);
         for email in &self.emails {
             if let Some((folder, message)) = visible(folders, email.mark) {
@@ -171,7 +171,7 @@ impl Plain {
         Ok(())
     }
 
-    fn add_folder(&mut self, held: &Held) -> Result<(), AllocError> {
+    fn add_folder(&mut self, held: &NumberedFolder) -> Result<(), AllocError> {
         for message in held.messages.as_slice() {
             self.add(held.folder.number, message)?;
         }
@@ -179,7 +179,7 @@ impl Plain {
     }
 
     /// Goes on to these folders.
-    pub(crate) fn step(&mut self, folders: &[Held]) -> Result<(), AllocError> {
+    pub(crate) fn step(&mut self, folders: &[NumberedFolder]) -> Result<(), AllocError> {
         self.keep(folders)?;
         for held in folders {
             self.add_folder(held)?;
@@ -225,7 +225,7 @@ impl Plain {
     fn put_mailbox(
         &self,
         out: &mut String,
-        folders: &[Held],
+        folders: &[NumberedFolder],
         folder: &Folder,
     ) -> Result<(), AllocError> {
         let name = folder.name.as_slice();
@@ -246,7 +246,11 @@ impl Plain {
     }
 
     /// Adds the Mailboxes, one for each folder, with what is counted of their Emails.
-    fn put_mailboxes(&self, out: &mut String, folders: &[Held]) -> Result<(), AllocError> {
+    fn put_mailboxes(
+        &self,
+        out: &mut String,
+        folders: &[NumberedFolder],
+    ) -> Result<(), AllocError> {
         for held in folders {
             self.put_mailbox(out, folders, &held.folder)?;
         }
@@ -257,7 +261,7 @@ impl Plain {
     fn put_rows(
         &self,
         out: &mut String,
-        folders: &[Held],
+        folders: &[NumberedFolder],
         kind: MailType,
     ) -> Result<(), AllocError> {
         match kind {
@@ -271,7 +275,7 @@ impl Plain {
     pub(crate) fn is_served(
         &self,
         state: &MailState,
-        folders: &[Held],
+        folders: &[NumberedFolder],
     ) -> Result<bool, AllocError> {
         let mut served = String::new(self.alloc);
         let mut wanted = String::new(self.alloc);

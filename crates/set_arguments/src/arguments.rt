@@ -10,9 +10,8 @@ ghost use Rattle.set_arguments.specs.reading.Asked.{asked_data};
 ghost use Rattle.set_arguments.specs.reading.Keys.{AscendWhereThere, keyed_data};
 
 use crate::asked::{Keyed, SetAsked};
-use crate::fractions::has_fraction;
 use crate::set_method::SetMethod;
-use jmap_arguments::{MethodError, check_account, texts_in};
+use jmap_arguments::{MethodError, check_account, has_fraction, texts_in};
 use serde_json::{Map, Value};
 use std::alloc::{AllocError, Global};
 

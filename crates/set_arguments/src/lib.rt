@@ -3,7 +3,6 @@
 
 mod arguments;
 mod asked;
-mod fractions;
 mod set_method;
 
 pub use arguments::{MAX_OBJECTS_IN_SET, set_asked};

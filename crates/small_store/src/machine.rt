@@ -33,14 +33,14 @@ use store_responses::push_response;
 
 /// What a store holds and does, where its mail is one that can be told.
 #[derive(Drop)]
-pub(crate) struct Machine {
+pub(crate) struct StoredMachine {
     pub(crate) mail: StoredMail,
     /// The number of the folder that is selected.
     pub(crate) selected: Option<u32>,
     pub(crate) alloc: Global,
 }
 
-impl Model for Machine {
+impl Model for StoredMachine {
     ghost use Rattle.honest_store.specs.Sessions.{StoreSession};
 
     ghost Value = { StoreSession };
@@ -48,14 +48,14 @@ impl Model for Machine {
     ghost view = { λ s. record { mail = s.mail; selected = s.selected } };
 }
 
-impl Machine {
+impl StoredMachine {
     /// INBOX and Archive, both empty, with the UIDVALIDITIES 1 and 2, and no folder selected.
-    pub(crate) fn new(alloc: Global) -> Result<Machine, AllocError>
+    pub(crate) fn new(alloc: Global) -> Result<StoredMachine, AllocError>
         ensures first { IfOk result (λ s. s ≡ first_session) }
         ensures tellable { IfOk result (λ s. IsTellableMail s.mail) }
     {
         let mail = StoredMail::new(alloc)?;
-        Ok(Machine {
+        Ok(StoredMachine {
             mail,
             selected: None,
             alloc,

@@ -6,7 +6,7 @@ ghost use Rattle.small_mail.specs.Places.{IsFolderAt, IsMessageAt};
 ghost use Rattle.small_answers.specs.OwnersCalls as calls;
 ghost use Rattle.small_responses.specs.Tellable.{IsTellableMail};
 
-use crate::machine::Machine;
+use crate::machine::StoredMachine;
 use crate::messages::is_full_for_move;
 use octets::{Bytes, Names};
 use small_mail::StoredMail;
@@ -49,7 +49,7 @@ fn seen_flag(alloc: Global) -> Result<Names, AllocError>
     Ok(names)
 }
 
-impl Machine {
+impl StoredMachine {
     /// Delivers a message to the folder. False where no such folder is there, or a number would pass its end. The date is in
     /// seconds since 1970-01-01T00:00:00Z, within the years 0 to 9999.
     pub(crate) fn deliver(

@@ -7,7 +7,7 @@ ghost use Rattle.small_answers.specs.Causes.{NeedsSelected, RefusalCause};
 ghost use Rattle.small_answers.specs.SmallMail.{IsSmallMail};
 ghost use Rattle.small_store.specs.reading.Names as names;
 
-use crate::machine::Machine;
+use crate::machine::StoredMachine;
 use crate::messages::is_full_for_move;
 use imap_types::Command;
 use octets::Names;
@@ -89,7 +89,7 @@ fn needs_selected(command: &Command) -> bool
     }
 }
 
-impl Machine {
+impl StoredMachine {
     /// Whether there is a cause to refuse the command.
     pub(crate) fn refuses(&self, command: &Command) -> Result<bool, AllocError>
         requires { IsSmallMail self.now.mail }

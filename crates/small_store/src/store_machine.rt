@@ -13,7 +13,7 @@ ghost use Rattle.small_responses.specs.AnswerTexts.{text_of_answer};
 ghost use Rattle.small_responses.specs.Tellable.{IsTellableCommand, IsTellableMail};
 
 use crate::answer::Answer;
-use crate::machine::Machine;
+use crate::machine::StoredMachine;
 use imap_types::Command;
 use small_mail::StoredFolder;
 use std::alloc::{AllocError, Global};
@@ -23,7 +23,7 @@ use store_sessions::CommandStore;
 /// A store in memory, of one user, and one session over it.
 #[derive(Drop)]
 pub struct StoreMachine {
-    machine: Machine,
+    machine: StoredMachine,
 }
 
 impl Model for StoreMachine {
@@ -42,7 +42,7 @@ impl StoreMachine {
     pub fn new(alloc: Global) -> Result<StoreMachine, AllocError>
         ensures { IfOk result (λ s. s ≡ first_session) }
     {
-        let machine = Machine::new(alloc)?;
+        let machine = StoredMachine::new(alloc)?;
         Ok(StoreMachine { machine })
     }
 

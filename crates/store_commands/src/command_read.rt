@@ -7,7 +7,7 @@ ghost use Rattle.command_parts.specs.reading.Steps.{ReadingGives};
 
 use crate::folder_arguments::{append, create, delete, login, rename, select, subscribe};
 use crate::message_arguments::{expunge, fetch, move_to, store};
-use crate::request::{Request, command_of};
+use crate::request::{CommandRequest, command_of};
 use command_parts::{Choice, FixedText, NoCommand, read_choice, read_tag};
 use imap_types::Command;
 use octets::Bytes;
@@ -33,7 +33,7 @@ pub enum CommandRead {
 
 /// The arguments of a command on folders, up to its end.
 #[tactic(auto, unfolding(crate::specs::reading::Commands::folder_arguments_at))]
-fn folder_arguments(word: FixedText, bytes: &[u8]) -> Result<(Request, &[u8]), NoCommand>
+fn folder_arguments(word: FixedText, bytes: &[u8]) -> Result<(CommandRequest, &[u8]), NoCommand>
     ensures { ReadingGives (λ x. (asked.command_asked x.0, x.1.now)) result (reading.folder_arguments_at word bytes.now) }
 {
     match word {
@@ -50,7 +50,7 @@ fn folder_arguments(word: FixedText, bytes: &[u8]) -> Result<(Request, &[u8]), N
 
 /// The arguments of a command on messages, up to its end.
 #[tactic(auto, unfolding(crate::specs::reading::Commands::message_arguments_at))]
-fn message_arguments(word: FixedText, bytes: &[u8]) -> Result<(Request, &[u8]), NoCommand>
+fn message_arguments(word: FixedText, bytes: &[u8]) -> Result<(CommandRequest, &[u8]), NoCommand>
     ensures { ReadingGives (λ x. (asked.command_asked x.0, x.1.now)) result (reading.message_arguments_at word bytes.now) }
 {
     match word {
@@ -64,26 +64,26 @@ fn message_arguments(word: FixedText, bytes: &[u8]) -> Result<(Request, &[u8]), 
 
 /// What follows the text with which a command begins.
 #[tactic(auto, unfolding(crate::specs::reading::Commands::arguments_at))]
-fn arguments(word: FixedText, bytes: &[u8]) -> Result<(Request, &[u8]), NoCommand>
+fn arguments(word: FixedText, bytes: &[u8]) -> Result<(CommandRequest, &[u8]), NoCommand>
     ensures { ReadingGives (λ x. (asked.command_asked x.0, x.1.now)) result (reading.arguments_at word bytes.now) }
 {
     match word {
-        FixedText::Capability => Ok((Request::Capability, bytes)),
-        FixedText::Enable => Ok((Request::Enable, bytes)),
-        FixedText::Unselect => Ok((Request::Unselect, bytes)),
-        FixedText::List => Ok((Request::List { special_use: false }, bytes)),
-        FixedText::ListAtom => Ok((Request::List { special_use: false }, bytes)),
-        FixedText::ListSubscribed => Ok((Request::List { special_use: false }, bytes)),
-        FixedText::ListAtomSubscribed => Ok((Request::List { special_use: false }, bytes)),
-        FixedText::ListSpecialUse => Ok((Request::List { special_use: true }, bytes)),
-        FixedText::ListAtomSpecialUse => Ok((Request::List { special_use: true }, bytes)),
+        FixedText::Capability => Ok((CommandRequest::Capability, bytes)),
+        FixedText::Enable => Ok((CommandRequest::Enable, bytes)),
+        FixedText::Unselect => Ok((CommandRequest::Unselect, bytes)),
+        FixedText::List => Ok((CommandRequest::List { special_use: false }, bytes)),
+        FixedText::ListAtom => Ok((CommandRequest::List { special_use: false }, bytes)),
+        FixedText::ListSubscribed => Ok((CommandRequest::List { special_use: false }, bytes)),
+        FixedText::ListAtomSubscribed => Ok((CommandRequest::List { special_use: false }, bytes)),
+        FixedText::ListSpecialUse => Ok((CommandRequest::List { special_use: true }, bytes)),
+        FixedText::ListAtomSpecialUse => Ok((CommandRequest::List { special_use: true }, bytes)),
         _ => message_arguments(word, bytes),
     }
 }
 
 /// What is asked at the front with its tag, and what follows it.
 #[tactic(auto, unfolding(crate::specs::reading::Commands::command_at))]
-fn read_tagged(bytes: &[u8]) -> Result<((&[u8], Request), &[u8]), NoCommand>
+fn read_tagged(bytes: &[u8]) -> Result<((&[u8], CommandRequest), &[u8]), NoCommand>
     ensures { ReadingGives (λ x. ((x.0.0.now, asked.command_asked x.0.1), x.1.now)) result (reading.command_at bytes.now) }
 {
     let (tag, rest) = read_tag(bytes)?;
@@ -108,7 +108,7 @@ fn whole(
     alloc: Global,
     length: usize,
     tag: &[u8],
-    request: &Request,
+    request: &CommandRequest,
 ) -> Result<CommandRead, AllocError>
     ensures { IfOk result (λ read. read ≡ CommandRead.Whole length tag.now (asked.command_asked request.now)) }
 {

@@ -4,7 +4,7 @@ ghost use Rattle.store_commands.specs.reading.Arguments as reading;
 ghost use Rattle.store_commands.specs.reading.Asked as asked;
 ghost use Rattle.command_parts.specs.reading.Steps.{ReadingGives};
 
-use crate::request::Request;
+use crate::request::CommandRequest;
 use command_parts::{
     Choice, FixedText, Follow, NoCommand, read_choice, read_fixed, read_flags, read_last_name,
     read_number,
@@ -12,13 +12,13 @@ use command_parts::{
 use imap_values::octet_at;
 
 /// What is fetched from a UID on, by the text that says it.
-fn fetched_from(from: u32, items: FixedText) -> Request<'static>
+fn fetched_from(from: u32, items: FixedText) -> CommandRequest<'static>
     ensures { asked.command_asked result ≡ reading.fetched_from from items }
 {
     match items {
-        FixedText::FlagsOnly => Request::FetchFlags,
-        FixedText::ItemsWithModseq => Request::FetchNew { from, modseq: true },
-        _ => Request::FetchNew {
+        FixedText::FlagsOnly => CommandRequest::FetchFlags,
+        FixedText::ItemsWithModseq => CommandRequest::FetchNew { from, modseq: true },
+        _ => CommandRequest::FetchNew {
             from,
             modseq: false,
         },
@@ -26,16 +26,16 @@ fn fetched_from(from: u32, items: FixedText) -> Request<'static>
 }
 
 /// What is fetched from one UID to another, by the text that says it.
-fn fetched_slice(from: u32, to: u32, items: FixedText) -> Request<'static>
+fn fetched_slice(from: u32, to: u32, items: FixedText) -> CommandRequest<'static>
     ensures { asked.command_asked result ≡ reading.fetched_slice from to items }
 {
     match items {
-        FixedText::ItemsWithModseq => Request::FetchSlice {
+        FixedText::ItemsWithModseq => CommandRequest::FetchSlice {
             from,
             to,
             modseq: true,
         },
-        _ => Request::FetchSlice {
+        _ => CommandRequest::FetchSlice {
             from,
             to,
             modseq: false,
@@ -56,7 +56,7 @@ fn items_from(from: u32) -> Choice
 
 /// What follows the colon of a range that has no end.
 #[tactic(auto, unfolding(crate::specs::reading::Arguments::open_range_at))]
-fn open_range(from: u32, bytes: &[u8]) -> Result<(Request, &[u8]), NoCommand>
+fn open_range(from: u32, bytes: &[u8]) -> Result<(CommandRequest, &[u8]), NoCommand>
     ensures { ReadingGives (λ x. (asked.command_asked x.0, x.1.now)) result (reading.open_range_at from bytes.now) }
 {
     let (_, rest) = read_fixed(FixedText::LastUid, bytes)?;
@@ -66,7 +66,7 @@ fn open_range(from: u32, bytes: &[u8]) -> Result<(Request, &[u8]), NoCommand>
 
 /// What follows the colon of a range: "*" or a number, SP and the items.
 #[tactic(auto, unfolding(crate::specs::reading::Arguments::range_at, crate::specs::reading::Arguments::closed_range_at))]
-fn range(from: u32, bytes: &[u8]) -> Result<(Request, &[u8]), NoCommand>
+fn range(from: u32, bytes: &[u8]) -> Result<(CommandRequest, &[u8]), NoCommand>
     ensures { ReadingGives (λ x. (asked.command_asked x.0, x.1.now)) result (reading.range_at from bytes.now) }
 {
     if octet_at(bytes, 0) == b'*' {
@@ -79,7 +79,7 @@ fn range(from: u32, bytes: &[u8]) -> Result<(Request, &[u8]), NoCommand>
 
 /// A UID or a range of UIDs, and what is fetched.
 #[tactic(auto, unfolding(crate::specs::reading::Arguments::fetch_at, crate::specs::reading::Arguments::fetched_at, crate::specs::reading::Arguments::body_at))]
-pub fn fetch(bytes: &[u8]) -> Result<(Request, &[u8]), NoCommand>
+pub fn fetch(bytes: &[u8]) -> Result<(CommandRequest, &[u8]), NoCommand>
     ensures { ReadingGives (λ x. (asked.command_asked x.0, x.1.now)) result (reading.fetch_at bytes.now) }
 {
     let ((uid, end), rest) = read_number(bytes, Follow::ColonOrSpace)?;
@@ -87,7 +87,7 @@ pub fn fetch(bytes: &[u8]) -> Result<(Request, &[u8]), NoCommand>
         return range(uid, rest);
     }
     let (_, rest) = read_fixed(FixedText::Body, rest)?;
-    Ok((Request::FetchBody { uid }, rest))
+    Ok((CommandRequest::FetchBody { uid }, rest))
 }
 
 /// Whether the flags are set, and not taken.
@@ -99,7 +99,7 @@ fn is_add(change: FixedText) -> bool
 
 /// A UID, and flags that are set or taken.
 #[tactic(auto, unfolding(crate::specs::reading::Arguments::store_at))]
-pub fn store(bytes: &[u8]) -> Result<(Request, &[u8]), NoCommand>
+pub fn store(bytes: &[u8]) -> Result<(CommandRequest, &[u8]), NoCommand>
     ensures { ReadingGives (λ x. (asked.command_asked x.0, x.1.now)) result (reading.store_at bytes.now) }
 {
     let ((uid, _), rest) = read_number(bytes, Follow::Space)?;
@@ -107,25 +107,25 @@ pub fn store(bytes: &[u8]) -> Result<(Request, &[u8]), NoCommand>
     let (flags, rest) = read_flags(rest)?;
     let (_, rest) = read_fixed(FixedText::LineEnd, rest)?;
     let add = is_add(change);
-    Ok((Request::Store { uid, add, flags }, rest))
+    Ok((CommandRequest::Store { uid, add, flags }, rest))
 }
 
 /// A UID and a folder's name.
 #[tactic(auto, unfolding(crate::specs::reading::Arguments::move_at))]
-pub fn move_to(bytes: &[u8]) -> Result<(Request, &[u8]), NoCommand>
+pub fn move_to(bytes: &[u8]) -> Result<(CommandRequest, &[u8]), NoCommand>
     ensures { ReadingGives (λ x. (asked.command_asked x.0, x.1.now)) result (reading.move_at bytes.now) }
 {
     let ((uid, _), rest) = read_number(bytes, Follow::Space)?;
     let (name, rest) = read_last_name(rest)?;
-    Ok((Request::Move { uid, name }, rest))
+    Ok((CommandRequest::Move { uid, name }, rest))
 }
 
 /// A UID.
 #[tactic(auto, unfolding(crate::specs::reading::Arguments::expunge_at))]
-pub fn expunge(bytes: &[u8]) -> Result<(Request, &[u8]), NoCommand>
+pub fn expunge(bytes: &[u8]) -> Result<(CommandRequest, &[u8]), NoCommand>
     ensures { ReadingGives (λ x. (asked.command_asked x.0, x.1.now)) result (reading.expunge_at bytes.now) }
 {
     let ((uid, _), rest) = read_number(bytes, Follow::Line)?;
     let (_, rest) = read_fixed(FixedText::LineFeed, rest)?;
-    Ok((Request::Expunge { uid }, rest))
+    Ok((CommandRequest::Expunge { uid }, rest))
 }

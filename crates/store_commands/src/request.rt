@@ -13,7 +13,7 @@ use std::alloc::{AllocError, Global};
 
 /// A command whose texts are lent by the octets that were read. A name and flags stand at the front of theirs.
 #[derive(Clone, Copy)]
-pub enum Request<'a> {
+pub enum CommandRequest<'a> {
     Capability,
     Login {
         user: Credential<'a>,
@@ -137,60 +137,60 @@ fn rename(alloc: Global, from: &[u8], to: &[u8]) -> Result<Command, AllocError>
 }
 
 /// The command that is asked.
-pub fn command_of(alloc: Global, request: &Request) -> Result<Command, AllocError>
+pub fn command_of(alloc: Global, request: &CommandRequest) -> Result<Command, AllocError>
     ensures { IfOk result (λ c. c ≡ asked.command_asked request.now) }
 {
     match request {
-        Request::Capability => Ok(Command::Capability),
-        Request::Login { user, password } => login(alloc, user, password),
-        Request::Enable => Ok(Command::Enable),
-        Request::List { special_use } => Ok(Command::List {
+        CommandRequest::Capability => Ok(Command::Capability),
+        CommandRequest::Login { user, password } => login(alloc, user, password),
+        CommandRequest::Enable => Ok(Command::Enable),
+        CommandRequest::List { special_use } => Ok(Command::List {
             special_use: *special_use,
         }),
-        Request::Select { name, known } => {
+        CommandRequest::Select { name, known } => {
             let name = text_of(alloc, name)?;
             let known = *known;
             Ok(Command::Select { name, known })
         }
-        Request::Unselect => Ok(Command::Unselect),
-        Request::FetchFlags => Ok(Command::FetchFlags),
-        Request::FetchSlice { from, to, modseq } => Ok(Command::FetchSlice {
+        CommandRequest::Unselect => Ok(Command::Unselect),
+        CommandRequest::FetchFlags => Ok(Command::FetchFlags),
+        CommandRequest::FetchSlice { from, to, modseq } => Ok(Command::FetchSlice {
             from: *from,
             to: *to,
             modseq: *modseq,
         }),
-        Request::FetchNew { from, modseq } => Ok(Command::FetchNew {
+        CommandRequest::FetchNew { from, modseq } => Ok(Command::FetchNew {
             from: *from,
             modseq: *modseq,
         }),
-        Request::FetchBody { uid } => Ok(Command::FetchBody { uid: *uid }),
-        Request::Store { uid, add, flags } => {
+        CommandRequest::FetchBody { uid } => Ok(Command::FetchBody { uid: *uid }),
+        CommandRequest::Store { uid, add, flags } => {
             let flags = names_of(alloc, flags)?;
             let (uid, add) = (*uid, *add);
             Ok(Command::Store { uid, add, flags })
         }
-        Request::Move { uid, name } => {
+        CommandRequest::Move { uid, name } => {
             let name = text_of(alloc, name)?;
             let uid = *uid;
             Ok(Command::Move { uid, name })
         }
-        Request::Expunge { uid } => Ok(Command::Expunge { uid: *uid }),
-        Request::Append {
+        CommandRequest::Expunge { uid } => Ok(Command::Expunge { uid: *uid }),
+        CommandRequest::Append {
             name,
             flags,
             date,
             message,
         } => append(alloc, name, flags, *date, message),
-        Request::Create { name } => {
+        CommandRequest::Create { name } => {
             let name = text_of(alloc, name)?;
             Ok(Command::Create { name })
         }
-        Request::Delete { name } => {
+        CommandRequest::Delete { name } => {
             let name = text_of(alloc, name)?;
             Ok(Command::Delete { name })
         }
-        Request::Rename { from, to } => rename(alloc, from, to),
-        Request::Subscribe { name, on } => {
+        CommandRequest::Rename { from, to } => rename(alloc, from, to),
+        CommandRequest::Subscribe { name, on } => {
             let name = text_of(alloc, name)?;
             let on = *on;
             Ok(Command::Subscribe { name, on })

@@ -8,7 +8,7 @@ use Rattle.store_sessions.specs.declared.next.SessionError.{SessionError}
 use Rattle.store_sessions.specs.declared.next.SessionError.TheVariants.{Failed, Memory}
 use Rattle.store_sessions.specs.Sessions.{ServesClient}
 use Rattle.store_sessions.specs.reading.Going.{HaveBeen}
-use Rattle.store_sessions.specs.Clients.{Served, OneMore, ServesAll, AllServed, NoneLeft, NotAccepted, OutOfMemory, failures_of}
+use Rattle.store_sessions.specs.Clients.{ServedSession, OneMore, ServesAll, AllServed, NoneLeft, NotAccepted, OutOfMemory, failures_of}
 
 pub rose_none : (n : ℕ) → RoseBy 0 n n
 rose_none n = omega arith
@@ -28,7 +28,7 @@ rose_with (Err Failed) times was mid now rose later failed = rose_more times was
 
 pub served_all : {s t : StoreSession} {count was mid : ℕ} {xs : List Event} (most : ℕ) → HaveBeen s t count was mid xs → count ≡ most → ServesAll s t most was mid 0 xs
 served_all {s} {t} {count} {was} {mid} {xs} most so is =
-    record { failed = so.failed; serves = AllServed (subst (λ (n : ℕ). Served s n so.failed xs t) is so.served); rose = so.rose }
+    record { failed = so.failed; serves = AllServed (subst (λ (n : ℕ). ServedSession s n so.failed xs t) is so.served); rose = so.rose }
 
 pub none_left : {s t : StoreSession} {count was mid : ℕ} {xs : List Event} (most now : ℕ) → HaveBeen s t count was mid xs → count < most → mid ≤ now
     → ServesAll s t most was now 0 (xs ++ NoMore ∷ [])
@@ -51,7 +51,7 @@ pub one_more : {s t u : StoreSession} {count was mid : ℕ} {xs : List Event} (a
     → HaveBeen s u (count + 1) was now (xs ++ (ys ++ zs))
 one_more {s} {t} {u} {count} {was} {mid} {xs} at now how ys zs so is serves well first later failed = record {
   failed = so.failed + failures_of how;
-  served = subst (λ (l : List Event). Served s (count + 1) (so.failed + failures_of how) (xs ++ (l ++ zs)) u) (sym is) (OneMore so.served serves well);
+  served = subst (λ (l : List Event). ServedSession s (count + 1) (so.failed + failures_of how) (xs ++ (l ++ zs)) u) (sym is) (OneMore so.served serves well);
   rose = rose_with how so.failed was at now (rose_later so.failed was mid at so.rose first) later failed;
 }
 

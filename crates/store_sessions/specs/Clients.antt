@@ -14,20 +14,20 @@ failures_of (Err Failed) = 1
 failures_of _ = 0
 
 -- So many clients were served, each to its end or until the front failed, and with so many of them the front failed.
-pub data Served (s : StoreSession) : ℕ → ℕ → List Event → StoreSession → Type 0 where
-  NoneYet : Served s 0 0 [] s
-  OneMore : {count failed : ℕ} {events here : List Event} {t u : StoreSession} {how : Result (Unit {0}) SessionError} → Served s count failed events t
-      → ServesClient t here u how → how ≢ Err Memory → Served s (count + 1) (failed + failures_of how) (events ++ (Accepted ∷ here)) u
+pub data ServedSession (s : StoreSession) : ℕ → ℕ → List Event → StoreSession → Type 0 where
+  NoneYet : ServedSession s 0 0 [] s
+  OneMore : {count failed : ℕ} {events here : List Event} {t u : StoreSession} {how : Result (Unit {0}) SessionError} → ServedSession s count failed events t
+      → ServesClient t here u how → how ≢ Err Memory → ServedSession s (count + 1) (failed + failures_of how) (events ++ (Accepted ∷ here)) u
 
 -- The status after so many clients at most, and how often the front failed: they were served, or no more come; no client could be
 -- accepted; memory ran out while one was served.
 pub data ServesSessions (s : StoreSession) (most : ℕ) : ℕ → ℕ → List Event → StoreSession → Type 0 where
-  AllServed : {failed : ℕ} {events : List Event} {t : StoreSession} → Served s most failed events t → ServesSessions s most 0 failed events t
-  NoneLeft : {count failed : ℕ} {events : List Event} {t : StoreSession} → count < most → Served s count failed events t
+  AllServed : {failed : ℕ} {events : List Event} {t : StoreSession} → ServedSession s most failed events t → ServesSessions s most 0 failed events t
+  NoneLeft : {count failed : ℕ} {events : List Event} {t : StoreSession} → count < most → ServedSession s count failed events t
       → ServesSessions s most 0 failed (events ++ NoMore ∷ []) t
-  NotAccepted : {count failed : ℕ} {events : List Event} {t : StoreSession} → count < most → Served s count failed events t
+  NotAccepted : {count failed : ℕ} {events : List Event} {t : StoreSession} → count < most → ServedSession s count failed events t
       → ServesSessions s most 6 (failed + 1) (events ++ FrontFailed ∷ []) t
-  OutOfMemory : {count failed : ℕ} {events here : List Event} {t u : StoreSession} → count < most → Served s count failed events t
+  OutOfMemory : {count failed : ℕ} {events here : List Event} {t u : StoreSession} → count < most → ServedSession s count failed events t
       → ServesClient t here u (Err Memory) → ServesSessions s most 5 failed (events ++ (Accepted ∷ here)) u
 
 -- the same, and the front's count of faults rose at least as often

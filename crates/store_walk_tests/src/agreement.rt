@@ -1,6 +1,6 @@
 // Whether a mirror tells the mail of a store.
 use small_mail::{StoredFolder, StoredMessage};
-use told_mail::{Held, Message, Mirror};
+use told_mail::{Message, Mirror, NumberedFolder};
 
 /// The mod-sequence of a message isn't told by a mirror.
 fn is_message(stored: &StoredMessage, told: &Message) -> bool {
@@ -19,7 +19,7 @@ fn are_messages(stored: &[StoredMessage], told: &[Message]) -> bool {
             .all(|(stored, told)| is_message(stored, told))
 }
 
-fn is_folder(stored: &StoredFolder, told: &Held) -> bool {
+fn is_folder(stored: &StoredFolder, told: &NumberedFolder) -> bool {
     let folder = &told.folder;
     stored.name() == &folder.name
         && stored.attributes() == &folder.attributes

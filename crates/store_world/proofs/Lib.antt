@@ -1,4 +1,4 @@
 pub mod Giving
 pub mod Replying
-pub mod Standing
+pub mod StoreBehindLink
 pub mod Writing

@@ -1,6 +1,6 @@
 // What a client took.
 ghost use Rattle.std.specs.Prelude.{◌≡◌, [], Some, None, MatchOption};
-ghost use Rattle.store_world.specs.Standing.{Follow, emptied};
+ghost use Rattle.store_world.specs.StoreBehindLink.{Follow, emptied};
 
 use std::alloc::Global;
 use std::marker::Model;

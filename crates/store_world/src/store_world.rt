@@ -11,8 +11,8 @@ ghost use Rattle.honest_store.specs.Sessions.{StoreSession};
 ghost use Rattle.scripted_world.specs.Script.{next_word};
 ghost use Rattle.store_world.specs.Lending.{LendsStore};
 ghost use Rattle.store_world.specs.Replies.{AnswersSome, Replies};
-ghost use Rattle.store_world.specs.Standing.{Accepts, IsButForLink, IsButForTape, Reads, Sends, Writes};
-ghost use Rattle.store_world.specs.Standing.{begun, broken, dialed, drawn, faults_of, hung_up, read_on, received_on, replied, sent_of, with_client};
+ghost use Rattle.store_world.specs.StoreBehindLink.{Accepts, IsButForLink, IsButForTape, Reads, Sends, Writes};
+ghost use Rattle.store_world.specs.StoreBehindLink.{begun, broken, dialed, drawn, faults_of, hung_up, read_on, received_on, replied, sent_of, with_client};
 
 use crate::octet_queue::OctetQueue;
 use crate::ready::Ready;
@@ -43,9 +43,9 @@ pub struct StoreWorld {
 }
 
 impl Model for StoreWorld {
-    ghost use Rattle.store_world.specs.Standing.{Standing};
+    ghost use Rattle.store_world.specs.StoreBehindLink.{StoreBehindLink};
 
-    ghost Value = { Standing };
+    ghost Value = { StoreBehindLink };
 
     ghost view = { λ w. record { steady = w.steady; session = w.store; unread = w.unread; ready = w.ready; link_faults = w.link_faults; sent = w.sent } };
 }

@@ -2,7 +2,7 @@
 use Rattle.std.proofs.Common.{◌≡◌, ℕ, List, refl, sym, subst, ◌↔◌, Result, Ok, Err}
 use Rattle.std.specs.Result.{IfOk}
 use Rattle.thread_rule.specs.Subject.{IsLeader, IsTrailer}
-use Rattle.thread_rule.specs.BaseSubject.{Drops, DropsEnd, DropsBlobBeforeText, Unwraps, Lacks, Step, Step2, Step3, Step4, Step6, Reaches, Stays, Goes, IsNormalFormOf}
+use Rattle.thread_rule.specs.BaseSubject.{Drops, DropsEnd, DropsBlobBeforeText, Unwraps, Lacks, Step, Step2, Step3, Step4, Step6, Reaches, NoStep, Goes, IsNormalFormOf}
 use Rattle.thread_rule.proofs.PieceLemmas.{one_trailer, one_inner}
 use Rattle.thread_rule.proofs.BlobLemmas.{one_blob}
 use Rattle.thread_rule.proofs.LeaderLemmas.{one_leader}
@@ -28,21 +28,21 @@ one_step s t u (Step6 l m n d) (Step6 k o p e) = one_inner s t u d e
 
 -- two texts that steps lead to from the same text, and that no step leads from, are the same
 pub one_normal : (s t u : List ℕ) → Reaches s t → Lacks Step t → Reaches s u → Lacks Step u → t ≡ u
-one_normal s _ _ (Stays _) n (Stays _) m = refl
-one_normal s _ u (Stays _) n (Goes _ y _ d e) m = absurd (n y d)
-one_normal s t _ (Goes _ x _ a b) n (Stays _) m = absurd (m x a)
+one_normal s _ _ (NoStep _) n (NoStep _) m = refl
+one_normal s _ u (NoStep _) n (Goes _ y _ d e) m = absurd (n y d)
+one_normal s t _ (Goes _ x _ a b) n (NoStep _) m = absurd (m x a)
 one_normal s t u (Goes _ x _ a b) n (Goes _ y _ d e) m =
     let P : List ℕ → Type 0 = λ z. Reaches z u in
     one_normal x t u b n (subst P (sym (one_step s x y a d)) e) m
 
 -- steps from s to t, and then steps from t to u, are steps from s to u
 pub reaches_on : (s t u : List ℕ) → Reaches s t → Reaches t u → Reaches s u
-reaches_on s _ u (Stays _) r = r
+reaches_on s _ u (NoStep _) r = r
 reaches_on s t u (Goes _ x _ d e) r = Goes s x u d (reaches_on x t u e r)
 
 -- steps from s to t, and then one step from t to u, are steps from s to u
 pub reaches_more : (s t u : List ℕ) → Reaches s t → Step t u → Reaches s u
-reaches_more s t u r d = reaches_on s t u r (Goes t u u d (Stays u))
+reaches_more s t u r d = reaches_on s t u r (Goes t u u d (NoStep u))
 
 -- no step leads from a text that has no trailer, no leader, no blob before other text, and no wrapping of a forwarded subject
 pub no_step : (s : List ℕ) → Lacks (DropsEnd IsTrailer) s → Lacks (Drops IsLeader) s → Lacks DropsBlobBeforeText s → Lacks Unwraps s → Lacks Step s

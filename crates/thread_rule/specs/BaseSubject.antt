@@ -60,7 +60,7 @@ pub data Step (s t : List ℕ) : Type 0 where
 
 -- steps lead from s to t
 pub data Reaches : List ℕ → List ℕ → Type 0 where
-  Stays : (s : List ℕ) → Reaches s s
+  NoStep : (s : List ℕ) → Reaches s s
   Goes : (s t u : List ℕ) → Step s t → Reaches t u → Reaches s u
 
 -- steps lead from s to t, and from t none

@@ -12,7 +12,7 @@ use Rattle.kept_names.specs.Changes.{flags_after, subscribed}
 use Rattle.told_folder.specs.Folders.{folder_number, uid_of, messages_in, message_in, mark_in}
 use Rattle.told_folder.specs.Keyed.{with_key, cut_keyed}
 use Rattle.told_folder.specs.declared.exchange.Exchange.{Exchange}
-use Rattle.told_folder.specs.declared.message.Held.{Held}
+use Rattle.told_folder.specs.declared.message.NumberedFolder.{NumberedFolder}
 use Rattle.told_folder.specs.declared.message.Message.{Message}
 use Rattle.told_folder.proofs.IndexLemmas.{mark_of, eqb_same}
 use Rattle.told_folder.proofs.KeyedLemmas.{some_is_not_none, found_cut}
@@ -47,7 +47,7 @@ none_cut xs uid k e =
 pub mark_free : (m : Mail) (from uid : ℕ) (x : Message) → IsMail m → message_in m.folders from uid ≡ Some x → (p : ℕ × ℕ)
     → mark_in (without_message m (from, uid)).folders p ≡ Some x.mark → ⊥
 mark_free m from uid x i found p e =
-    let hs : List Held = m.folders in
+    let hs : List NumberedFolder = m.folders in
     let xs : List Message = messages_in hs from in
     let at : mark_in hs (from, uid) ≡ Some x.mark = ap (option_map mark_of) found in
     elim (marks_from hs from (cut_keyed uid_of uid xs) p x.mark e) [
@@ -64,7 +64,7 @@ moved_next m from uid l (Some x) found i =
     let y : Message = record x { uid = l.uid } in
     next_mail_joins m out (with_message out l.folder y) first (with_message_next out l.folder y first.is_mail (λ p e. mark_free m from uid x i found p e))
 
-moved_from_next : (m : Mail) (o : Option Held) (uid : ℕ) (l : Landing) → IsMail m → IsNextMail m (with_moved_from m o uid l)
+moved_from_next : (m : Mail) (o : Option NumberedFolder) (uid : ℕ) (l : Landing) → IsMail m → IsNextMail m (with_moved_from m o uid l)
 moved_from_next m None uid l i = stays m i
 moved_from_next m (Some h) uid l i = moved_next m (folder_number h) uid l (message_in m.folders (folder_number h) uid) refl i
 
@@ -89,15 +89,15 @@ stored_next m n uid add flags (Some x) found i =
     let stored : List (List ℕ) = flags_after add flags x.flags in
     subst (λ (o : Option Message). IsNextMail m (with_flags_of m n stored o)) found (with_flags_next m i n uid stored)
 
-pub stored_in_next : (m : Mail) (o : Option Held) (uid : ℕ) (add : Bool) (flags : List (List ℕ)) → IsMail m → IsNextMail m (with_stored_in m o uid add flags)
+pub stored_in_next : (m : Mail) (o : Option NumberedFolder) (uid : ℕ) (add : Bool) (flags : List (List ℕ)) → IsMail m → IsNextMail m (with_stored_in m o uid add flags)
 stored_in_next m None uid add flags i = stays m i
 stored_in_next m (Some h) uid add flags i = stored_next m (folder_number h) uid add flags (message_in m.folders (folder_number h) uid) refl i
 
-pub cut_next : (m : Mail) (o : Option Held) → IsMail m → IsNextMail m (without_named m o)
+pub cut_next : (m : Mail) (o : Option NumberedFolder) → IsMail m → IsNextMail m (without_named m o)
 cut_next m None i = stays m i
 cut_next m (Some h) i = without_folder_next m (folder_number h) i
 
-pub subscribed_next : (m : Mail) (on : Bool) (o : Option Held) → IsMail m → IsNextMail m (with_subscribed m on o)
+pub subscribed_next : (m : Mail) (on : Bool) (o : Option NumberedFolder) → IsMail m → IsNextMail m (with_subscribed m on o)
 subscribed_next m on None i = stays m i
 subscribed_next m on (Some h) i = with_attributes_next m i (folder_number h) (subscribed on h.folder.attributes)
 

@@ -14,7 +14,7 @@ use Rattle.kept_names.proofs.KeptOrder.{flags_stay_kept, subscribed_stay_kept}
 use Rattle.told_folder.specs.Folders.{folder_number, folder_in, message_in}
 use Rattle.told_folder.specs.declared.exchange.Exchange.{Exchange}
 use Rattle.told_folder.specs.declared.message.Folder.{Folder}
-use Rattle.told_folder.specs.declared.message.Held.{Held}
+use Rattle.told_folder.specs.declared.message.NumberedFolder.{NumberedFolder}
 use Rattle.told_folder.specs.declared.message.Message.{Message}
 use Rattle.told_folder.specs.declared.telling.TheConstants.{MAX_MARK}
 use Rattle.told_folder.proofs.KeyedLemmas.{some_is_not_none, some_same}
@@ -36,7 +36,7 @@ moved_well m from uid l (Some x) found w =
     well_with_message (without_message m (from, uid)) l.folder (record x { uid = l.uid }) (record { marked = fine.marked; mark = fine.mark; flags = fine.flags })
     (well_without_message m (from, uid) w)
 
-moved_from_well : (m : Mail) (o : Option Held) (uid : ℕ) (l : Landing) → IsWellFormed m → IsWellFormed (with_moved_from m o uid l)
+moved_from_well : (m : Mail) (o : Option NumberedFolder) (uid : ℕ) (l : Landing) → IsWellFormed m → IsWellFormed (with_moved_from m o uid l)
 moved_from_well m None uid l w = w
 moved_from_well m (Some h) uid l w = moved_well m (folder_number h) uid l (message_in m.folders (folder_number h) uid) refl w
 
@@ -64,7 +64,7 @@ landed_well m _ rs co selected l e w = w
 
 -- ---- folders that are found by names
 
-named_well : (hs : List Held) (name : List ℕ) (h : Held) → AllByRecursion IsWellFormedHeld hs → named hs name ≡ Some h → IsWellFormedHeld h
+named_well : (hs : List NumberedFolder) (name : List ℕ) (h : NumberedFolder) → AllByRecursion IsWellFormedHeld hs → named hs name ≡ Some h → IsWellFormedHeld h
 named_well [] name h a e = absurd (cc)
 named_well (x ∷ hs) name h a e =
     elim (is_same x.folder.name name) as (λ b. (if b then Some x else named hs name) ≡ Some h → IsWellFormedHeld h) [
@@ -81,18 +81,18 @@ stored_well m n uid add flags (Some x) found w =
     let fine : IsWellFormedMessage x = placed_message m n uid x found w in
     well_with_flags m n uid (flags_after add flags x.flags) (Some x) (flags_stay_kept add flags x.flags fine.flags) found w
 
-stored_in_well : (m : Mail) (o : Option Held) (uid : ℕ) (add : Bool) (flags : List (List ℕ)) → IsWellFormed m → IsWellFormed (with_stored_in m o uid add flags)
+stored_in_well : (m : Mail) (o : Option NumberedFolder) (uid : ℕ) (add : Bool) (flags : List (List ℕ)) → IsWellFormed m → IsWellFormed (with_stored_in m o uid add flags)
 stored_in_well m None uid add flags w = w
 stored_in_well m (Some h) uid add flags w = stored_well m (folder_number h) uid add flags (message_in m.folders (folder_number h) uid) refl w
 
-with_subscribed_well : (m : Mail) (name : List ℕ) (on : Bool) (o : Option Held) → named m.folders name ≡ o → IsWellFormed m → IsWellFormed (with_subscribed m on o)
+with_subscribed_well : (m : Mail) (name : List ℕ) (on : Bool) (o : Option NumberedFolder) → named m.folders name ≡ o → IsWellFormed m → IsWellFormed (with_subscribed m on o)
 with_subscribed_well m name on None found w = w
 with_subscribed_well m name on (Some h) found w =
     let fine : IsWellFormedHeld h = named_well m.folders name h w.folders found in
     well_with_attributes m (folder_number h) (subscribed on h.folder.attributes) (folder_in m.folders (folder_number h))
     (subscribed_stay_kept on h.folder.attributes fine.folder.attributes) refl w
 
-cut_well : (m : Mail) (o : Option Held) → IsWellFormed m → IsWellFormed (without_named m o)
+cut_well : (m : Mail) (o : Option NumberedFolder) → IsWellFormed m → IsWellFormed (without_named m o)
 cut_well m None w = w
 cut_well m (Some h) w = well_without_folder m (folder_number h) w
 

@@ -9,7 +9,7 @@ use Rattle.told_folder.specs.Folders.{folder_number, uid_of, held_in, messages_i
 use Rattle.told_folder.specs.Keyed.{cut_keyed}
 use Rattle.told_folder.specs.declared.exchange.Exchange.{Exchange}
 use Rattle.told_folder.specs.declared.message.Folder.{Folder}
-use Rattle.told_folder.specs.declared.message.Held.{Held}
+use Rattle.told_folder.specs.declared.message.NumberedFolder.{NumberedFolder}
 use Rattle.told_folder.specs.declared.message.Message.{Message}
 use Rattle.told_folder.proofs.IndexLemmas.{mark_of}
 use Rattle.told_folder.proofs.KeyedLemmas.{some_is_not_none, some_same}
@@ -38,7 +38,7 @@ taken_is m i from uid x found new y cuts =
 
 -- ---- a place that is free
 
-held_after : (hs : List Held) (n : ℕ) (xs : List Message) (j : ℕ) → is_some (held_in (with_messages hs n xs) j) ≡ is_some (held_in hs j)
+held_after : (hs : List NumberedFolder) (n : ℕ) (xs : List Message) (j : ℕ) → is_some (held_in (with_messages hs n xs) j) ≡ is_some (held_in hs j)
 held_after [] n xs j = refl
 held_after (h ∷ hs) n xs j =
     elim (eqb (folder_number h) n) as (λ b. is_some (held_in (if b then record h { messages = xs } ∷ hs else h ∷ with_messages hs n xs) j) ≡ is_some (held_in (h ∷ hs) j)) [
@@ -51,7 +51,7 @@ held_after (h ∷ hs) n xs j =
 -- it is free still once a message is taken out
 pub free_after : (m : Mail) (place : ℕ × ℕ) (l : Landing) → IsFree m l → IsFree (without_message m place) l
 free_after m place l f =
-    let hs : List Held = m.folders in
+    let hs : List NumberedFolder = m.folders in
     let xs : List Message = messages_in hs place.0 in
     let ys : List Message = cut_keyed uid_of place.1 xs in
     let was : (q : ℕ × ℕ) (k : ℕ) → mark_in (with_messages hs place.0 ys) q ≡ Some k → mark_in hs q ≡ Some k =
@@ -79,10 +79,10 @@ none_of None e = refl
 none_of (Some a) e = absurd (cc)
 
 module _ (m : Mail) (i : IsMail m) where
-  target_held : (name : List ℕ) (f : Folder) → option_map (λ (h : Held). h.folder) (named m.folders name) ≡ Some f → is_some (held_in m.folders f.number) ≡ true
+  target_held : (name : List ℕ) (f : Folder) → option_map (λ (h : NumberedFolder). h.folder) (named m.folders name) ≡ Some f → is_some (held_in m.folders f.number) ≡ true
   target_held name f e = by (named m.folders name) refl e
     where
-      by : (o : Option Held) → named m.folders name ≡ o → option_map (λ (h : Held). h.folder) o ≡ Some f → is_some (held_in m.folders f.number) ≡ true
+      by : (o : Option NumberedFolder) → named m.folders name ≡ o → option_map (λ (h : NumberedFolder). h.folder) o ≡ Some f → is_some (held_in m.folders f.number) ≡ true
       by None t g = absurd (some_is_not_none f (sym g))
       by (Some h) t g = ap (λ (z : Folder). is_some (held_in m.folders z.number)) (sym (some_same h.folder f g)) ∙ ap is_some (named_held m.folders name h i.numbers t)
 

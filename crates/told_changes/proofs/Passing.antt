@@ -13,7 +13,7 @@ use Rattle.told_folder.specs.Keyed.{cut_keyed, put_keyed}
 use Rattle.told_folder.specs.ToldBy.{told_by}
 use Rattle.told_folder.specs.declared.exchange.Exchange.{Exchange}
 use Rattle.told_folder.specs.declared.message.Folder.{Folder}
-use Rattle.told_folder.specs.declared.message.Held.{Held}
+use Rattle.told_folder.specs.declared.message.NumberedFolder.{NumberedFolder}
 use Rattle.told_folder.specs.declared.message.Message.{Message}
 use Rattle.told_folder.proofs.KeyedLemmas.{some_is_not_none, some_same, found_cut, found_put}
 use Rattle.told_mail.specs.Exchanges.{with_held, tell_held, tell_named, tell_ok}
@@ -32,7 +32,7 @@ use Rattle.told_changes.proofs.Changing.{landed_next, ok_next}
 
 -- each folder that is there was there with this UID
 abbrev KeepsNext : Mail → Mail → Type 0
-KeepsNext old new = (n : ℕ) (h : Held) → held_in new.folders n ≡ Some h → (w : Held) × (held_in old.folders n ≡ Some w) × (h.folder.next ≡ w.folder.next)
+KeepsNext old new = (n : ℕ) (h : NumberedFolder) → held_in new.folders n ≡ Some h → (w : NumberedFolder) × (held_in old.folders n ≡ Some w) × (h.folder.next ≡ w.folder.next)
 
 same_next : (m : Mail) → KeepsNext m m
 same_next m = λ n h e. (h, e, refl)
@@ -57,7 +57,7 @@ moved_keeps m from uid l (Some x) =
     (messages_keep m out from (cut_keyed uid_of uid (messages_in m.folders from)) refl)
     (messages_keep out (with_message out l.folder y) l.folder (put_keyed uid_of y (messages_in out.folders l.folder)) refl)
 
-moved_from_keeps : (m : Mail) (o : Option Held) (uid : ℕ) (l : Landing) → KeepsNext m (with_moved_from m o uid l)
+moved_from_keeps : (m : Mail) (o : Option NumberedFolder) (uid : ℕ) (l : Landing) → KeepsNext m (with_moved_from m o uid l)
 moved_from_keeps m None uid l = same_next m
 moved_from_keeps m (Some h) uid l = moved_keeps m (folder_number h) uid l (message_in m.folders (folder_number h) uid)
 
@@ -70,22 +70,22 @@ landed_keeps m _ selected l = same_next m
 
 -- ---- the responses
 
-held_keeps : (hs : List Held) (h k : Held) (n : ℕ) (x : Held) → folder_number k ≡ folder_number h → k.folder.next ≡ h.folder.next → held_in hs (folder_number h) ≡ Some h
-    → held_in (with_held hs k) n ≡ Some x → (w : Held) × (held_in hs n ≡ Some w) × (x.folder.next ≡ w.folder.next)
+held_keeps : (hs : List NumberedFolder) (h k : NumberedFolder) (n : ℕ) (x : NumberedFolder) → folder_number k ≡ folder_number h → k.folder.next ≡ h.folder.next → held_in hs (folder_number h) ≡ Some h
+    → held_in (with_held hs k) n ≡ Some x → (w : NumberedFolder) × (held_in hs n ≡ Some w) × (x.folder.next ≡ w.folder.next)
 held_keeps [] h k n x number next found e = absurd (some_is_not_none x (sym e))
 held_keeps (y ∷ hs) h k n x number next found e =
     elim (eqb (folder_number y) (folder_number k)) as (λ b. eqb (folder_number y) (folder_number k) ≡ b → held_in (if b then k ∷ hs else y ∷ with_held hs k) n ≡ Some x
-    → (w : Held) × (held_in (y ∷ hs) n ≡ Some w) × (x.folder.next ≡ w.folder.next)) [
+    → (w : NumberedFolder) × (held_in (y ∷ hs) n ≡ Some w) × (x.folder.next ≡ w.folder.next)) [
       | true ↦ λ t f.
           let yk : folder_number y ≡ folder_number k = eqb-true _ _ t in
           let yt : eqb (folder_number y) (folder_number h) ≡ true = sym (ap (λ i. eqb (folder_number y) i) number) ∙ t in
           let yh : y ≡ h = some_same y h (sym (ap (λ b. if b then Some y else held_in hs (folder_number h)) yt) ∙ found) in
           elim (eqb (folder_number k) n) as (λ b. eqb (folder_number k) n ≡ b → (if b then Some k else held_in hs n) ≡ Some x
-          → (w : Held) × (held_in (y ∷ hs) n ≡ Some w) × (x.folder.next ≡ w.folder.next)) [
+          → (w : NumberedFolder) × (held_in (y ∷ hs) n ≡ Some w) × (x.folder.next ≡ w.folder.next)) [
             | true ↦ λ u g. (
               y,
               ap (λ i. if eqb i n then Some y else held_in hs n) yk ∙ ap (λ b. if b then Some y else held_in hs n) u,
-              ap (λ (z : Held). z.folder.next) (sym (some_same _ _ g)) ∙ (next ∙ ap (λ (z : Held). z.folder.next) (sym yh)),
+              ap (λ (z : NumberedFolder). z.folder.next) (sym (some_same _ _ g)) ∙ (next ∙ ap (λ (z : NumberedFolder). z.folder.next) (sym yh)),
             )
             | false ↦ λ u g. (x, ap (λ i. if eqb i n then Some y else held_in hs n) yk ∙ (ap (λ b. if b then Some y else held_in hs n) u ∙ g), refl)
           ] refl f
@@ -93,14 +93,14 @@ held_keeps (y ∷ hs) h k n x number next found e =
           let rest : held_in hs (folder_number h) ≡ Some h =
           sym (ap (λ b. if b then Some y else held_in hs (folder_number h)) (sym (ap (λ i. eqb (folder_number y) i) number) ∙ t)) ∙ found in
           elim (eqb (folder_number y) n) as (λ b. (if b then Some y else held_in (with_held hs k) n) ≡ Some x
-          → (w : Held) × ((if b then Some y else held_in hs n) ≡ Some w) × (x.folder.next ≡ w.folder.next)) [
-            | true ↦ λ g. (y, refl, ap (λ (z : Held). z.folder.next) (sym (some_same _ _ g)))
+          → (w : NumberedFolder) × ((if b then Some y else held_in hs n) ≡ Some w) × (x.folder.next ≡ w.folder.next)) [
+            | true ↦ λ g. (y, refl, ap (λ (z : NumberedFolder). z.folder.next) (sym (some_same _ _ g)))
             | false ↦ λ g. held_keeps hs h k n x number next rest g
           ] f
     ] refl e
 
 -- a command that changes mail tells a folder no UID before which all is known
-told_by_next : (c : Command) (rs : List Response) (nm : ℕ) (h : Held) → is_changing c ≡ true → ((told_by c rs nm h).folder.next ≡ h.folder.next)
+told_by_next : (c : Command) (rs : List Response) (nm : ℕ) (h : NumberedFolder) → is_changing c ≡ true → ((told_by c rs nm h).folder.next ≡ h.folder.next)
     × (folder_number (told_by c rs nm h) ≡ folder_number h)
 told_by_next (command.Store uid add flags) rs nm h is = (refl, refl)
 told_by_next (command.Move uid name) rs nm h is = (refl, refl)
@@ -112,7 +112,7 @@ told_by_next (command.Rename from to) rs nm h is = (refl, refl)
 told_by_next (command.Subscribe name on) rs nm h is = (refl, refl)
 told_by_next _ rs nm h is = absurd (cc)
 
-tell_held_keeps : (m : Mail) (c : Command) (rs : List Response) (name : List ℕ) (o : Option Held) → named m.folders name ≡ o → IsMail m → is_changing c ≡ true
+tell_held_keeps : (m : Mail) (c : Command) (rs : List Response) (name : List ℕ) (o : Option NumberedFolder) → named m.folders name ≡ o → IsMail m → is_changing c ≡ true
     → KeepsNext m (tell_held m c rs o)
 tell_held_keeps m c rs name None e i is = same_next m
 tell_held_keeps m c rs name (Some h) e i is = λ n x held.
@@ -145,24 +145,24 @@ stored_keeps : (m : Mail) (n : ℕ) (add : Bool) (flags : List (List ℕ)) (o : 
 stored_keeps m n add flags None = same_next m
 stored_keeps m n add flags (Some x) = flags_keep m n (flags_after add flags x.flags) (Some x)
 
-stored_in_keeps : (m : Mail) (o : Option Held) (uid : ℕ) (add : Bool) (flags : List (List ℕ)) → KeepsNext m (with_stored_in m o uid add flags)
+stored_in_keeps : (m : Mail) (o : Option NumberedFolder) (uid : ℕ) (add : Bool) (flags : List (List ℕ)) → KeepsNext m (with_stored_in m o uid add flags)
 stored_in_keeps m None uid add flags = same_next m
 stored_in_keeps m (Some h) uid add flags = stored_keeps m (folder_number h) add flags (message_in m.folders (folder_number h) uid)
 
-cut_keeps : (m : Mail) (o : Option Held) → KeepsNext m (without_named m o)
+cut_keeps : (m : Mail) (o : Option NumberedFolder) → KeepsNext m (without_named m o)
 cut_keeps m None = same_next m
 cut_keeps m (Some h) = λ n x e.
-    elim (eqb (folder_number h) n) as (λ b. (if b then None else held_in m.folders n) ≡ Some x → (w : Held) × (held_in m.folders n ≡ Some w) × (x.folder.next ≡ w.folder.next)) [
+    elim (eqb (folder_number h) n) as (λ b. (if b then None else held_in m.folders n) ≡ Some x → (w : NumberedFolder) × (held_in m.folders n ≡ Some w) × (x.folder.next ≡ w.folder.next)) [
       | true ↦ λ f. absurd (some_is_not_none x (sym f))
       | false ↦ λ f. (x, f, refl)
     ] (sym (found_cut folder_number n (folder_number h) m.folders) ∙ e)
 
-held_of : (o : Option Held) (g : Folder) → option_map (λ (h : Held). h.folder) o ≡ Some g → (h : Held) × (o ≡ Some h) × (h.folder ≡ g)
+held_of : (o : Option NumberedFolder) (g : Folder) → option_map (λ (h : NumberedFolder). h.folder) o ≡ Some g → (h : NumberedFolder) × (o ≡ Some h) × (h.folder ≡ g)
 held_of None g e = absurd (some_is_not_none g (sym e))
 held_of (Some h) g e = (h, refl, some_same _ _ e)
 
 -- the folder that is found by a number has it
-number_of : (hs : List Held) (n : ℕ) (h : Held) → held_in hs n ≡ Some h → folder_number h ≡ n
+number_of : (hs : List NumberedFolder) (n : ℕ) (h : NumberedFolder) → held_in hs n ≡ Some h → folder_number h ≡ n
 number_of [] n h e = absurd (some_is_not_none h (sym e))
 number_of (x ∷ hs) n h e =
     elim (eqb (folder_number x) n) as (λ b. eqb (folder_number x) n ≡ b → (if b then Some x else held_in hs n) ≡ Some h → folder_number h ≡ n) [
@@ -174,18 +174,18 @@ attributes_keep : (m : Mail) (n : ℕ) (attributes : List (List ℕ)) (o : Optio
 attributes_keep m n attributes None found i = same_next m
 attributes_keep m n attributes (Some f) found i = λ j k e.
     let h = held_of (held_in m.folders n) f found in
-    let put : Held = record { folder = record f { attributes = attributes }; messages = messages_in m.folders f.number } in
+    let put : NumberedFolder = record { folder = record f { attributes = attributes }; messages = messages_in m.folders f.number } in
     elim (eqb f.number j) as (λ b. eqb f.number j ≡ b → (if b then Some put else held_in m.folders j) ≡ Some k
-    → (w : Held) × (held_in m.folders j ≡ Some w) × (k.folder.next ≡ w.folder.next)) [
+    → (w : NumberedFolder) × (held_in m.folders j ≡ Some w) × (k.folder.next ≡ w.folder.next)) [
       | true ↦ λ t g. (
         h.0,
         ap (held_in m.folders) (sym (eqb-true f.number j t) ∙ (ap (λ (z : Folder). z.number) (sym h.2) ∙ number_of m.folders n h.0 h.1)) ∙ h.1,
-        ap (λ (z : Held). z.folder.next) (sym (some_same _ _ g)) ∙ ap (λ (z : Folder). z.next) (sym h.2),
+        ap (λ (z : NumberedFolder). z.folder.next) (sym (some_same _ _ g)) ∙ ap (λ (z : Folder). z.next) (sym h.2),
       )
       | false ↦ λ t g. (k, g, refl)
     ] refl (sym (found_put folder_number j put m.folders i.numbers) ∙ e)
 
-with_subscribed_keeps : (m : Mail) (on : Bool) (o : Option Held) → IsMail m → KeepsNext m (with_subscribed m on o)
+with_subscribed_keeps : (m : Mail) (on : Bool) (o : Option NumberedFolder) → IsMail m → KeepsNext m (with_subscribed m on o)
 with_subscribed_keeps m on None i = same_next m
 with_subscribed_keeps m on (Some h) i =
     attributes_keep m (folder_number h) (subscribed on h.folder.attributes) (folder_in m.folders (folder_number h)) refl i
@@ -196,7 +196,7 @@ renamed_keeps m from to i =
       | true ↦ same_next m
       | false ↦ λ n k e.
           let w = was_named (name_of from to m.folders) m.folders n k i.numbers e in
-          (w.was, w.held, ap (λ (z : Held). z.folder.next) w.same)
+          (w.was, w.held, ap (λ (z : NumberedFolder). z.folder.next) w.same)
     ]
 
 changed_keeps : (m : Mail) (c : Command) (rs : List Response) (selected : Option (List ℕ)) → IsMail m → KeepsNext m (changed_by m c rs selected)
@@ -239,4 +239,4 @@ pub not_passed : (m : Mail) (x : Exchange) (n : ℕ) (g : Folder) → IsMail m �
 not_passed m x n g i is e =
     let h = held_of (held_in (told m x).folders n) g e in
     let w = told_keeps m x i is n h.0 h.1 in
-    (w.0.folder, ap (option_map (λ (z : Held). z.folder)) w.1, ap (λ (f : Folder). f.next) (sym h.2) ∙ w.2)
+    (w.0.folder, ap (option_map (λ (z : NumberedFolder). z.folder)) w.1, ap (λ (f : Folder). f.next) (sym h.2) ∙ w.2)

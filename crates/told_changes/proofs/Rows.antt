@@ -10,7 +10,7 @@ use Rattle.imap_types.specs.declared.response.Status.{Status}
 use Rattle.imap_types.specs.declared.response.Status.TheVariants as status
 use Rattle.imap_types.specs.declared.uid_set.UidRange.{UidRange}
 use Rattle.told_folder.specs.declared.exchange.Exchange.{Exchange}
-use Rattle.told_folder.specs.declared.message.Held.{Held}
+use Rattle.told_folder.specs.declared.message.NumberedFolder.{NumberedFolder}
 use Rattle.told_folder.specs.declared.message.Message.{Message}
 use Rattle.told_mail.specs.Mail.{Mail, message_in}
 use Rattle.told_changes.specs.Landings.{contradiction, told_landing}
@@ -19,7 +19,7 @@ use Rattle.told_changes.specs.Told.{told}
 abbrev a_message : ℕ → ℕ → List (List ℕ) → Message
 a_message uid mark flags = record { uid = uid; mark = mark; flags = flags; date = pos 0; size = 40; header = [] }
 
-abbrev a_folder : ℕ → List ℕ → Option ℕ → List (List ℕ) → List Message → Held
+abbrev a_folder : ℕ → List ℕ → Option ℕ → List (List ℕ) → List Message → NumberedFolder
 a_folder n name delimiter attributes messages = record {
   folder = record { number = n; name = name; delimiter = delimiter; attributes = attributes; validity = n; modseq = 3; next = 4 };
   messages = messages;

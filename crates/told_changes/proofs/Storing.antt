@@ -3,7 +3,7 @@ use Rattle.std.proofs.Common.{◌≡◌, ℕ, Bool, true, false, List, Option, S
 use Rattle.std.specs.Option.{option_map}
 use Rattle.kept_names.specs.Changes.{flags_after}
 use Rattle.told_folder.specs.declared.message.Folder.{Folder}
-use Rattle.told_folder.specs.declared.message.Held.{Held}
+use Rattle.told_folder.specs.declared.message.NumberedFolder.{NumberedFolder}
 use Rattle.told_folder.specs.declared.message.Message.{Message}
 use Rattle.told_folder.proofs.KeyedLemmas.{some_is_not_none, some_same}
 use Rattle.told_mail.specs.Lists.{is_inbox}
@@ -32,11 +32,11 @@ pub not_stored : (m : Mail) (n uid : ℕ) (add : Bool) (asked : List (List ℕ))
 not_stored m n uid add asked none = ap (with_stored m n add asked) none
 
 -- the folder of a name, as the mirror finds it
-pub folder_held : (o : Option Held) (f : Folder) → Some f ≡ option_map (λ (h : Held). h.folder) o → (h : Held) × (o ≡ Some h) × (h.folder ≡ f)
+pub folder_held : (o : Option NumberedFolder) (f : Folder) → Some f ≡ option_map (λ (h : NumberedFolder). h.folder) o → (h : NumberedFolder) × (o ≡ Some h) × (h.folder ≡ f)
 folder_held None f e = absurd (some_is_not_none f e)
 folder_held (Some h) f e = (h, refl, sym (some_same _ _ e))
 
-pub no_folder : (o : Option Held) → None ≡ option_map (λ (h : Held). h.folder) o → o ≡ None
+pub no_folder : (o : Option NumberedFolder) → None ≡ option_map (λ (h : NumberedFolder). h.folder) o → o ≡ None
 no_folder None e = refl
 no_folder (Some h) e = absurd (some_is_not_none h.folder (sym e))
 
@@ -61,5 +61,5 @@ rename_steps a b from to i is inbox other = by (is_inbox from) refl
     by false e = steps_counted a b (subst (λ (m : Mail). IsNextMail a.mail m) (sym is) (renamed_next a.mail from to i)) (other e)
 
 -- the folder of a name is held under its number
-pub folder_there : (m : Mail) → IsMail m → (name : List ℕ) (h : Held) → named m.folders name ≡ Some h → is_some (folder_in m.folders (folder_number h)) ≡ true
-folder_there m i name h e = ap (λ o. is_some (option_map (λ (z : Held). z.folder) o)) (named_held m.folders name h i.numbers e)
+pub folder_there : (m : Mail) → IsMail m → (name : List ℕ) (h : NumberedFolder) → named m.folders name ≡ Some h → is_some (folder_in m.folders (folder_number h)) ≡ true
+folder_there m i name h e = ap (λ o. is_some (option_map (λ (z : NumberedFolder). z.folder) o)) (named_held m.folders name h i.numbers e)

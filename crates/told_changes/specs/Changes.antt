@@ -9,7 +9,7 @@ use Rattle.imap_types.specs.declared.response.Response.{Response}
 use Rattle.imap_types.specs.declared.response.Response.TheVariants as response
 use Rattle.kept_names.specs.Changes.{flags_after, subscribed}
 use Rattle.told_folder.specs.Tell.{kept_header}
-use Rattle.told_folder.specs.declared.message.Held.{Held}
+use Rattle.told_folder.specs.declared.message.NumberedFolder.{NumberedFolder}
 use Rattle.told_folder.specs.declared.message.Message.{Message}
 use Rattle.told_mail.specs.Exchanges.{is_uid}
 use Rattle.told_mail.specs.Mail.{Mail, named, folder_number, message_in, with_message, without_message, without_folder, with_flags_of, with_attributes}
@@ -30,7 +30,7 @@ appended_message mark uid flags date message = record {
   header = kept_header (header_of message);
 }
 
-abbrev pub named_by : Mail → Option (List ℕ) → Option Held
+abbrev pub named_by : Mail → Option (List ℕ) → Option NumberedFolder
 named_by m None = None
 named_by m (Some name) = named m.folders name
 
@@ -39,7 +39,7 @@ abbrev pub with_moved : Mail → ℕ → ℕ → Landing → Option Message → 
 with_moved m from uid l None = m
 with_moved m from uid l (Some x) = with_message (without_message m (from, uid)) l.folder (record x { uid = l.uid })
 
-abbrev pub with_moved_from : Mail → Option Held → ℕ → Landing → Mail
+abbrev pub with_moved_from : Mail → Option NumberedFolder → ℕ → Landing → Mail
 with_moved_from m None uid l = m
 with_moved_from m (Some h) uid l = with_moved m (folder_number h) uid l (message_in m.folders (folder_number h) uid)
 
@@ -61,17 +61,17 @@ abbrev pub with_stored : Mail → ℕ → Bool → List (List ℕ) → Option Me
 with_stored m n add flags None = m
 with_stored m n add flags (Some x) = with_flags_of m n (flags_after add flags x.flags) (Some x)
 
-abbrev pub with_stored_in : Mail → Option Held → ℕ → Bool → List (List ℕ) → Mail
+abbrev pub with_stored_in : Mail → Option NumberedFolder → ℕ → Bool → List (List ℕ) → Mail
 with_stored_in m None uid add flags = m
 with_stored_in m (Some h) uid add flags = with_stored m (folder_number h) add flags (message_in m.folders (folder_number h) uid)
 
 -- ---- folders
 
-abbrev pub without_named : Mail → Option Held → Mail
+abbrev pub without_named : Mail → Option NumberedFolder → Mail
 without_named m None = m
 without_named m (Some h) = without_folder m (folder_number h)
 
-abbrev pub with_subscribed : Mail → Bool → Option Held → Mail
+abbrev pub with_subscribed : Mail → Bool → Option NumberedFolder → Mail
 with_subscribed m on None = m
 with_subscribed m on (Some h) = with_attributes m (folder_number h) (subscribed on h.folder.attributes)
 

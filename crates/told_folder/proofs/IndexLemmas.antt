@@ -9,7 +9,7 @@ use Rattle.told_folder.specs.Places.{IsHeldAt}
 use Rattle.told_folder.specs.Folders.{folder_number, uid_of, held_in, messages_of, messages_in, message_in, mark_in, with_messages}
 use Rattle.told_folder.specs.Index.{Inverts, IsIndexed}
 use Rattle.told_folder.specs.declared.message.Message.{Message}
-use Rattle.told_folder.specs.declared.message.Held.{Held}
+use Rattle.told_folder.specs.declared.message.NumberedFolder.{NumberedFolder}
 use Rattle.told_folder.proofs.KeyedLemmas.{some_is_not_none, some_same, held_found, found_put, found_cut, ascends_put, ascends_cut}
 use Rattle.told_folder.proofs.FolderLemmas.{with_at, messages_same, messages_other, numbers_with, uids_with, ascend_in}
 
@@ -87,21 +87,21 @@ none_found None h = refl
 none_found (Some a) h = absurd (h a refl)
 
 -- what is at a place that was found
-pub record IsHere (hs : List Held) (n at : ℕ) (h : Held) : Type 0 where
+pub record IsHere (hs : List NumberedFolder) (n at : ℕ) (h : NumberedFolder) : Type 0 where
   pub found : held_in hs n ≡ Some h
   pub placed : (xs : List Message) → with_messages hs n xs ≡ set hs at (record h { messages = xs })
 
 -- the folder at its number's place is found by the number, and its messages are changed at that place
-pub here : (hs shown : List Held) (n at : ℕ) (h : Held) → shown ≡ hs → Ascends folder_number hs → IsHeldAt folder_number n shown at → h ≡ get_or hs at h → IsHere hs n at h
+pub here : (hs shown : List NumberedFolder) (n at : ℕ) (h : NumberedFolder) → shown ≡ hs → Ascends folder_number hs → IsHeldAt folder_number n shown at → h ≡ get_or hs at h → IsHere hs n at h
 here hs shown n at h same up held is =
-    let held_hs : IsHeldAt folder_number n hs at = subst (λ (zs : List Held). IsHeldAt folder_number n zs at) same held in
+    let held_hs : IsHeldAt folder_number n hs at = subst (λ (zs : List NumberedFolder). IsHeldAt folder_number n zs at) same held in
     record {
       found = sym (held_found folder_number n hs up at held_hs h is);
       placed = λ xs. with_at hs n xs at held_hs.place.before held_hs.within h is (ap folder_number is ∙ held_hs.same h);
     }
 
 -- the messages at a folder's number are those of the folder that is found by it
-pub messages_here : (hs : List Held) (n : ℕ) (h : Held) → held_in hs n ≡ Some h → messages_in hs n ≡ h.messages
+pub messages_here : (hs : List NumberedFolder) (n : ℕ) (h : NumberedFolder) → held_in hs n ≡ Some h → messages_in hs n ≡ h.messages
 messages_here hs n h e = ap messages_of e
 
 -- another key is not at this one
@@ -116,16 +116,16 @@ abbrev pub mark_of : Message → ℕ
 mark_of x = x.mark
 
 -- the marks of the folder whose messages are others now
-pub mark_same : (hs : List Held) (n u : ℕ) (xs : List Message) (h : Held) → held_in hs n ≡ Some h
+pub mark_same : (hs : List NumberedFolder) (n u : ℕ) (xs : List Message) (h : NumberedFolder) → held_in hs n ≡ Some h
     → mark_in (with_messages hs n xs) (n, u) ≡ option_map mark_of (with_key uid_of u xs)
 mark_same hs n u xs h found = ap (λ (ys : List Message). option_map mark_of (with_key uid_of u ys)) (messages_same hs n xs h found)
 
 -- the mark at a folder's number and a UID is that of the message which the folder has at the UID
-pub mark_was : (hs : List Held) (n u : ℕ) (h : Held) → held_in hs n ≡ Some h → mark_in hs (n, u) ≡ option_map mark_of (with_key uid_of u h.messages)
-mark_was hs n u h found = ap (λ (o : Option Held). option_map mark_of (with_key uid_of u (messages_of o))) found
+pub mark_was : (hs : List NumberedFolder) (n u : ℕ) (h : NumberedFolder) → held_in hs n ≡ Some h → mark_in hs (n, u) ≡ option_map mark_of (with_key uid_of u h.messages)
+mark_was hs n u h found = ap (λ (o : Option NumberedFolder). option_map mark_of (with_key uid_of u (messages_of o))) found
 
 -- at every place but one they stay, where every UID but one is found as it was
-pub mark_off : (hs : List Held) (n v : ℕ) (xs : List Message) (h : Held) → held_in hs n ≡ Some h → ((u : ℕ) → u ≢ v → with_key uid_of u xs ≡ with_key uid_of u h.messages)
+pub mark_off : (hs : List NumberedFolder) (n v : ℕ) (xs : List Message) (h : NumberedFolder) → held_in hs n ≡ Some h → ((u : ℕ) → u ≢ v → with_key uid_of u xs ≡ with_key uid_of u h.messages)
     → (q : ℕ × ℕ) → q ≢ (n, v) → mark_in (with_messages hs n xs) q ≡ mark_in hs q
 mark_off hs n v xs h found stay q off =
     elim (same_or_not q.0 n) [
@@ -145,7 +145,7 @@ pub eqb_apart : (j k : ℕ) → k ≢ j → eqb j k ≡ false
 eqb_apart j k apart = grind arith
 
 -- when a message of a new UID and mark is put in a folder, and its mark in the index, the index is that of the folders
-pub indexed_put : (hs : List Held) (marks marks' : BTreeMap ℕ (ℕ × ℕ)) (nm nm' n : ℕ) (h : Held) (x : Message) → nm ≤ nm' → x.mark < nm' → IsIndexed hs marks nm
+pub indexed_put : (hs : List NumberedFolder) (marks marks' : BTreeMap ℕ (ℕ × ℕ)) (nm nm' n : ℕ) (h : NumberedFolder) (x : Message) → nm ≤ nm' → x.mark < nm' → IsIndexed hs marks nm
     → held_in hs n ≡ Some h → message_in hs n x.uid ≡ None → ((p : ℕ × ℕ) → mark_in hs p ≢ Some x.mark)
     → ((q : ℕ) → get nat_cmp marks' q ≡ cond (is_at (nat_cmp x.mark) q) (Some (n, x.uid)) (get nat_cmp marks q))
     → IsIndexed (with_messages hs n (put_keyed uid_of x h.messages)) marks' nm'
@@ -174,7 +174,7 @@ indexed_put hs marks marks' nm nm' n h x grows fits i found free new upd =
     }
 
 -- when the message at a UID is cut from a folder, and its mark from the index, the index is that of the folders
-pub indexed_cut : (hs : List Held) (marks marks' : BTreeMap ℕ (ℕ × ℕ)) (nm nm' n u k : ℕ) (h : Held) → nm ≤ nm' → IsIndexed hs marks nm → held_in hs n ≡ Some h
+pub indexed_cut : (hs : List NumberedFolder) (marks marks' : BTreeMap ℕ (ℕ × ℕ)) (nm nm' n u k : ℕ) (h : NumberedFolder) → nm ≤ nm' → IsIndexed hs marks nm → held_in hs n ≡ Some h
     → mark_in hs (n, u) ≡ Some k → ((q : ℕ) → get nat_cmp marks' q ≡ cond (is_at (nat_cmp k) q) None (get nat_cmp marks q))
     → IsIndexed (with_messages hs n (cut_keyed uid_of u h.messages)) marks' nm'
 indexed_cut hs marks marks' nm nm' n u k h grows i found held upd =
@@ -201,7 +201,7 @@ indexed_cut hs marks marks' nm nm' n u k h grows i found held upd =
     }
 
 -- the index after a mark that was put is cut again
-pub indexed_again : (hs : List Held) (marks marks' marks'' : BTreeMap ℕ (ℕ × ℕ)) (nm k : ℕ) (p : ℕ × ℕ) → IsIndexed hs marks nm → ((q : ℕ × ℕ) → mark_in hs q ≢ Some k)
+pub indexed_again : (hs : List NumberedFolder) (marks marks' marks'' : BTreeMap ℕ (ℕ × ℕ)) (nm k : ℕ) (p : ℕ × ℕ) → IsIndexed hs marks nm → ((q : ℕ × ℕ) → mark_in hs q ≢ Some k)
     → ((q : ℕ) → get nat_cmp marks' q ≡ cond (is_at (nat_cmp k) q) (Some p) (get nat_cmp marks q))
     → ((q : ℕ) → get nat_cmp marks'' q ≡ cond (is_at (nat_cmp k) q) None (get nat_cmp marks' q)) → IsIndexed hs marks'' nm
 indexed_again hs marks marks' marks'' nm k p i new upd upd' =

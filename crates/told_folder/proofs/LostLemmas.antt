@@ -12,10 +12,10 @@ use Rattle.told_folder.specs.Folders.{uid_of, held_in, mark_in, with_messages}
 use Rattle.told_folder.specs.Index.{IsIndexed}
 use Rattle.told_folder.specs.Keyed.{AllAbove, Ascends, with_key, cut_keyed}
 use Rattle.told_folder.specs.Tell.{Telling, is_in, covers, without_those}
-use Rattle.told_folder.specs.Work.{telling_of, IsIndexOf, GoesOn, GoesOk}
-use Rattle.told_folder.specs.declared.message.Held.{Held}
+use Rattle.told_folder.specs.FolderTelling.{telling_of, IsIndexOf, GoesOn, GoesOk}
+use Rattle.told_folder.specs.declared.message.NumberedFolder.{NumberedFolder}
 use Rattle.told_folder.specs.declared.message.Message.{Message}
-use Rattle.told_folder.specs.declared.telling.Work.{Work}
+use Rattle.told_folder.specs.declared.telling.FolderTelling.{FolderTelling}
 use Rattle.told_folder.proofs.FolderLemmas.{with_twice, held_with}
 use Rattle.told_folder.proofs.IndexLemmas.{mark_of, mark_was, same_or_not, indexed_cut}
 use Rattle.told_folder.proofs.KeyedLemmas.{some_is_not_none, some_same, ascends_cut}
@@ -131,20 +131,20 @@ cut_shorter u x (y ∷ ys) e =
           subst (λ b. length (if not b then y ∷ cut_keyed uid_of u ys else cut_keyed uid_of u ys) < length (y ∷ ys)) (sym (ne_eqb _ _ apart)) (omega (arith, rest))
     ]
 
-index_cut : (hs : List Held) (n : ℕ) (xs : List Message) (marks marks' : BTreeMap ℕ (ℕ × ℕ)) (nm u : ℕ) (x : Message) → is_some (held_in hs n) ≡ true
+index_cut : (hs : List NumberedFolder) (n : ℕ) (xs : List Message) (marks marks' : BTreeMap ℕ (ℕ × ℕ)) (nm u : ℕ) (x : Message) → is_some (held_in hs n) ≡ true
     → with_key uid_of u xs ≡ Some x → ((q : ℕ) → get nat_cmp marks' q ≡ cond (is_at (nat_cmp x.mark) q) None (get nat_cmp marks q))
     → IsIndexed (with_messages hs n xs) marks nm → IsIndexed (with_messages hs n (cut_keyed uid_of u xs)) marks' nm
 index_cut hs n xs marks marks' nm u x there found upd i =
     let r = held_with hs n xs there in
     let ks = with_messages hs n xs in
-    let P : List Held → Type 0 = λ zs. IsIndexed zs marks' nm in
+    let P : List NumberedFolder → Type 0 = λ zs. IsIndexed zs marks' nm in
     let marked : mark_in ks (n, u) ≡ Some x.mark = mark_was ks n u r.0 r.1.found
     ∙ ap (λ (zs : List Message). option_map mark_of (with_key uid_of u zs)) r.1.messages ∙ ap (option_map mark_of) found in
     subst P (ap (λ (zs : List Message). with_messages ks n (cut_keyed uid_of u zs)) r.1.messages ∙ with_twice hs n xs (cut_keyed uid_of u xs))
     (indexed_cut ks marks marks' nm nm n u x.mark r.0 (omega arith) i r.1.found marked upd)
 
 -- cutting a message that is held, and its mark, brings the open folder to its messages without that one
-pub lost_goes : (old new : Work) (u : ℕ) (x : Message) → with_key uid_of u old.messages ≡ Some x → GoesOn old new → new.messages ≡ cut_keyed uid_of u old.messages
+pub lost_goes : (old new : FolderTelling) (u : ℕ) (x : Message) → with_key uid_of u old.messages ≡ Some x → GoesOn old new → new.messages ≡ cut_keyed uid_of u old.messages
     → new.next_mark ≡ old.next_mark → ((q : ℕ) → get nat_cmp new.marks q ≡ cond (is_at (nat_cmp x.mark) q) None (get nat_cmp old.marks q))
     → GoesOk old new (record (telling_of old) { messages = cut_keyed uid_of u old.messages }) (Ok tt)
 lost_goes old new u x found on cut next upd =
@@ -169,7 +169,7 @@ lost_goes old new u x found on cut next upd =
     }
 
 -- out of memory, and the messages stay
-pub lost_fails : (old new : Work) (t : Telling) (e : AllocError) → new.folder ≡ old.folder → new.messages ≡ old.messages → new.marks ≡ old.marks → new.next_mark ≡ old.next_mark
+pub lost_fails : (old new : FolderTelling) (t : Telling) (e : AllocError) → new.folder ≡ old.folder → new.messages ≡ old.messages → new.marks ≡ old.marks → new.next_mark ≡ old.next_mark
     → new.changes ≡ old.changes → GoesOk old new t (Err e)
 lost_fails old new t e folder messages marks next changes =
     undone old new t e folder messages next changes
@@ -178,16 +178,16 @@ lost_fails old new t e folder messages marks next changes =
 -- ---- message by message, and range by range
 
 -- so far those that are left come to what is left of all
-pub record IsLosing (p : ℕ → Bool) (was now : Work) : Type 0 where
+pub record IsLosing (p : ℕ → Bool) (was now : FolderTelling) : Type 0 where
   pub on : GoesOn was now
   pub ascends : Ascends uid_of now.messages
   pub left : without_those p now.messages ≡ without_those p was.messages
   pub next_mark : now.next_mark ≡ was.next_mark
   pub known : without_those p was.messages ≡ was.messages → (now.messages ≡ was.messages) × (now.changes ≡ was.changes)
-  pub index : (hs : List Held) → IsIndexOf hs was → IsIndexOf hs now
+  pub index : (hs : List NumberedFolder) → IsIndexOf hs was → IsIndexOf hs now
 
 -- at the start nothing is cut yet
-pub losing_none : (p : ℕ → Bool) (old : Work) → Ascends uid_of old.messages → IsLosing p old old
+pub losing_none : (p : ℕ → Bool) (old : FolderTelling) → Ascends uid_of old.messages → IsLosing p old old
 losing_none p old up = record {
   on = record { folder = refl; rises = omega arith; stands = λ e l. refl; draws = λ e l. refl };
   ascends = up;
@@ -198,7 +198,7 @@ losing_none p old up = record {
 }
 
 -- when the first message left that passes the test is cut, those left still come to what is left of all
-pub losing_more : (p : ℕ → Bool) (was now next : Work) (u : ℕ) → Some u ≡ option_map uid_of (find (λ x. p x.uid) now.messages) → IsLosing p was now
+pub losing_more : (p : ℕ → Bool) (was now next : FolderTelling) (u : ℕ) → Some u ≡ option_map uid_of (find (λ x. p x.uid) now.messages) → IsLosing p was now
     → GoesOk now next (record (telling_of now) { messages = cut_keyed uid_of u now.messages }) (Ok tt) → IsLosing p was next
 losing_more p was now next u found so g =
     let of_p = found_of p u now.messages found in
@@ -217,7 +217,7 @@ losing_more p was now next u found so g =
     }
 
 -- where no message is left that passes the test, the open folder has come to its messages without those that did
-pub losing_all : (p : ℕ → Bool) (was now : Work) → ◌≡◌ {A = Option ℕ} None (option_map uid_of (find (λ x. p x.uid) now.messages)) → IsLosing p was now
+pub losing_all : (p : ℕ → Bool) (was now : FolderTelling) → ◌≡◌ {A = Option ℕ} None (option_map uid_of (find (λ x. p x.uid) now.messages)) → IsLosing p was now
     → GoesOk was now (record (telling_of was) { messages = without_those p was.messages }) (Ok tt)
 losing_all p was now none so = record {
   on = so.on;
@@ -228,7 +228,7 @@ losing_all p was now none so = record {
 }
 
 -- what runs out of memory in a step after others does so as a whole, and leaves the index and the count right
-pub losing_fails : (was now next : Work) (on : GoesOn was now) (ascends : Ascends uid_of now.messages) (index : (hs : List Held) → IsIndexOf hs was → IsIndexOf hs now)
+pub losing_fails : (was now next : FolderTelling) (on : GoesOn was now) (ascends : Ascends uid_of now.messages) (index : (hs : List NumberedFolder) → IsIndexOf hs was → IsIndexOf hs now)
     (t u : Telling)
     (e : AllocError) → GoesOk now next t (Err e) → GoesOk was next u (Err e)
 losing_fails was now next on ascends index t u e g = record {
@@ -287,20 +287,20 @@ covers_one (q ∷ qs) (suc i) r h is u t = ap (λ b. is_in q u || b) (covers_one
   or_true false = refl
 
 -- so far those of the ranges before a place are gone
-pub record IsLost (rs : List UidRange) (i : ℕ) (was now : Work) : Type 0 where
+pub record IsLost (rs : List UidRange) (i : ℕ) (was now : FolderTelling) : Type 0 where
   pub on : GoesOn was now
   pub ascends : Ascends uid_of now.messages
   pub left : now.messages ≡ without_those (covers (take i rs)) was.messages
   pub next_mark : now.next_mark ≡ was.next_mark
   pub known : without_those (covers rs) was.messages ≡ was.messages → (now.messages ≡ was.messages) × (now.changes ≡ was.changes)
-  pub index : (hs : List Held) → IsIndexOf hs was → IsIndexOf hs now
+  pub index : (hs : List NumberedFolder) → IsIndexOf hs was → IsIndexOf hs now
 
 without_none : (xs : List Message) → xs ≡ without_those (λ u. false) xs
 without_none [] = refl
 without_none (x ∷ xs) = ap (λ zs. x ∷ zs) (without_none xs)
 
 -- at the start the messages of no range are gone
-pub lost_none : (rs : List UidRange) (old : Work) → Ascends uid_of old.messages → IsLost rs 0 old old
+pub lost_none : (rs : List UidRange) (old : FolderTelling) → Ascends uid_of old.messages → IsLost rs 0 old old
 lost_none rs old up = record {
   on = record { folder = refl; rises = omega arith; stands = λ e l. refl; draws = λ e l. refl };
   ascends = up;
@@ -314,7 +314,7 @@ lost_none rs old up = record {
   nothing_taken (r ∷ rs) xs = without_none xs
 
 -- when the messages of the range at a place go after those before it, those of the ranges up to it are gone
-pub lost_more : (rs : List UidRange) (i : ℕ) (r : UidRange) (was now next : Work) → i < length rs → r ≡ get_or rs i r → IsLost rs i was now
+pub lost_more : (rs : List UidRange) (i : ℕ) (r : UidRange) (was now next : FolderTelling) → i < length rs → r ≡ get_or rs i r → IsLost rs i was now
     → GoesOk now next (record (telling_of now) { messages = without_those (is_in r) now.messages }) (Ok tt) → IsLost rs (i + 1) was next
 lost_more rs i r was now next h is so g =
     let step : (u : ℕ) → (covers (take i rs) u || is_in r u) ≡ covers (take (i + 1) rs) u = λ u.
@@ -334,7 +334,7 @@ lost_more rs i r was now next h is so g =
     }
 
 -- after the last range the open folder has come to its messages without those of all ranges
-pub lost_all : (rs : List UidRange) (i : ℕ) (was now : Work) → take i rs ≡ rs → IsLost rs i was now
+pub lost_all : (rs : List UidRange) (i : ℕ) (was now : FolderTelling) → take i rs ≡ rs → IsLost rs i was now
     → GoesOk was now (record (telling_of was) { messages = without_those (covers rs) was.messages }) (Ok tt)
 lost_all rs i was now whole so = record {
   on = so.on;

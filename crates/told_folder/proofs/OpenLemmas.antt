@@ -7,22 +7,22 @@ use Rattle.told_folder.specs.Keyed.{Ascends, with_key, put_keyed}
 use Rattle.told_folder.specs.Folders.{uid_of, held_in, messages_of, message_in, mark_in, with_messages}
 use Rattle.told_folder.specs.Index.{IsIndexed}
 use Rattle.told_folder.specs.declared.message.Message.{Message}
-use Rattle.told_folder.specs.declared.message.Held.{Held}
+use Rattle.told_folder.specs.declared.message.NumberedFolder.{NumberedFolder}
 use Rattle.std.proofs.Common.{Result, Ok, Err, OnOk, OnErr}
 use Rattle.std.specs.declared.alloc.AllocError.{AllocError}
 use Rattle.imap_types.specs.declared.response.FetchItems.{FetchItems}
-use Rattle.told_folder.specs.declared.telling.Work.{Work}
+use Rattle.told_folder.specs.declared.telling.FolderTelling.{FolderTelling}
 use Rattle.told_folder.specs.Tell.{Telling, with_flags, with_new, new_message, tell_uid, tell_fetch, tell_response, tell_responses, AllKnown}
 use Rattle.imap_types.specs.declared.response.Response.{Response}
 use Rattle.std.proofs.lemmas.List.{take_more}
-use Rattle.told_folder.specs.Work.{telling_of, IsIndexOf, GoesOn, GoesOk, IsFlagged}
+use Rattle.told_folder.specs.FolderTelling.{telling_of, IsIndexOf, GoesOn, GoesOk, IsFlagged}
 use Rattle.told_folder.proofs.KeyedLemmas.{found_put, ascends_put, some_same}
 use Rattle.told_folder.proofs.PartLemmas.{some_there, found_key, put_found}
 use Rattle.told_folder.proofs.FolderLemmas.{with_twice, held_with, messages_other, numbers_with, uids_with}
 use Rattle.told_folder.proofs.IndexLemmas.{mark_of, mark_same, mark_was, same_or_not, inverts_same, eqb_same, eqb_apart, indexed_put, indexed_again}
 
 -- the marks of every place stay, where they stay at each UID of the open folder
-pub marks_stay : (hs : List Held) (n : ℕ) (h : Held) (ys : List Message) → held_in hs n ≡ Some h
+pub marks_stay : (hs : List NumberedFolder) (n : ℕ) (h : NumberedFolder) (ys : List Message) → held_in hs n ≡ Some h
     → ((u : ℕ) → option_map mark_of (with_key uid_of u ys) ≡ option_map mark_of (with_key uid_of u h.messages)) → (q : ℕ × ℕ) → mark_in (with_messages hs n ys) q ≡ mark_in hs q
 marks_stay hs n h ys found stay q =
     elim (same_or_not q.0 n) [
@@ -32,7 +32,7 @@ marks_stay hs n h ys found stay q =
     ]
 
 -- the index stays right where the open folder's other messages ascend and have the same mark at each UID
-pub index_same : (hs : List Held) (n : ℕ) (xs ys : List Message) (marks : BTreeMap ℕ (ℕ × ℕ)) (a : ℕ) → is_some (held_in hs n) ≡ true → Ascends uid_of ys
+pub index_same : (hs : List NumberedFolder) (n : ℕ) (xs ys : List Message) (marks : BTreeMap ℕ (ℕ × ℕ)) (a : ℕ) → is_some (held_in hs n) ≡ true → Ascends uid_of ys
     → ((u : ℕ) → option_map mark_of (with_key uid_of u ys) ≡ option_map mark_of (with_key uid_of u xs)) → IsIndexed (with_messages hs n xs) marks a
     → IsIndexed (with_messages hs n ys) marks a
 index_same hs n xs ys marks a there up stay i =
@@ -40,7 +40,7 @@ index_same hs n xs ys marks a there up stay i =
     let ks = with_messages hs n xs in
     let stay_h : (u : ℕ) → option_map mark_of (with_key uid_of u ys) ≡ option_map mark_of (with_key uid_of u r.0.messages) = λ u. stay u
     ∙ ap (λ (zs : List Message). option_map mark_of (with_key uid_of u zs)) (sym r.1.messages) in
-    let P : List Held → Type 0 = λ zs. IsIndexed zs marks a in
+    let P : List NumberedFolder → Type 0 = λ zs. IsIndexed zs marks a in
     subst P (with_twice hs n xs ys) (record {
       numbers = numbers_with ks n ys i.numbers;
       uids = uids_with ks n ys up i.uids;
@@ -70,7 +70,7 @@ pub telling_same : (xs ys : List Message) (a b : ℕ) → xs ≡ ys → a ≡ b 
 telling_same xs ys a b e f = cc
 
 -- the index goes on where folder and marks stay
-pub index_on : (hs : List Held) (old new : Work) → new.folder ≡ old.folder → new.marks ≡ old.marks → new.next_mark ≡ old.next_mark → is_some (held_in hs old.folder) ≡ true
+pub index_on : (hs : List NumberedFolder) (old new : FolderTelling) → new.folder ≡ old.folder → new.marks ≡ old.marks → new.next_mark ≡ old.next_mark → is_some (held_in hs old.folder) ≡ true
     → IsIndexed (with_messages hs old.folder new.messages) old.marks old.next_mark → IsIndexOf hs new
 index_on hs old new folder marks next there i = record {
   there = subst (λ n. is_some (held_in hs n) ≡ true) (sym folder) there;
@@ -81,7 +81,7 @@ index_on hs old new folder marks next there i = record {
 }
 
 -- giving a message that is held the flags that a FETCH tells is what the FETCH comes to
-pub held_goes : (old new : Work) (uid : ℕ) (items : FetchItems) (flags : List (List ℕ)) (result : Result (Unit {0}) AllocError) (adds : Bool) → Ascends uid_of old.messages
+pub held_goes : (old new : FolderTelling) (uid : ℕ) (items : FetchItems) (flags : List (List ℕ)) (result : Result (Unit {0}) AllocError) (adds : Bool) → Ascends uid_of old.messages
     → is_some (with_key uid_of uid old.messages) ≡ true → items.flags ≡ Some flags
     → ((x : Message) → with_key uid_of uid old.messages ≡ Some x → IsFlagged old new x flags result)
     → GoesOk old new (tell_uid adds (telling_of old) uid items (with_key uid_of uid old.messages)) result
@@ -120,7 +120,7 @@ held_goes old new uid items flags result adds up held is flagged =
     }
 
 -- out of memory for the flags
-pub stays_flagged : (old : Work) (x : Message) (flags : List (List ℕ)) (e : AllocError) → IsFlagged old old x flags (Err e)
+pub stays_flagged : (old : FolderTelling) (x : Message) (flags : List (List ℕ)) (e : AllocError) → IsFlagged old old x flags (Err e)
 stays_flagged old x flags e = record {
   on = record { folder = refl; rises = omega arith; stands = λ f l. refl; draws = λ f l. refl };
   marks = refl;
@@ -131,7 +131,7 @@ stays_flagged old x flags e = record {
 }
 
 -- a message that is held, of which no flags are told
-pub held_stays : (old : Work) (uid : ℕ) (items : FetchItems) (adds : Bool) → Ascends uid_of old.messages → is_some (with_key uid_of uid old.messages) ≡ true → items.flags ≡ None
+pub held_stays : (old : FolderTelling) (uid : ℕ) (items : FetchItems) (adds : Bool) → Ascends uid_of old.messages → is_some (with_key uid_of uid old.messages) ≡ true → items.flags ≡ None
     → GoesOk old old (tell_uid adds (telling_of old) uid items (with_key uid_of uid old.messages)) (Ok tt)
 held_stays old uid items adds up held is =
     let xs : List Message = old.messages in
@@ -151,21 +151,21 @@ held_stays old uid items adds up held is =
 -- ---- a new message
 
 -- when a message of a new UID, with a mark from the next one on, is put in the open folder, the index with its mark is right
-pub index_put : (hs : List Held) (n : ℕ) (xs : List Message) (marks marks' : BTreeMap ℕ (ℕ × ℕ)) (nm nm' : ℕ) (x : Message) → is_some (held_in hs n) ≡ true → nm ≤ nm'
+pub index_put : (hs : List NumberedFolder) (n : ℕ) (xs : List Message) (marks marks' : BTreeMap ℕ (ℕ × ℕ)) (nm nm' : ℕ) (x : Message) → is_some (held_in hs n) ≡ true → nm ≤ nm'
     → x.mark < nm' → nm ≤ x.mark → with_key uid_of x.uid xs ≡ None → ((q : ℕ) → get nat_cmp marks' q ≡ cond (is_at (nat_cmp x.mark) q) (Some (n, x.uid)) (get nat_cmp marks q))
     → IsIndexed (with_messages hs n xs) marks nm → IsIndexed (with_messages hs n (put_keyed uid_of x xs)) marks' nm'
 index_put hs n xs marks marks' nm nm' x there grows fits fresh free upd i =
     let r = held_with hs n xs there in
     let ks = with_messages hs n xs in
-    let P : List Held → Type 0 = λ zs. IsIndexed zs marks' nm' in
-    let free_ks : message_in ks n x.uid ≡ None = ap (λ (o : Option Held). with_key uid_of x.uid (messages_of o)) r.1.found
+    let P : List NumberedFolder → Type 0 = λ zs. IsIndexed zs marks' nm' in
+    let free_ks : message_in ks n x.uid ≡ None = ap (λ (o : Option NumberedFolder). with_key uid_of x.uid (messages_of o)) r.1.found
     ∙ ap (λ (zs : List Message). with_key uid_of x.uid zs) r.1.messages ∙ free in
     let new : (p : ℕ × ℕ) → mark_in ks p ≢ Some x.mark = λ p e. omega (arith, i.below p x.mark e, fresh) in
     subst P (ap (λ (zs : List Message). with_messages ks n (put_keyed uid_of x zs)) r.1.messages ∙ with_twice hs n xs (put_keyed uid_of x xs))
     (indexed_put ks marks marks' nm nm' n r.0 x grows fits i r.1.found free_ks new upd)
 
 -- a new message that is put with the next mark in the open folder and in the index is what was to be told
-pub put_goes : (old new : Work) (x : Message) → Ascends uid_of old.messages → with_key uid_of x.uid old.messages ≡ None → x.mark ≡ old.next_mark → GoesOn old new
+pub put_goes : (old new : FolderTelling) (x : Message) → Ascends uid_of old.messages → with_key uid_of x.uid old.messages ≡ None → x.mark ≡ old.next_mark → GoesOn old new
     → new.messages ≡ put_keyed uid_of x old.messages → new.next_mark ≡ old.next_mark + 1
     → ((q : ℕ) → get nat_cmp new.marks q ≡ cond (is_at (nat_cmp x.mark) q) (Some (old.folder, x.uid)) (get nat_cmp old.marks q))
     → GoesOk old new (with_new (telling_of old) (Some x)) (Ok tt)
@@ -187,7 +187,7 @@ put_goes old new x up free mark on put next upd =
     }
 
 -- nothing is told
-pub stays : (old : Work) (t : Telling) → telling_of old ≡ t → GoesOk old old t (Ok tt)
+pub stays : (old : FolderTelling) (t : Telling) → telling_of old ≡ t → GoesOk old old t (Ok tt)
 stays old t e = record {
   known = λ k. refl;
   on = record { folder = refl; rises = omega arith; stands = λ f l. refl; draws = λ f l. refl };
@@ -197,9 +197,9 @@ stays old t e = record {
 }
 
 -- out of memory, and all is as it was but the marks, by which the index is right
-pub undone : (old new : Work) (t : Telling) (e : AllocError) → new.folder ≡ old.folder → new.messages ≡ old.messages → new.next_mark ≡ old.next_mark
+pub undone : (old new : FolderTelling) (t : Telling) (e : AllocError) → new.folder ≡ old.folder → new.messages ≡ old.messages → new.next_mark ≡ old.next_mark
     → new.changes ≡ old.changes
-    → ((hs : List Held) → IsIndexed (with_messages hs old.folder old.messages) old.marks old.next_mark
+    → ((hs : List NumberedFolder) → IsIndexed (with_messages hs old.folder old.messages) old.marks old.next_mark
     → IsIndexed (with_messages hs old.folder old.messages) new.marks old.next_mark)
     → GoesOk old new t (Err e)
 undone old new t e folder messages next changes marks = record {
@@ -217,7 +217,7 @@ undone old new t e folder messages next changes marks = record {
 }
 
 -- out of memory, and the mark that was put was cut again
-pub put_fails : (old new : Work) (t : Telling) (k : ℕ) (p : ℕ × ℕ) (marks : BTreeMap ℕ (ℕ × ℕ)) (e : AllocError) → old.next_mark ≤ k → new.folder ≡ old.folder
+pub put_fails : (old new : FolderTelling) (t : Telling) (k : ℕ) (p : ℕ × ℕ) (marks : BTreeMap ℕ (ℕ × ℕ)) (e : AllocError) → old.next_mark ≤ k → new.folder ≡ old.folder
     → new.messages ≡ old.messages → new.next_mark ≡ old.next_mark → new.changes ≡ old.changes
     → ((q : ℕ) → get nat_cmp marks q ≡ cond (is_at (nat_cmp k) q) (Some p) (get nat_cmp old.marks q))
     → ((q : ℕ) → get nat_cmp new.marks q ≡ cond (is_at (nat_cmp k) q) None (get nat_cmp marks q)) → GoesOk old new t (Err e)
@@ -227,22 +227,22 @@ put_fails old new t k p marks e fresh folder messages next changes upd upd' =
     (λ q f. omega (arith, i.below q k f, fresh)) upd upd')
 
 -- out of memory, and nothing was changed
-pub fails : (old : Work) (t : Telling) (e : AllocError) → GoesOk old old t (Err e)
+pub fails : (old : FolderTelling) (t : Telling) (e : AllocError) → GoesOk old old t (Err e)
 fails old t e = undone old old t e refl refl refl refl (λ hs i. i)
 
 -- ---- what a FETCH comes to
 
 -- a step that comes to what was to be told comes to what is equal to it
-pub goes_to : (old new : Work) (t u : Telling) (result : Result (Unit {0}) AllocError) → t ≡ u → GoesOk old new t result → GoesOk old new u result
+pub goes_to : (old new : FolderTelling) (t u : Telling) (result : Result (Unit {0}) AllocError) → t ≡ u → GoesOk old new t result → GoesOk old new u result
 goes_to old new t u result e g = subst (λ (z : Telling). GoesOk old new z result) e g
 
 -- a FETCH that has a UID tells what its items tell of that UID
-pub fetched : (old new : Work) (adds : Bool) (o : Option ℕ) (uid : ℕ) (items : FetchItems) (result : Result (Unit {0}) AllocError) → o ≡ Some uid
+pub fetched : (old new : FolderTelling) (adds : Bool) (o : Option ℕ) (uid : ℕ) (items : FetchItems) (result : Result (Unit {0}) AllocError) → o ≡ Some uid
     → GoesOk old new (tell_uid adds (telling_of old) uid items (with_key uid_of uid old.messages)) result → GoesOk old new (tell_fetch adds (telling_of old) o items) result
 fetched old new adds o uid items result e g = subst (λ (z : Option ℕ). GoesOk old new (tell_fetch adds (telling_of old) z items) result) (sym e) g
 
 -- of a UID that isn't held
-pub added : (old new : Work) (adds : Bool) (uid : ℕ) (items : FetchItems) (result : Result (Unit {0}) AllocError) → with_key uid_of uid old.messages ≡ None → adds ≡ true
+pub added : (old new : FolderTelling) (adds : Bool) (uid : ℕ) (items : FetchItems) (result : Result (Unit {0}) AllocError) → with_key uid_of uid old.messages ≡ None → adds ≡ true
     → GoesOk old new (with_new (telling_of old) (new_message old.next_mark uid items.flags items.date items.size items.header)) result
     → GoesOk old new (tell_uid adds (telling_of old) uid items (with_key uid_of uid old.messages)) result
 added old new adds uid items result free on g =
@@ -250,7 +250,7 @@ added old new adds uid items result free on g =
     ∙ ap (λ (o : Option Message). tell_uid true (telling_of old) uid items o) free)) g
 
 -- a FETCH of a UID that isn't held changes nothing where the command adds no messages
-pub passed_over : (old : Work) (adds : Bool) (uid : ℕ) (items : FetchItems) → with_key uid_of uid old.messages ≡ None → adds ≡ false
+pub passed_over : (old : FolderTelling) (adds : Bool) (uid : ℕ) (items : FetchItems) → with_key uid_of uid old.messages ≡ None → adds ≡ false
     → GoesOk old old (tell_uid adds (telling_of old) uid items (with_key uid_of uid old.messages)) (Ok tt)
 passed_over old adds uid items free off =
     stays old _ (sym (ap (λ b. tell_uid b (telling_of old) uid items (with_key uid_of uid old.messages)) off
@@ -259,7 +259,7 @@ passed_over old adds uid items free off =
 -- ---- one response more
 
 -- two steps in order that each keep the folder's number and count what changes do so together
-pub goes_on_to : (a b c : Work) → GoesOn a b → GoesOn b c → GoesOn a c
+pub goes_on_to : (a b c : FolderTelling) → GoesOn a b → GoesOn b c → GoesOn a c
 goes_on_to a b c f g = record {
   folder = g.folder ∙ f.folder;
   rises = omega (arith, f.rises, g.rises);
@@ -298,7 +298,7 @@ known_stays adds t [] k = refl
 known_stays adds t (r ∷ rs) k = ap (λ (s : Telling). tell_responses adds s rs) k.0 ∙ known_stays adds t rs k.1
 
 -- the count stands after one response more that tells what is known
-pub known_step : (adds : Bool) (was mid : Work) (rs : List Response) (i : ℕ) (r : Response) (changes : ℕ) → i < length rs → r ≡ get_or rs i r
+pub known_step : (adds : Bool) (was mid : FolderTelling) (rs : List Response) (i : ℕ) (r : Response) (changes : ℕ) → i < length rs → r ≡ get_or rs i r
     → telling_of mid ≡ tell_responses adds (telling_of was) (take i rs) → (AllKnown adds (telling_of was) (take i rs) → mid.changes ≡ was.changes)
     → (tell_response adds (telling_of mid) r ≡ telling_of mid → changes ≡ mid.changes) → AllKnown adds (telling_of was) (take (i + 1) rs) → changes ≡ was.changes
 known_step adds was mid rs i r changes h is told before step k =

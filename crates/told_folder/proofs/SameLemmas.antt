@@ -9,10 +9,10 @@ use Rattle.std.proofs.lemmas.Slice.Eq.{slice_eq-Decides}
 use Rattle.std.proofs.lemmas.Bool.Decides.{Decides-eqb, Decides-int_eq, Decides-and, Decides-like}
 use Rattle.told_folder.specs.declared.message.Message.{Message}
 use Rattle.told_folder.specs.declared.message.Folder.{Folder}
-use Rattle.told_folder.specs.declared.message.Held.{Held}
+use Rattle.told_folder.specs.declared.message.NumberedFolder.{NumberedFolder}
 use Rattle.told_folder.specs.contracts.message.MessagePartialEq.TheImpl.{eq-value as message}
 use Rattle.told_folder.specs.contracts.message.FolderPartialEq.TheImpl.{eq-value as folder}
-use Rattle.told_folder.specs.contracts.message.HeldPartialEq.TheImpl.{eq-value as held}
+use Rattle.told_folder.specs.contracts.message.NumberedFolderPartialEq.TheImpl.{eq-value as held}
 
 message_same : (u v m n s t : ℕ) (f g : List (List ℕ)) (d e : ℤ) (h k : List ℕ) → u ≡ v → m ≡ n → f ≡ g → d ≡ e → s ≡ t → h ≡ k
     → ◌≡◌ {A = Message} (record { uid = u; mark = m; flags = f; date = d; size = s; header = h }) (record { uid = v; mark = n; flags = g; date = e; size = t; header = k })
@@ -67,11 +67,11 @@ folder_decides a b =
     (Decides-and _ _ (Decides-eqb a.validity b.validity) (Decides-and _ _ (Decides-eqb a.modseq b.modseq) (Decides-eqb a.next b.next)))))))
 
 -- `==` of two folders with their messages is true exactly where they are equal
-pub held_decides : (a b : Held) → Decides (held.it a b) (a ≡ b)
+pub held_decides : (a b : NumberedFolder) → Decides (held.it a b) (a ≡ b)
 held_decides a b =
-    Decides-like _ (λ h. held_same _ _ _ _ h.0 h.1) (λ e. (ap (λ (x : Held). x.folder) e, ap (λ (x : Held). x.messages) e))
+    Decides-like _ (λ h. held_same _ _ _ _ h.0 h.1) (λ e. (ap (λ (x : NumberedFolder). x.folder) e, ap (λ (x : NumberedFolder). x.messages) e))
     (Decides-and _ _ (folder_decides a.folder b.folder) (slice_eq-Decides message_decides a.messages b.messages _ refl))
 
 -- `==` of two lists of folders, one by one, is true exactly where they are equal
-pub mail_decides : (hs ks : List Held) (r : Bool) → r ≡ pointwise held.it hs ks → Decides r (hs ≡ ks)
+pub mail_decides : (hs ks : List NumberedFolder) (r : Bool) → r ≡ pointwise held.it hs ks → Decides r (hs ≡ ks)
 mail_decides hs ks r e = slice_eq-Decides held_decides hs ks r e

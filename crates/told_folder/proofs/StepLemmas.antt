@@ -11,12 +11,12 @@ use Rattle.told_folder.specs.Keyed.{last_of}
 use Rattle.told_folder.specs.Select.{is_closed, after_closed, last_told, under}
 use Rattle.told_folder.specs.Tell.{Telling, without_those, tell_responses, AllKnown}
 use Rattle.told_folder.specs.ToldBy.{past, past_told, uid_told, is_told, selected_first, adds, ended_command, telling_in, telling_by}
-use Rattle.told_folder.specs.Work.{telling_of, held_of, GoesOn, Goes, GoesWith, Keeps, StepsOk, Steps, Tells}
+use Rattle.told_folder.specs.FolderTelling.{telling_of, held_of, GoesOn, Goes, GoesWith, Keeps, StepsOk, Steps, Tells}
 use Rattle.told_folder.specs.reading.Loops.{closed}
 use Rattle.told_folder.specs.declared.message.Folder.{Folder}
-use Rattle.told_folder.specs.declared.message.Held.{Held}
+use Rattle.told_folder.specs.declared.message.NumberedFolder.{NumberedFolder}
 use Rattle.told_folder.specs.declared.message.Message.{Message}
-use Rattle.told_folder.specs.declared.telling.Work.{Work}
+use Rattle.told_folder.specs.declared.telling.FolderTelling.{FolderTelling}
 use Rattle.told_folder.proofs.FolderLemmas.{held_same}
 use Rattle.told_folder.proofs.IndexLemmas.{eqb_apart}
 use Rattle.told_folder.proofs.OpenLemmas.{telling_same, on_ok_map, goes_on_to, known_stays}
@@ -95,15 +95,15 @@ without_all [] = refl
 without_all (x ∷ xs) = without_all xs
 
 -- under another validity a folder has that validity, its `next` at 1, and no messages
-pub under_other : (v : ℕ) (h : Held) → v ≢ h.folder.validity → under v h ≡ record { folder = record h.folder { validity = v; next = 1 }; messages = [] }
+pub under_other : (v : ℕ) (h : NumberedFolder) → v ≢ h.folder.validity → under v h ≡ record { folder = record h.folder { validity = v; next = 1 }; messages = [] }
 under_other v h apart = ap (λ b. if b then h else record { folder = record h.folder { validity = v; next = 1 }; messages = [] })
     (eqb_apart v h.folder.validity (λ e. apart (sym e)))
 
-validity_of : Held → ℕ
+validity_of : NumberedFolder → ℕ
 validity_of h = h.folder.validity
 
 -- another validity
-pub renewed : (old mid : Work) (f : Folder) (v changes : ℕ) → v ≢ f.validity
+pub renewed : (old mid : FolderTelling) (f : Folder) (v changes : ℕ) → v ≢ f.validity
     → Goes old mid (record { messages = without_those (λ u. true) old.messages; next_mark = old.next_mark }) → changes ≡ min (mid.changes + 1) (2 ^ 64 - 1) → mid.changes < 2 ^ 64
     → Steps old (record mid { changes = changes }) f (record f { validity = v; next = 1 }) (under v (held_of old f))
 renewed old mid f v changes apart goes more fits =
@@ -124,7 +124,7 @@ renewed old mid f v changes apart goes more fits =
       index = λ hs i. let k = goes.index hs i in record { there = k.there; indexed = k.indexed };
       next_mark = ap (λ (t : Telling). t.next_mark) goes.told;
       told = sym to;
-      known = λ e. absurd (apart (ap (λ (k : Held). k.folder.validity) (sym (under_other v (held_of old f) apart) ∙ e)));
+      known = λ e. absurd (apart (ap (λ (k : NumberedFolder). k.folder.validity) (sym (under_other v (held_of old f) apart) ∙ e)));
     }
 
 -- ---- what the end of a fetch tells
@@ -141,14 +141,14 @@ without_same p q same (x ∷ xs) =
     ap (λ b. if not b then x ∷ without_those p xs else without_those p xs) (same x.uid)
     ∙ ap (λ (zs : List Message). if not (q x.uid) then x ∷ zs else zs) (without_same p q same xs)
 
-folder_same : (h k : Held) → h ≡ k → h.folder ≡ k.folder
-folder_same h k e = ap (λ (z : Held). z.folder) e
+folder_same : (h k : NumberedFolder) → h ≡ k → h.folder ≡ k.folder
+folder_same h k e = ap (λ (z : NumberedFolder). z.folder) e
 
-messages_same : (h k : Held) → h ≡ k → h.messages ≡ k.messages
-messages_same h k e = ap (λ (z : Held). z.messages) e
+messages_same : (h k : NumberedFolder) → h ≡ k → h.messages ≡ k.messages
+messages_same h k e = ap (λ (z : NumberedFolder). z.messages) e
 
 -- FETCH of the flags of all
-pub kept_told : (old new : Work) (f : Folder) (c : Command) (rs : List Response) (told : BTreeSet ℕ) → c ≡ command.FetchFlags → ((u : ℕ) → contains nat_cmp told u ≡ is_told rs u)
+pub kept_told : (old new : FolderTelling) (f : Folder) (c : Command) (rs : List Response) (told : BTreeSet ℕ) → c ≡ command.FetchFlags → ((u : ℕ) → contains nat_cmp told u ≡ is_told rs u)
     → Goes old new (record { messages = without_those (λ u. not (contains nat_cmp told u)) old.messages; next_mark = old.next_mark })
     → Steps old new f f (ended_command c rs f old.messages)
 kept_told old new f c rs told is same goes =
@@ -168,7 +168,7 @@ kept_told old new f c rs told is same goes =
 -- ---- the whole exchange
 
 -- where two steps in order each keep what no exchange of the folder tells, both together do
-pub keeps_on : (a b c : Work) (f g k : Folder) → GoesOn a b → GoesOn b c → Keeps a b f g → Keeps b c g k → Keeps a c f k
+pub keeps_on : (a b c : FolderTelling) (f g k : Folder) → GoesOn a b → GoesOn b c → Keeps a b f g → Keeps b c g k → Keeps a c f k
 keeps_on a b c f g k on next p q = record {
   same = q.same ∙ ap (λ (z : Folder). record z { validity = k.validity; modseq = k.modseq; next = k.next }) p.same;
   stands = λ e l.
@@ -178,12 +178,12 @@ keeps_on a b c f g k on next p q = record {
 }
 
 -- what comes before the responses, the responses, and what comes after them bring the folder to what the command tells
-pub told_whole : (old a b d : Work) (f f1 g : Folder) (c : Command) (rs : List Response) (adding : Bool) (result : Result (Unit {0}) AllocError)
+pub told_whole : (old a b d : FolderTelling) (f f1 g : Folder) (c : Command) (rs : List Response) (adding : Bool) (result : Result (Unit {0}) AllocError)
     → Steps old a f f1 (selected_first c rs (held_of old f)) → adding ≡ adds c → GoesWith (AllKnown adding (telling_of a) rs) a b (tell_responses adding (telling_of a) rs) (Ok tt)
     → StepsOk b d f1 g (ended_command c rs f1 b.messages) result → Tells old d f g c rs result
 told_whole old a b d f f1 g c rs adding result start is mid end =
-    let h : Held = held_of old f in
-    let begin : Held = selected_first c rs h in
+    let h : NumberedFolder = held_of old f in
+    let begin : NumberedFolder = selected_first c rs h in
     let folder : f1 ≡ begin.folder = folder_same _ _ start.told in
     let messages : a.messages ≡ begin.messages = messages_same _ _ start.told in
     let from : telling_of a ≡ telling_in old.next_mark begin = telling_same _ _ _ _ messages start.next_mark in
@@ -201,7 +201,7 @@ told_whole old a b d f f1 g c rs adding result start is mid end =
       known = λ k.
           let first : a.changes ≡ old.changes = start.known k.before in
           let here : begin ≡ h = k.before in
-          let from_h : telling_of a ≡ telling_in old.next_mark h = from ∙ ap (λ (z : Held). telling_in old.next_mark z) here in
+          let from_h : telling_of a ≡ telling_in old.next_mark h = from ∙ ap (λ (z : NumberedFolder). telling_in old.next_mark z) here in
           let all : AllKnown adding (telling_of a) rs = subst (λ v. AllKnown v (telling_of a) rs) (sym is)
           (subst (λ (t : Telling). AllKnown (adds c) t rs) (sym from_h) k.responses) in
           let second : b.changes ≡ a.changes = mid.known all in

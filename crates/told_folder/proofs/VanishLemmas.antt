@@ -7,11 +7,11 @@ use Rattle.told_folder.specs.Keyed.{AllAbove, Ascends, with_key}
 use Rattle.told_folder.specs.Folders.{uid_of, held_in, mark_in, with_messages}
 use Rattle.told_folder.specs.Index.{Inverts, IsIndexed}
 use Rattle.told_folder.specs.Tell.{Telling, without_those}
-use Rattle.told_folder.specs.Work.{cleared, GoesOn, Goes}
-use Rattle.told_folder.specs.declared.telling.Work.{Work}
+use Rattle.told_folder.specs.FolderTelling.{cleared, GoesOn, Goes}
+use Rattle.told_folder.specs.declared.telling.FolderTelling.{FolderTelling}
 use Rattle.told_folder.proofs.OpenLemmas.{telling_same}
 use Rattle.told_folder.specs.declared.message.Message.{Message}
-use Rattle.told_folder.specs.declared.message.Held.{Held}
+use Rattle.told_folder.specs.declared.message.NumberedFolder.{NumberedFolder}
 use Rattle.told_folder.proofs.KeyedLemmas.{some_is_not_none, some_same, none_either, none_above}
 use Rattle.told_folder.proofs.FolderLemmas.{with_twice, held_with, messages_other, numbers_with, uids_with}
 use Rattle.std.proofs.lemmas.List.{take_more}
@@ -149,14 +149,14 @@ module _ (gone : ℕ → Bool) where
       ∙ e))
 
   -- when the messages that go are taken out of a folder, and their marks from the index, the index is that of the folders
-  pub index_without : (hs : List Held) (n : ℕ) (xs : List Message) (marks marks' : BTreeMap ℕ (ℕ × ℕ)) (a : ℕ) → is_some (held_in hs n) ≡ true → Ascends uid_of xs
+  pub index_without : (hs : List NumberedFolder) (n : ℕ) (xs : List Message) (marks marks' : BTreeMap ℕ (ℕ × ℕ)) (a : ℕ) → is_some (held_in hs n) ≡ true → Ascends uid_of xs
       → ((q : ℕ) → get nat_cmp marks' q ≡ cleared gone xs q (get nat_cmp marks q)) → IsIndexed (with_messages hs n xs) marks a
       → IsIndexed (with_messages hs n (without_those gone xs)) marks' a
   index_without hs n xs marks marks' a there up clear i =
       let r = held_with hs n xs there in
       let ks = with_messages hs n xs in
       let ys : List Message = without_those gone xs in
-      let P : List Held → Type 0 = λ zs. IsIndexed zs marks' a in
+      let P : List NumberedFolder → Type 0 = λ zs. IsIndexed zs marks' a in
       let was : (u : ℕ) → mark_in ks (n, u) ≡ option_map mark_of (with_key uid_of u xs) = λ u. mark_was ks n u r.0 r.1.found
       ∙ ap (λ (zs : List Message). option_map mark_of (with_key uid_of u zs)) r.1.messages in
       let now : (u : ℕ) → mark_in (with_messages ks n ys) (n, u) ≡ option_map mark_of (if gone u then None else with_key uid_of u xs) = λ u. mark_same ks n u ys r.0 r.1.found
@@ -221,7 +221,7 @@ filter_whole p (x ∷ xs) e =
     ] e
 
 -- taking out the messages that go, and their marks, brings the open folder to those that are left
-pub vanish_goes : (old new : Work) (gone : ℕ → Bool) → Ascends uid_of old.messages → GoesOn old new
+pub vanish_goes : (old new : FolderTelling) (gone : ℕ → Bool) → Ascends uid_of old.messages → GoesOn old new
     → (without_those gone old.messages ≡ old.messages → new.changes ≡ old.changes) → new.messages ≡ without_those gone old.messages → new.next_mark ≡ old.next_mark
     → ((q : ℕ) → get nat_cmp new.marks q ≡ cleared gone old.messages q (get nat_cmp old.marks q))
     → Goes old new (record { messages = without_those gone old.messages; next_mark = old.next_mark })

@@ -1,4 +1,4 @@
--- What the responses of a command tell of a folder stands in ToldBy. Places and Work are for the steps of the code.
+-- What the responses of a command tell of a folder stands in ToldBy. Places and FolderTelling are for the steps of the code.
 pub mod Keyed
 pub mod Places
 pub mod Folders
@@ -6,5 +6,5 @@ pub mod Select
 pub mod Tell
 pub mod ToldBy
 pub mod Index
-pub mod Work
+pub mod FolderTelling
 pub mod reading

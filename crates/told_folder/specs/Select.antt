@@ -6,7 +6,7 @@ use Rattle.imap_types.specs.declared.response.Response.{Response}
 use Rattle.imap_types.specs.declared.response.Response.TheVariants as response
 use Rattle.imap_types.specs.declared.response.Status.TheVariants as status
 use Rattle.told_folder.specs.Keyed.{last_of}
-use Rattle.told_folder.specs.declared.message.Held.{Held}
+use Rattle.told_folder.specs.declared.message.NumberedFolder.{NumberedFolder}
 
 abbrev pub is_closed : Response → Bool
 is_closed (response.Untagged status.Ok code.Closed) = true
@@ -38,11 +38,11 @@ abbrev pub modseq_told : List Response → ℕ
 modseq_told rs = if list_any denies_modseq rs then 0 else last_told modseq_in 0 rs
 
 -- under another validity the folder is another, and has no messages yet
-abbrev pub under : ℕ → Held → Held
+abbrev pub under : ℕ → NumberedFolder → NumberedFolder
 under v h = if v == h.folder.validity then h else record { folder = record h.folder { validity = v; next = 1 }; messages = [] }
 
-abbrev pub with_modseq : ℕ → Held → Held
+abbrev pub with_modseq : ℕ → NumberedFolder → NumberedFolder
 with_modseq n h = record { folder = record h.folder { modseq = n }; messages = h.messages }
 
-abbrev pub selected_as : List Response → Held → Held
+abbrev pub selected_as : List Response → NumberedFolder → NumberedFolder
 selected_as rs h = with_modseq (modseq_told rs) (under (last_told validity_in h.folder.validity rs) h)

@@ -11,11 +11,11 @@ use Rattle.told_folder.specs.Select.{selected_as}
 use Rattle.told_folder.specs.Tell.{Telling, tell_responses, AllKnown, without_those}
 use Rattle.told_folder.specs.declared.message.Message.{Message}
 use Rattle.told_folder.specs.declared.message.Folder.{Folder}
-use Rattle.told_folder.specs.declared.message.Held.{Held}
+use Rattle.told_folder.specs.declared.message.NumberedFolder.{NumberedFolder}
 
 -- ---- before, in and after the responses
 
-abbrev pub selected_first : Command → List Response → Held → Held
+abbrev pub selected_first : Command → List Response → NumberedFolder → NumberedFolder
 selected_first (command.Select name known) rs h = selected_as rs h
 selected_first _ rs h = h
 
@@ -59,25 +59,25 @@ kept_after _ rs xs = xs
 
 -- ---- a folder
 
-abbrev pub telling_in : ℕ → Held → Telling
+abbrev pub telling_in : ℕ → NumberedFolder → Telling
 telling_in next_mark h = record { messages = h.messages; next_mark = next_mark }
 
-abbrev pub with_next : ℕ → Held → Held
+abbrev pub with_next : ℕ → NumberedFolder → NumberedFolder
 with_next n h = record { folder = record h.folder { next = n }; messages = h.messages }
 
-abbrev pub ended_command : Command → List Response → Folder → List Message → Held
+abbrev pub ended_command : Command → List Response → Folder → List Message → NumberedFolder
 ended_command c rs f xs = record { folder = record f { next = next_after c rs xs f.next }; messages = kept_after c rs xs }
 
 -- the messages once these responses of the command are told
-abbrev pub telling_by : Command → List Response → ℕ → Held → Telling
+abbrev pub telling_by : Command → List Response → ℕ → NumberedFolder → Telling
 telling_by c rs next_mark h = tell_responses (adds c) (telling_in next_mark (selected_first c rs h)) rs
 
 -- the folder once these responses of the command are told
-abbrev pub told_by : Command → List Response → ℕ → Held → Held
+abbrev pub told_by : Command → List Response → ℕ → NumberedFolder → NumberedFolder
 told_by c rs next_mark h = ended_command c rs (selected_first c rs h).folder (telling_by c rs next_mark h).messages
 
 -- each step tells what is known
-pub record TellsKnownOf (c : Command) (rs : List Response) (next_mark : ℕ) (h : Held) : Type 0 where
+pub record TellsKnownOf (c : Command) (rs : List Response) (next_mark : ℕ) (h : NumberedFolder) : Type 0 where
   pub before : selected_first c rs h ≡ h
   pub responses : AllKnown (adds c) (telling_in next_mark h) rs
   pub after : ended_command c rs h.folder h.messages ≡ h

@@ -6,12 +6,12 @@ ghost use Rattle.told_folder.specs.ToldBy as told;
 ghost use Rattle.told_folder.specs.ToldBy.{ended_command, is_told, past_told};
 ghost use Rattle.told_folder.specs.Keyed.{Ascends};
 ghost use Rattle.told_folder.specs.Folders.{uid_of};
-ghost use Rattle.told_folder.specs.Work.{held_of, Steps, StepsOk};
+ghost use Rattle.told_folder.specs.FolderTelling.{held_of, Steps, StepsOk};
 
 use crate::Folder;
 use crate::messages::Messages;
 use crate::puts::one_more;
-use crate::telling::{Work, tell_gone};
+use crate::telling::{FolderTelling, tell_gone};
 use crate::uids::Uids;
 use imap_types::{Command, Response};
 use std::alloc::{AllocError, Global};
@@ -78,7 +78,7 @@ fn untold_by(alloc: Global, responses: &[Response]) -> Result<Untold, AllocError
     Ok(Untold { told })
 }
 
-fn set_next(work: &mut Work, folder: &mut Folder, next: u64)
+fn set_next(work: &mut FolderTelling, folder: &mut Folder, next: u64)
     requires { folder.old.next ≤ next }
     ensures { Steps work.old work.new folder.old folder.new (told.with_next next (held_of work.old folder.old)) }
 {
@@ -91,7 +91,7 @@ fn set_next(work: &mut Work, folder: &mut Folder, next: u64)
 /// What follows the responses of a command.
 pub fn tell_end(
     alloc: Global,
-    work: &mut Work,
+    work: &mut FolderTelling,
     folder: &mut Folder,
     command: &Command,
     responses: &[Response],

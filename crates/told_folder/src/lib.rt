@@ -20,5 +20,5 @@ mod vanished;
 mod told;
 
 pub use exchange::{Exchange, ToldError};
-pub use message::{Folder, Held, Message, share_folders};
+pub use message::{Folder, Message, NumberedFolder, share_folders};
 pub use told::tell_exchange;

@@ -5,7 +5,7 @@ ghost use Rattle.told_folder.specs.Places.{IsHeldAt};
 ghost use Rattle.told_folder.specs.Folders.{uid_of};
 
 use crate::keyed::{index_of, place_of};
-use crate::{Held, Message};
+use crate::{Message, NumberedFolder};
 use octets::Listed;
 use std::alloc::{AllocError, Global};
 use std::mem;
@@ -18,7 +18,7 @@ pub fn one_more(count: u64) -> u64
 }
 
 /// The folder's messages, which leaves it without any. It takes no memory.
-pub fn take_messages(alloc: Global, held: &mut Held) -> Vec<Message>
+pub fn take_messages(alloc: Global, held: &mut NumberedFolder) -> Vec<Message>
     ensures taken { result.items ≡ held.old.messages }
     ensures folder { held.new.folder ≡ held.old.folder }
 {
@@ -26,7 +26,7 @@ pub fn take_messages(alloc: Global, held: &mut Held) -> Vec<Message>
 }
 
 /// Puts a message of a UID that the folder doesn't hold.
-pub fn put_in(alloc: Global, held: &mut Held, message: Message) -> Result<(), AllocError>
+pub fn put_in(alloc: Global, held: &mut NumberedFolder, message: Message) -> Result<(), AllocError>
     requires ascends { Ascends uid_of held.old.messages }
     requires free { with_key uid_of message.uid held.old.messages ≡ None }
     ensures ok { OnOk result (held.new ≡ record held.old { messages = put_keyed uid_of message held.old.messages }) }
@@ -47,7 +47,7 @@ pub fn put_in(alloc: Global, held: &mut Held, message: Message) -> Result<(), Al
 }
 
 /// Takes out the message at a place.
-pub fn cut_at(alloc: Global, held: &mut Held, uid: u32, at: usize) -> Message
+pub fn cut_at(alloc: Global, held: &mut NumberedFolder, uid: u32, at: usize) -> Message
     requires ascends { Ascends uid_of held.old.messages }
     requires there { IsHeldAt uid_of uid held.old.messages at }
     ensures cut { held.new ≡ record held.old { messages = cut_keyed uid_of uid held.old.messages } }

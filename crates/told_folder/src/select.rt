@@ -5,11 +5,11 @@ ghost use Rattle.told_folder.specs.Select as told;
 ghost use Rattle.told_folder.specs.Select.{last_told, selected_as};
 ghost use Rattle.told_folder.specs.Keyed.{Ascends};
 ghost use Rattle.told_folder.specs.Folders.{uid_of};
-ghost use Rattle.told_folder.specs.Work.{held_of, Steps};
+ghost use Rattle.told_folder.specs.FolderTelling.{held_of, Steps};
 
 use crate::Folder;
 use crate::puts::one_more;
-use crate::telling::{Work, tell_gone};
+use crate::telling::{FolderTelling, tell_gone};
 use crate::uids::AllUids;
 use imap_types::{Code, Response, Status};
 use std::alloc::Global;
@@ -119,7 +119,7 @@ fn modseq_told(responses: &[Response]) -> u64
 }
 
 /// Under another validity the folder is another, of which nothing is known.
-fn set_validity(alloc: Global, work: &mut Work, folder: &mut Folder, validity: u32)
+fn set_validity(alloc: Global, work: &mut FolderTelling, folder: &mut Folder, validity: u32)
     requires { Ascends uid_of work.old.messages }
     ensures { Steps work.old work.new folder.old folder.new (told.under validity (held_of work.old folder.old)) }
 {
@@ -131,7 +131,7 @@ fn set_validity(alloc: Global, work: &mut Work, folder: &mut Folder, validity: u
     }
 }
 
-fn set_modseq(work: &mut Work, folder: &mut Folder, modseq: u64)
+fn set_modseq(work: &mut FolderTelling, folder: &mut Folder, modseq: u64)
     ensures { Steps work.old work.new folder.old folder.new (told.with_modseq modseq (held_of work.old folder.old)) }
 {
     if modseq != folder.modseq {
@@ -141,7 +141,12 @@ fn set_modseq(work: &mut Work, folder: &mut Folder, modseq: u64)
 }
 
 /// The codes of a SELECT.
-pub fn tell_select(alloc: Global, work: &mut Work, folder: &mut Folder, responses: &[Response])
+pub fn tell_select(
+    alloc: Global,
+    work: &mut FolderTelling,
+    folder: &mut Folder,
+    responses: &[Response],
+)
     requires { Ascends uid_of work.old.messages }
     ensures { Steps work.old work.new folder.old folder.new (selected_as responses.now (held_of work.old folder.old)) }
 {

@@ -4,7 +4,7 @@ ghost use Rattle.told_folder.specs.Keyed.{Ascends, with_key, put_keyed};
 ghost use Rattle.told_folder.specs.Folders.{uid_of, with_messages};
 ghost use Rattle.told_folder.specs.Tell as told;
 ghost use Rattle.told_folder.specs.Tell.{without_those, with_flags, with_new, new_message, tell_uid};
-ghost use Rattle.told_folder.specs.Work.{telling_of, Goes, GoesOk, GoesWith, IsFlagged, cleared};
+ghost use Rattle.told_folder.specs.FolderTelling.{telling_of, Goes, GoesOk, GoesWith, IsFlagged, cleared};
 ghost use Rattle.std.specs.BTreeMap.{get};
 ghost use Rattle.std.specs.Ordering.{nat_cmp};
 
@@ -25,7 +25,7 @@ pub const MAX_MARK: u64 = 9_007_199_254_740_991;
 
 /// A folder's messages while responses are told to it, and what changes with them.
 #[derive(Drop)]
-pub struct Work {
+pub struct FolderTelling {
     /// The folder's number.
     pub folder: u64,
     /// Those of the folder.
@@ -56,7 +56,12 @@ fn is_flagged(messages: &Messages, uid: u32, flags: &Names) -> bool
 }
 
 /// Gives a message that is held these flags.
-fn set_flags(alloc: Global, work: &mut Work, uid: u32, flags: &Names) -> Result<(), AllocError>
+fn set_flags(
+    alloc: Global,
+    work: &mut FolderTelling,
+    uid: u32,
+    flags: &Names,
+) -> Result<(), AllocError>
     requires { Ascends uid_of work.old.messages }
     ensures { (x : Message) → with_key uid_of uid work.old.messages ≡ Some x → IsFlagged work.old work.new x flags.now result }
 {
@@ -70,7 +75,12 @@ fn set_flags(alloc: Global, work: &mut Work, uid: u32, flags: &Names) -> Result<
 }
 
 /// A FETCH of a message that is held.
-fn tell_held(alloc: Global, work: &mut Work, uid: u32, items: &FetchItems) -> Result<(), AllocError>
+fn tell_held(
+    alloc: Global,
+    work: &mut FolderTelling,
+    uid: u32,
+    items: &FetchItems,
+) -> Result<(), AllocError>
     requires ascends { Ascends uid_of work.old.messages }
     requires held { IsSome (with_key uid_of uid work.old.messages) }
     ensures { (adds : Bool) → GoesOk work.old work.new (tell_uid adds (telling_of work.old) uid items.now (with_key uid_of uid work.old.messages)) result }
@@ -82,7 +92,7 @@ fn tell_held(alloc: Global, work: &mut Work, uid: u32, items: &FetchItems) -> Re
 }
 
 /// Adds a message of a UID that isn't held.
-fn put_new(work: &mut Work, message: Message) -> Result<(), AllocError>
+fn put_new(work: &mut FolderTelling, message: Message) -> Result<(), AllocError>
     requires ascends { Ascends uid_of work.old.messages }
     requires free { with_key uid_of message.uid work.old.messages ≡ None }
     requires mark { message.mark ≡ work.old.next_mark }
@@ -141,7 +151,12 @@ fn message_of(
 }
 
 /// A FETCH of a message that isn't held.
-fn tell_new(alloc: Global, work: &mut Work, uid: u32, items: &FetchItems) -> Result<(), AllocError>
+fn tell_new(
+    alloc: Global,
+    work: &mut FolderTelling,
+    uid: u32,
+    items: &FetchItems,
+) -> Result<(), AllocError>
     requires ascends { Ascends uid_of work.old.messages }
     requires free { with_key uid_of uid work.old.messages ≡ None }
     ensures { GoesOk work.old work.new (with_new (telling_of work.old) (new_message work.old.next_mark uid items.now.flags items.now.date items.now.size items.now.header)) result }
@@ -155,7 +170,7 @@ fn tell_new(alloc: Global, work: &mut Work, uid: u32, items: &FetchItems) -> Res
 /// A FETCH.
 fn tell_fetch(
     alloc: Global,
-    work: &mut Work,
+    work: &mut FolderTelling,
     adds: bool,
     items: &FetchItems,
 ) -> Result<(), AllocError>
@@ -193,7 +208,7 @@ fn clear_messages<U: Uids>(messages: &mut Vec<Message>, gone: &U)
 }
 
 /// Messages that are gone. It goes through all of them.
-pub fn tell_gone<U: Uids>(alloc: Global, work: &mut Work, gone: &U)
+pub fn tell_gone<U: Uids>(alloc: Global, work: &mut FolderTelling, gone: &U)
     requires { Ascends uid_of work.old.messages }
     ensures { Goes work.old work.new (record { messages = without_those (U.has gone.now) work.old.messages; next_mark = work.old.next_mark }) }
 {
@@ -212,7 +227,7 @@ pub fn tell_gone<U: Uids>(alloc: Global, work: &mut Work, gone: &U)
 /// A response.
 fn tell_response(
     alloc: Global,
-    work: &mut Work,
+    work: &mut FolderTelling,
     adds: bool,
     response: &Response,
 ) -> Result<(), AllocError>
@@ -229,7 +244,7 @@ fn tell_response(
 /// Responses in order.
 pub fn tell_responses(
     alloc: Global,
-    work: &mut Work,
+    work: &mut FolderTelling,
     adds: bool,
     responses: &[Response],
 ) -> Result<(), AllocError>

@@ -4,12 +4,12 @@ ghost use Rattle.told_folder.specs.ToldBy as told;
 ghost use Rattle.told_folder.specs.ToldBy.{selected_first};
 ghost use Rattle.told_folder.specs.Keyed.{Ascends};
 ghost use Rattle.told_folder.specs.Folders.{uid_of};
-ghost use Rattle.told_folder.specs.Work.{held_of, Steps, Tells};
+ghost use Rattle.told_folder.specs.FolderTelling.{held_of, Steps, Tells};
 
 use crate::Folder;
 use crate::fetched::tell_end;
 use crate::select::tell_select;
-use crate::telling::{Work, tell_responses};
+use crate::telling::{FolderTelling, tell_responses};
 use imap_types::{Command, Response};
 use std::alloc::{AllocError, Global};
 
@@ -26,7 +26,7 @@ fn is_adding(command: &Command) -> bool
 /// What comes before the responses.
 fn tell_start(
     alloc: Global,
-    work: &mut Work,
+    work: &mut FolderTelling,
     folder: &mut Folder,
     command: &Command,
     responses: &[Response],
@@ -43,7 +43,7 @@ fn tell_start(
 /// These responses of a command.
 pub fn tell_exchange(
     alloc: Global,
-    work: &mut Work,
+    work: &mut FolderTelling,
     folder: &mut Folder,
     command: &Command,
     responses: &[Response],

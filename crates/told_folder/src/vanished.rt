@@ -4,11 +4,11 @@ ghost use Rattle.std.specs.Prelude.{◌≡◌, Some, IsSome, find};
 ghost use Rattle.told_folder.specs.Folders.{uid_of};
 ghost use Rattle.told_folder.specs.Keyed.{Ascends, with_key, cut_keyed};
 ghost use Rattle.told_folder.specs.Tell.{is_in, covers, without_those};
-ghost use Rattle.told_folder.specs.Work.{telling_of, GoesOk};
+ghost use Rattle.told_folder.specs.FolderTelling.{telling_of, GoesOk};
 
 use crate::messages::Messages;
 use crate::puts::one_more;
-use crate::telling::Work;
+use crate::telling::FolderTelling;
 use imap_types::UidRange;
 use std::alloc::AllocError;
 
@@ -24,7 +24,7 @@ fn first_in(messages: &Messages, range: &UidRange) -> Option<u32>
 }
 
 /// A message that is gone.
-fn tell_lost(work: &mut Work, uid: u32) -> Result<(), AllocError>
+fn tell_lost(work: &mut FolderTelling, uid: u32) -> Result<(), AllocError>
     requires ascends { Ascends uid_of work.old.messages }
     requires held { IsSome (with_key uid_of uid work.old.messages) }
     ensures { GoesOk work.old work.new (record (telling_of work.old) { messages = cut_keyed uid_of uid work.old.messages }) result }
@@ -38,7 +38,7 @@ fn tell_lost(work: &mut Work, uid: u32) -> Result<(), AllocError>
 }
 
 /// Messages of a range that are gone. It takes a logarithm, and as much for each of them.
-fn tell_range(work: &mut Work, range: &UidRange) -> Result<(), AllocError>
+fn tell_range(work: &mut FolderTelling, range: &UidRange) -> Result<(), AllocError>
     requires { Ascends uid_of work.old.messages }
     ensures { GoesOk work.old work.new (record (telling_of work.old) { messages = without_those (is_in range.now) work.old.messages }) result }
 {
@@ -49,7 +49,7 @@ fn tell_range(work: &mut Work, range: &UidRange) -> Result<(), AllocError>
 }
 
 /// Messages that are gone, in whatever order their UIDs are told.
-pub fn tell_vanished(work: &mut Work, ranges: &[UidRange]) -> Result<(), AllocError>
+pub fn tell_vanished(work: &mut FolderTelling, ranges: &[UidRange]) -> Result<(), AllocError>
     requires { Ascends uid_of work.old.messages }
     ensures { GoesOk work.old work.new (record (telling_of work.old) { messages = without_those (covers ranges.now) work.old.messages }) result }
 {

@@ -8,7 +8,7 @@ use Rattle.told_folder.specs.Index.{AllAscend, IsIndexed}
 use Rattle.told_folder.specs.Keyed.{Ascends, with_key, put_keyed}
 use Rattle.told_folder.specs.Places.{IsFreeAt, IsHeldAt}
 use Rattle.told_folder.specs.declared.message.Folder.{Folder}
-use Rattle.told_folder.specs.declared.message.Held.{Held}
+use Rattle.told_folder.specs.declared.message.NumberedFolder.{NumberedFolder}
 use Rattle.told_folder.specs.declared.message.Message.{Message}
 use Rattle.told_folder.proofs.FolderLemmas.{ascend_in, ascends_in, messages_same, numbers_with, uids_with, set_here}
 use Rattle.told_folder.proofs.IndexLemmas.{IsHere, messages_here, mark_of, mark_same, mark_was, mark_off, same_place_or_not, eqb_apart, inverts_same}
@@ -25,13 +25,13 @@ use Rattle.told_mail.proofs.ToldLemmas.{mail_same, below_get, below_set}
 
 -- ---- a message
 
-with_own : (hs : List Held) (n : ℕ) → with_messages hs n (messages_in hs n) ≡ hs
+with_own : (hs : List NumberedFolder) (n : ℕ) → with_messages hs n (messages_in hs n) ≡ hs
 with_own [] n = refl
 with_own (h ∷ hs) n =
     elim (eqb (folder_number h) n) as (λ b. (if b then record h { messages = messages_of (if b then Some h else held_in hs n) } ∷ hs
     else h ∷ with_messages hs n (messages_of (if b then Some h else held_in hs n))) ≡ h ∷ hs) [
       | true ↦ refl
-      | false ↦ ap (λ (zs : List Held). h ∷ zs) (with_own hs n)
+      | false ↦ ap (λ (zs : List NumberedFolder). h ∷ zs) (with_own hs n)
     ]
 
 -- a message that is found by a UID has it
@@ -44,9 +44,9 @@ found_uid u (y ∷ ys) x e =
     ] refl e
 
 -- where a message is held, its folder is
-pub held_around : (hs : List Held) (n uid : ℕ) (x : Message) → message_in hs n uid ≡ Some x → (h : Held) × (held_in hs n ≡ Some h)
+pub held_around : (hs : List NumberedFolder) (n uid : ℕ) (x : Message) → message_in hs n uid ≡ Some x → (h : NumberedFolder) × (held_in hs n ≡ Some h)
 held_around hs n uid x found =
-    elim (held_in hs n) as (λ o. held_in hs n ≡ o → with_key uid_of uid (messages_of o) ≡ Some x → (h : Held) × (held_in hs n ≡ Some h)) [
+    elim (held_in hs n) as (λ o. held_in hs n ≡ o → with_key uid_of uid (messages_of o) ≡ Some x → (h : NumberedFolder) × (held_in hs n ≡ Some h)) [
       | None ↦ λ e f. absurd (some_is_not_none x (sym f))
       | Some h ↦ λ e f. (h, e)
     ] refl found
@@ -63,7 +63,7 @@ module _ (m : Mail) (n uid : ℕ) (flags : List (List ℕ)) (x : Message) (found
       let put : with_messages m.folders n (put_keyed uid_of (record x { flags = flags }) xs) ≡ m.folders =
       ap (λ (fs : List (List ℕ)). with_messages m.folders n (put_keyed uid_of (record x { flags = fs }) xs)) (sym same)
       ∙ (ap (with_messages m.folders n) (put_found uid x xs up found) ∙ with_own m.folders n) in
-      flagged_is ∙ ap (λ (hs : List Held). record m { folders = hs }) put
+      flagged_is ∙ ap (λ (hs : List NumberedFolder). record m { folders = hs }) put
 
   -- where the mail stays, it has these flags
   pub flags_were : with_flags m n uid flags ≡ m → x.flags ≡ flags
@@ -87,7 +87,7 @@ flags_held m n uid flags other =
       | Some x ↦ λ e. (x, e)
     ] refl
 
-module _ (hs : List Held) (n uid : ℕ) (h : Held) (x : Message) (flags : List (List ℕ)) (held : held_in hs n ≡ Some h) (up : Ascends uid_of h.messages)
+module _ (hs : List NumberedFolder) (n uid : ℕ) (h : NumberedFolder) (x : Message) (flags : List (List ℕ)) (held : held_in hs n ≡ Some h) (up : Ascends uid_of h.messages)
     (found : with_key uid_of uid h.messages ≡ Some x) where
   -- no mark goes to another place
   marks_flagged : (p : ℕ × ℕ) → mark_in (with_messages hs n (put_keyed uid_of (record x { flags = flags }) h.messages)) p ≡ mark_in hs p
@@ -112,7 +112,7 @@ module _ (hs : List Held) (n uid : ℕ) (h : Held) (x : Message) (flags : List (
       let y : Message = record x { flags = flags } in
       let ys : List Message = put_keyed uid_of y h.messages in
       record {
-        index = subst (λ (zs : List Held). IsIndexed zs marks nm) (here.placed ys) (record {
+        index = subst (λ (zs : List NumberedFolder). IsIndexed zs marks nm) (here.placed ys) (record {
           numbers = numbers_with hs n ys m.index.numbers;
           uids = uids_with hs n ys (ascends_put uid_of y h.messages up) m.index.uids;
           inverse = inverts_same _ _ _ _ m.index.inverse (λ j. refl) marks_flagged;
@@ -125,32 +125,32 @@ module _ (hs : List Held) (n uid : ℕ) (h : Held) (x : Message) (flags : List (
 -- ---- a folder
 
 -- a folder that is set at its place
-pub folder_set : (hs : List Held) (at : ℕ) (h : Held) (g : Folder) (nm nf : ℕ) → Ascends folder_number hs → IsHeldAt folder_number g.number hs at → h ≡ get_or hs at h
+pub folder_set : (hs : List NumberedFolder) (at : ℕ) (h : NumberedFolder) (g : Folder) (nm nf : ℕ) → Ascends folder_number hs → IsHeldAt folder_number g.number hs at → h ≡ get_or hs at h
     → folder_number h < nf
     → ◌≡◌ {A = Mail} (record { folders = set hs at (record { folder = g; messages = h.messages }); next_mark = nm; next_folder = nf })
     (with_folder (record { folders = hs; next_mark = nm; next_folder = nf }) g)
 folder_set hs at h g nm nf up held is below =
     let n : ℕ = g.number in
-    let k : Held = record { folder = g; messages = h.messages } in
+    let k : NumberedFolder = record { folder = g; messages = h.messages } in
     let messages : messages_of (held_in hs n) ≡ h.messages = ap messages_of (sym (held_found folder_number n hs up at held h is)) in
     let put : put_keyed folder_number k hs ≡ set hs at k = put_held folder_number n k hs at held refl in
     let number : folder_number h ≡ n = ap folder_number is ∙ held.same h in
     let next : nf ≡ max nf (n + 1) = omega (arith, below, number) in
     mail_same _ _ _ _ _ _ (sym put ∙ ap (λ (xs : List Message). put_keyed folder_number (record { folder = g; messages = xs }) hs) (sym messages)) refl next
 
-module _ (hs : List Held) (at : ℕ) (h : Held) (attributes : List (List ℕ)) (nm nf : ℕ) (up : Ascends folder_number hs) (held : IsHeldAt folder_number (folder_number h) hs at)
+module _ (hs : List NumberedFolder) (at : ℕ) (h : NumberedFolder) (attributes : List (List ℕ)) (nm nf : ℕ) (up : Ascends folder_number hs) (held : IsHeldAt folder_number (folder_number h) hs at)
     (is : h ≡ get_or hs at h) (below : folder_number h < nf) where
   abbrev mail : Mail
   mail = record { folders = hs; next_mark = nm; next_folder = nf }
 
-  abbrev changed : Held
+  abbrev changed : NumberedFolder
   changed = record { folder = record h.folder { attributes = attributes }; messages = h.messages }
 
   -- the folder at its place has these attributes
   pub attributes_set : ◌≡◌ {A = Mail} (record { folders = set hs at changed; next_mark = nm; next_folder = nf }) (with_attributes mail (folder_number h) attributes)
   attributes_set =
       let found : folder_in hs (folder_number h) ≡ Some h.folder =
-      ap (option_map (λ (z : Held). z.folder)) (sym (held_found folder_number (folder_number h) hs up at held h is)) in
+      ap (option_map (λ (z : NumberedFolder). z.folder)) (sym (held_found folder_number (folder_number h) hs up at held h is)) in
       folder_set hs at h (record h.folder { attributes = attributes }) nm nf up held is below ∙ sym (ap (with_attributes_of mail attributes) found)
 
   -- with those that it has the mail stays
@@ -164,9 +164,9 @@ module _ (hs : List Held) (at : ℕ) (h : Held) (attributes : List (List ℕ)) (
   pub attributes_were : with_attributes mail (folder_number h) attributes ≡ mail → h.folder.attributes ≡ attributes
   attributes_were e =
       let stays : set hs at changed ≡ hs = ap (λ (k : Mail). k.folders) (attributes_set ∙ e) in
-      sym (ap (λ (z : Held). z.folder.attributes) (set_stays hs at h changed held.within is stays))
+      sym (ap (λ (z : NumberedFolder). z.folder.attributes) (set_stays hs at h changed held.within is stays))
 
-module _ (hs : List Held) (at n : ℕ) (h : Held) (attributes : List (List ℕ)) (nm nf : ℕ) (up : Ascends folder_number hs) (held : IsHeldAt folder_number n hs at)
+module _ (hs : List NumberedFolder) (at n : ℕ) (h : NumberedFolder) (attributes : List (List ℕ)) (nm nf : ℕ) (up : Ascends folder_number hs) (held : IsHeldAt folder_number n hs at)
     (is : h ≡ get_or hs at h) (all : AllBelow nf hs) where
   number_here : folder_number h ≡ n
   number_here = ap folder_number is ∙ held.same h
@@ -201,22 +201,22 @@ module _ (hs : List Held) (at n : ℕ) (h : Held) (attributes : List (List ℕ))
 -- of a number that no folder has, nothing changes
 pub none_attributed : (m : Mail) (n at : ℕ) (attributes : List (List ℕ)) → Ascends folder_number m.folders → IsFreeAt folder_number n m.folders at → with_attributes m n attributes ≡ m
 none_attributed m n at attributes up free =
-    ap (λ (o : Option Held). with_attributes_of m attributes (option_map (λ (z : Held). z.folder) o)) (sym (free_found folder_number n m.folders up at free))
+    ap (λ (o : Option NumberedFolder). with_attributes_of m attributes (option_map (λ (z : NumberedFolder). z.folder) o)) (sym (free_found folder_number n m.folders up at free))
 
 -- nor a message's flags
 pub none_flagged : (m : Mail) (n uid at : ℕ) (flags : List (List ℕ)) → Ascends folder_number m.folders → IsFreeAt folder_number n m.folders at → with_flags m n uid flags ≡ m
 none_flagged m n uid at flags up free =
-    ap (λ (o : Option Held). with_flags_of m n flags (with_key uid_of uid (messages_of o))) (sym (free_found folder_number n m.folders up at free))
+    ap (λ (o : Option NumberedFolder). with_flags_of m n flags (with_key uid_of uid (messages_of o))) (sym (free_found folder_number n m.folders up at free))
 
 -- the folder at its place, whose message has these flags
-pub flags_put : (hs : List Held) (n uid at : ℕ) (h k : Held) (x : Message) (flags : List (List ℕ)) (nm nf : ℕ) → IsHere hs n at h → AllAscend hs
+pub flags_put : (hs : List NumberedFolder) (n uid at : ℕ) (h k : NumberedFolder) (x : Message) (flags : List (List ℕ)) (nm nf : ℕ) → IsHere hs n at h → AllAscend hs
     → message_in hs n uid ≡ Some x → k ≡ record h { messages = put_keyed uid_of (record x { flags = flags }) h.messages }
     → ◌≡◌ {A = Mail} (record { folders = set hs at k; next_mark = nm; next_folder = nf }) (with_flags (record { folders = hs; next_mark = nm; next_folder = nf }) n uid flags)
 flags_put hs n uid at h k x flags nm nf here up found is =
     let y : Message = record x { flags = flags } in
     let ys : List Message = put_keyed uid_of y h.messages in
     mail_same _ _ _ _ _ _
-    (ap (λ (z : Held). set hs at z) is ∙ (sym (here.placed ys)
+    (ap (λ (z : NumberedFolder). set hs at z) is ∙ (sym (here.placed ys)
     ∙ ap (λ (xs : List Message). with_messages hs n (put_keyed uid_of y xs)) (sym (messages_here hs n h here.found)))) refl refl
     ∙ sym (flagged_is (record { folders = hs; next_mark = nm; next_folder = nf }) n uid flags x found (ascends_in hs n up))
 
@@ -226,7 +226,7 @@ module _ (m : Mail) (i : IsMail m) where
   flagged_next : (n uid : ℕ) (flags : List (List ℕ)) (o : Option Message) → message_in m.folders n uid ≡ o → IsNextMail m (with_flags_of m n flags o)
   flagged_next n uid flags None found = next_by m m i (numbers_stay m)
   flagged_next n uid flags (Some x) found =
-      let hs : List Held = m.folders in
+      let hs : List NumberedFolder = m.folders in
       let xs : List Message = messages_in hs n in
       let h = held_around hs n uid x found in
       let y : Message = record x { flags = flags } in
@@ -243,10 +243,10 @@ module _ (m : Mail) (i : IsMail m) where
   pub with_flags_next : (n uid : ℕ) (flags : List (List ℕ)) → IsNextMail m (with_flags m n uid flags)
   with_flags_next n uid flags = flagged_next n uid flags (message_in m.folders n uid) refl
 
-  held_folder : (n : ℕ) (f : Folder) → folder_in m.folders n ≡ Some f → (h : Held) × (held_in m.folders n ≡ Some h) × (h.folder ≡ f)
+  held_folder : (n : ℕ) (f : Folder) → folder_in m.folders n ≡ Some f → (h : NumberedFolder) × (held_in m.folders n ≡ Some h) × (h.folder ≡ f)
   held_folder n f e = by (held_in m.folders n) refl e
     where
-      by : (o : Option Held) → held_in m.folders n ≡ o → option_map (λ (z : Held). z.folder) o ≡ Some f → (h : Held) × (held_in m.folders n ≡ Some h) × (h.folder ≡ f)
+      by : (o : Option NumberedFolder) → held_in m.folders n ≡ o → option_map (λ (z : NumberedFolder). z.folder) o ≡ Some f → (h : NumberedFolder) × (held_in m.folders n ≡ Some h) × (h.folder ≡ f)
       by None t g = absurd (some_is_not_none f (sym g))
       by (Some h) t g = (h, t, some_same _ _ g)
 
@@ -261,7 +261,7 @@ module _ (m : Mail) (i : IsMail m) where
       (λ j k e named. i.names j f.number k h.0 e there (named ∙ ap (λ (g : Folder). g.name) (sym h.2)))
       (λ none. absurd (some_is_not_none h.0 (sym there ∙ none)))
     where
-      held_number : (hs : List Held) (j : ℕ) (k : Held) → held_in hs j ≡ Some k → folder_number k ≡ j
+      held_number : (hs : List NumberedFolder) (j : ℕ) (k : NumberedFolder) → held_in hs j ≡ Some k → folder_number k ≡ j
       held_number [] j k e = absurd (some_is_not_none k (sym e))
       held_number (z ∷ hs) j k e =
           elim (eqb (folder_number z) j) as (λ b. eqb (folder_number z) j ≡ b → (if b then Some z else held_in hs j) ≡ Some k → folder_number k ≡ j) [

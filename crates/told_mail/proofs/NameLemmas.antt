@@ -22,7 +22,7 @@ use Rattle.told_folder.specs.Folders.{folder_number, held_in}
 use Rattle.told_folder.specs.Index.{Inverts}
 use Rattle.told_folder.specs.Places.{IsHeldAt}
 use Rattle.told_folder.specs.Keyed.{AllAbove, Ascends, put_keyed, cut_keyed}
-use Rattle.told_folder.specs.declared.message.Held.{Held}
+use Rattle.told_folder.specs.declared.message.NumberedFolder.{NumberedFolder}
 use Rattle.told_folder.proofs.IndexLemmas.{same_or_not, inverts_put, inverts_cut, inverts_same, eqb_same, eqb_apart}
 use Rattle.told_folder.proofs.KeyedLemmas.{some_same, some_is_not_none, found_put, found_cut, ascends_cut, held_found, put_held}
 use Rattle.told_mail.specs.Lists as lists
@@ -82,16 +82,16 @@ place_cut es name q fs is none =
 -- ---- the folder of a name
 
 -- a folder that is found by a name has that name
-pub named_name : (hs : List Held) (q : List ℕ) (h : Held) → named hs q ≡ Some h → h.folder.name ≡ q
+pub named_name : (hs : List NumberedFolder) (q : List ℕ) (h : NumberedFolder) → named hs q ≡ Some h → h.folder.name ≡ q
 named_name [] q h e = absurd (cc)
 named_name (x ∷ hs) q h e =
     elim (is_same x.folder.name q) as (λ b. is_same x.folder.name q ≡ b → (if b then Some x else named hs q) ≡ Some h → h.folder.name ≡ q) [
-      | true ↦ λ t f. ap (λ (k : Held). k.folder.name) (sym (some_same _ _ f)) ∙ same_name x.folder.name q t
+      | true ↦ λ t f. ap (λ (k : NumberedFolder). k.folder.name) (sym (some_same _ _ f)) ∙ same_name x.folder.name q t
       | false ↦ λ t f. named_name hs q h f
     ] refl e
 
 -- a number below those of all folders is below that of each
-pub found_above : (k n : ℕ) (hs : List Held) (h : Held) → AllAbove folder_number k hs → held_in hs n ≡ Some h → k < n
+pub found_above : (k n : ℕ) (hs : List NumberedFolder) (h : NumberedFolder) → AllAbove folder_number k hs → held_in hs n ≡ Some h → k < n
 found_above k n [] h a e = absurd (cc)
 found_above k n (x ∷ hs) h a e =
     elim (same_or_not (folder_number x) n) [
@@ -100,7 +100,7 @@ found_above k n (x ∷ hs) h a e =
     ]
 
 -- where the numbers ascend, a folder that is found by a name is found by its number
-pub named_held : (hs : List Held) (q : List ℕ) (h : Held) → Ascends folder_number hs → named hs q ≡ Some h → held_in hs (folder_number h) ≡ Some h
+pub named_held : (hs : List NumberedFolder) (q : List ℕ) (h : NumberedFolder) → Ascends folder_number hs → named hs q ≡ Some h → held_in hs (folder_number h) ≡ Some h
 named_held [] q h up e = absurd (cc)
 named_held (x ∷ hs) q h up e =
     elim (is_same x.folder.name q) as (λ b. (if b then Some x else named hs q) ≡ Some h → held_in (x ∷ hs) (folder_number h) ≡ Some h) [
@@ -114,7 +114,7 @@ named_held (x ∷ hs) q h up e =
     ] e
 
 -- a folder of the name is held, and none is found
-pub named_there : (hs : List Held) (n : ℕ) (h : Held) → held_in hs n ≡ Some h → named hs h.folder.name ≡ None → ⊥
+pub named_there : (hs : List NumberedFolder) (n : ℕ) (h : NumberedFolder) → held_in hs n ≡ Some h → named hs h.folder.name ≡ None → ⊥
 named_there [] n h e none = absurd (cc)
 named_there (x ∷ hs) n h e none =
     elim (is_same x.folder.name h.folder.name) as (λ b. is_same x.folder.name h.folder.name ≡ b → (if b then Some x else named hs h.folder.name) ≡ None → ⊥) [
@@ -122,37 +122,37 @@ named_there (x ∷ hs) n h e none =
       | false ↦ λ t f. elim (same_or_not (folder_number x) n) [
         | inl same ↦
             let here : x ≡ h = some_same _ _ (sym (ap (λ b. if b then Some x else held_in hs n) (eq-eqb _ _ same)) ∙ e) in
-            let wrong : ◌≡◌ {A = Bool} true false = sym (is_self x.folder.name) ∙ ap (λ (k : Held). is_same x.folder.name k.folder.name) here ∙ t in absurd (cc)
+            let wrong : ◌≡◌ {A = Bool} true false = sym (is_self x.folder.name) ∙ ap (λ (k : NumberedFolder). is_same x.folder.name k.folder.name) here ∙ t in absurd (cc)
         | inr apart ↦ named_there hs n h (sym (ap (λ b. if b then Some x else held_in hs n) (ne_eqb _ _ apart)) ∙ e) f
       ]
     ] refl none
 
-module _ (look : List ℕ → Option ℕ) (hs : List Held) (i : Inverts look (name_in hs)) (up : Ascends folder_number hs) where
+module _ (look : List ℕ → Option ℕ) (hs : List NumberedFolder) (i : Inverts look (name_in hs)) (up : Ascends folder_number hs) where
   -- a folder is the one that its name finds
-  pub named_only : (n : ℕ) (h : Held) → held_in hs n ≡ Some h → named hs h.folder.name ≡ Some h
+  pub named_only : (n : ℕ) (h : NumberedFolder) → held_in hs n ≡ Some h → named hs h.folder.name ≡ Some h
   named_only n h e =
       elim (named hs h.folder.name) as (λ o. named hs h.folder.name ≡ o → o ≡ Some h) [
         | None ↦ λ f. absurd (named_there hs n h e f)
         | Some k ↦ λ f.
             let held : held_in hs (folder_number k) ≡ Some k = named_held hs h.folder.name k up f in
-            let one : look h.folder.name ≡ Some n = i.from h.folder.name n (ap (option_map (λ (z : Held). z.folder.name)) e) in
+            let one : look h.folder.name ≡ Some n = i.from h.folder.name n (ap (option_map (λ (z : NumberedFolder). z.folder.name)) e) in
             let two : look h.folder.name ≡ Some (folder_number k) =
-            i.from h.folder.name (folder_number k) (ap (option_map (λ (z : Held). z.folder.name)) held ∙ ap (λ (q : List ℕ). Some q) (named_name hs h.folder.name k f)) in
+            i.from h.folder.name (folder_number k) (ap (option_map (λ (z : NumberedFolder). z.folder.name)) held ∙ ap (λ (q : List ℕ). Some q) (named_name hs h.folder.name k f)) in
             let same : n ≡ folder_number k = some_same _ _ (sym one ∙ two) in
             sym held ∙ ap (held_in hs) (sym same) ∙ e
       ] refl
 
   -- names differ
-  pub names_differ : (m n : ℕ) (h k : Held) → held_in hs m ≡ Some h → held_in hs n ≡ Some k → h.folder.name ≡ k.folder.name → m ≡ n
+  pub names_differ : (m n : ℕ) (h k : NumberedFolder) → held_in hs m ≡ Some h → held_in hs n ≡ Some k → h.folder.name ≡ k.folder.name → m ≡ n
   names_differ m n h k e f same =
-      let one : look h.folder.name ≡ Some m = i.from h.folder.name m (ap (option_map (λ (z : Held). z.folder.name)) e) in
-      let two : look h.folder.name ≡ Some n = i.from h.folder.name n (ap (option_map (λ (z : Held). z.folder.name)) f ∙ ap (λ (q : List ℕ). Some q) (sym same)) in
+      let one : look h.folder.name ≡ Some m = i.from h.folder.name m (ap (option_map (λ (z : NumberedFolder). z.folder.name)) e) in
+      let two : look h.folder.name ≡ Some n = i.from h.folder.name n (ap (option_map (λ (z : NumberedFolder). z.folder.name)) f ∙ ap (λ (q : List ℕ). Some q) (sym same)) in
       some_same _ _ (sym one ∙ two)
 
   -- the folder of the number that a name has is the folder of the name
-  pub placed : (q : List ℕ) (n : ℕ) (h : Held) → look q ≡ Some n → held_in hs n ≡ Some h → named hs q ≡ Some h
+  pub placed : (q : List ℕ) (n : ℕ) (h : NumberedFolder) → look q ≡ Some n → held_in hs n ≡ Some h → named hs q ≡ Some h
   placed q n h e held =
-      let name : h.folder.name ≡ q = some_same _ _ (sym (ap (option_map (λ (z : Held). z.folder.name)) held) ∙ i.to q n e) in
+      let name : h.folder.name ≡ q = some_same _ _ (sym (ap (option_map (λ (z : NumberedFolder). z.folder.name)) held) ∙ i.to q n e) in
       ap (named hs) (sym name) ∙ named_only n h held
 
   -- where a name has no number, no folder has the name
@@ -163,7 +163,7 @@ module _ (look : List ℕ → Option ℕ) (hs : List Held) (i : Inverts look (na
         | Some k ↦ λ f.
             let held : held_in hs (folder_number k) ≡ Some k = named_held hs q k up f in
             let there : look q ≡ Some (folder_number k) =
-            i.from q (folder_number k) (ap (option_map (λ (z : Held). z.folder.name)) held ∙ ap (λ (r : List ℕ). Some r) (named_name hs q k f)) in
+            i.from q (folder_number k) (ap (option_map (λ (z : NumberedFolder). z.folder.name)) held ∙ ap (λ (r : List ℕ). Some r) (named_name hs q k f)) in
             absurd (some_is_not_none _ (sym there ∙ e))
       ] refl
 
@@ -175,74 +175,74 @@ module _ (look : List ℕ → Option ℕ) (hs : List Held) (i : Inverts look (na
         | Some n ↦ λ f. absurd (no_holder n (held_in hs n) refl (i.to q n f))
       ] refl
     where
-      no_holder : (n : ℕ) (o : Option Held) → held_in hs n ≡ o → option_map (λ (z : Held). z.folder.name) (held_in hs n) ≡ Some q → ⊥
-      no_holder n None f g = some_is_not_none _ (sym g ∙ ap (option_map (λ (z : Held). z.folder.name)) f)
+      no_holder : (n : ℕ) (o : Option NumberedFolder) → held_in hs n ≡ o → option_map (λ (z : NumberedFolder). z.folder.name) (held_in hs n) ≡ Some q → ⊥
+      no_holder n None f g = some_is_not_none _ (sym g ∙ ap (option_map (λ (z : NumberedFolder). z.folder.name)) f)
       no_holder n (Some h) f g =
-          let name : h.folder.name ≡ q = some_same _ _ (sym (ap (option_map (λ (z : Held). z.folder.name)) f) ∙ g) in
+          let name : h.folder.name ≡ q = some_same _ _ (sym (ap (option_map (λ (z : NumberedFolder). z.folder.name)) f) ∙ g) in
           named_there hs n h f (ap (named hs) name ∙ e)
 
 -- ---- folders that change
 
 -- another folder of the same number and name at a place leaves the name of each number as it was
-pub name_set : (hs : List Held) (at : ℕ) (h k : Held) → at < length hs → h ≡ get_or hs at h → folder_number k ≡ folder_number h → k.folder.name ≡ h.folder.name → (n : ℕ)
+pub name_set : (hs : List NumberedFolder) (at : ℕ) (h k : NumberedFolder) → at < length hs → h ≡ get_or hs at h → folder_number k ≡ folder_number h → k.folder.name ≡ h.folder.name → (n : ℕ)
     → name_in (set hs at k) n ≡ name_in hs n
 name_set [] at h k w is number name n = absurd (omega arith)
 name_set (x ∷ hs) zero h k w is number name n =
-    ap (λ m. option_map (λ (z : Held). z.folder.name) (if eqb m n then Some k else held_in hs n)) (number ∙ ap folder_number is)
-    ∙ elim (eqb (folder_number x) n) as (λ b. option_map (λ (z : Held). z.folder.name) (if b then Some k else held_in hs n) ≡ option_map (λ (z : Held). z.folder.name)
+    ap (λ m. option_map (λ (z : NumberedFolder). z.folder.name) (if eqb m n then Some k else held_in hs n)) (number ∙ ap folder_number is)
+    ∙ elim (eqb (folder_number x) n) as (λ b. option_map (λ (z : NumberedFolder). z.folder.name) (if b then Some k else held_in hs n) ≡ option_map (λ (z : NumberedFolder). z.folder.name)
     (if b then Some x else held_in hs n)) [
-      | true ↦ ap (λ (q : List ℕ). Some q) (name ∙ ap (λ (z : Held). z.folder.name) is)
+      | true ↦ ap (λ (q : List ℕ). Some q) (name ∙ ap (λ (z : NumberedFolder). z.folder.name) is)
       | false ↦ refl
     ]
 name_set (x ∷ hs) (suc at) h k w is number name n =
-    elim (eqb (folder_number x) n) as (λ b. option_map (λ (z : Held). z.folder.name) (if b then Some x else held_in (set hs at k) n) ≡ option_map (λ (z : Held). z.folder.name)
+    elim (eqb (folder_number x) n) as (λ b. option_map (λ (z : NumberedFolder). z.folder.name) (if b then Some x else held_in (set hs at k) n) ≡ option_map (λ (z : NumberedFolder). z.folder.name)
     (if b then Some x else held_in hs n)) [
       | true ↦ refl
       | false ↦ name_set hs at h k (omega arith) is number name n
     ]
 
 -- the index of folders whose numbers and names stay
-pub numbers_same : (look look' : List ℕ → Option ℕ) (hs ks : List Held) → Inverts look (name_in hs) → ((q : List ℕ) → look' q ≡ look q) → ((n : ℕ) → name_in ks n ≡ name_in hs n)
+pub numbers_same : (look look' : List ℕ → Option ℕ) (hs ks : List NumberedFolder) → Inverts look (name_in hs) → ((q : List ℕ) → look' q ≡ look q) → ((n : ℕ) → name_in ks n ≡ name_in hs n)
     → Inverts look' (name_in ks)
 numbers_same look look' hs ks i l n = inverts_same look look' (name_in hs) (name_in ks) i l n
 
 -- a folder more
-pub numbers_put : (look look' : List ℕ → Option ℕ) (hs : List Held) (k : Held) → Ascends folder_number hs → Inverts look (name_in hs) → held_in hs (folder_number k) ≡ None
+pub numbers_put : (look look' : List ℕ → Option ℕ) (hs : List NumberedFolder) (k : NumberedFolder) → Ascends folder_number hs → Inverts look (name_in hs) → held_in hs (folder_number k) ≡ None
     → named hs k.folder.name ≡ None → ((q : List ℕ) → look' q ≡ (if is_same k.folder.name q then Some (folder_number k) else look q))
     → Inverts look' (name_in (put_keyed folder_number k hs))
 numbers_put look look' hs k up i free unused upd =
     let ks = put_keyed folder_number k hs in
-    let found : (n : ℕ) → name_in ks n ≡ option_map (λ (z : Held). z.folder.name) (if eqb (folder_number k) n then Some k else held_in hs n) =
-    λ n. ap (option_map (λ (z : Held). z.folder.name)) (found_put folder_number n k hs up) in
+    let found : (n : ℕ) → name_in ks n ≡ option_map (λ (z : NumberedFolder). z.folder.name) (if eqb (folder_number k) n then Some k else held_in hs n) =
+    λ n. ap (option_map (λ (z : NumberedFolder). z.folder.name)) (found_put folder_number n k hs up) in
     inverts_put look look' (name_in hs) (name_in ks) k.folder.name (folder_number k) (λ j. name_or_not j k.folder.name) (λ q. same_or_not q (folder_number k)) i
     (upd k.folder.name ∙ ap (λ b. if b then Some (folder_number k) else look k.folder.name) (is_self k.folder.name))
     (λ j apart. upd j ∙ ap (λ b. if b then Some (folder_number k) else look j) (other_name k.folder.name j (λ e. apart (sym e))))
-    (found (folder_number k) ∙ ap (λ b. option_map (λ (z : Held). z.folder.name) (if b then Some k else held_in hs (folder_number k))) (eqb_same (folder_number k)))
-    (λ n apart. found n ∙ ap (λ b. option_map (λ (z : Held). z.folder.name) (if b then Some k else held_in hs n)) (eqb_apart (folder_number k) n apart))
+    (found (folder_number k) ∙ ap (λ b. option_map (λ (z : NumberedFolder). z.folder.name) (if b then Some k else held_in hs (folder_number k))) (eqb_same (folder_number k)))
+    (λ n apart. found n ∙ ap (λ b. option_map (λ (z : NumberedFolder). z.folder.name) (if b then Some k else held_in hs n)) (eqb_apart (folder_number k) n apart))
     (λ n e. some_is_not_none n (sym (i.from k.folder.name n e) ∙ unnamed look hs i up k.folder.name unused))
-    (ap (option_map (λ (z : Held). z.folder.name)) free)
+    (ap (option_map (λ (z : NumberedFolder). z.folder.name)) free)
 
 -- a folder less
-pub numbers_cut : (look look' : List ℕ → Option ℕ) (hs : List Held) (h : Held) → Inverts look (name_in hs) → held_in hs (folder_number h) ≡ Some h
+pub numbers_cut : (look look' : List ℕ → Option ℕ) (hs : List NumberedFolder) (h : NumberedFolder) → Inverts look (name_in hs) → held_in hs (folder_number h) ≡ Some h
     → ((q : List ℕ) → look' q ≡ (if is_same h.folder.name q then None else look q)) → Inverts look' (name_in (cut_keyed folder_number (folder_number h) hs))
 numbers_cut look look' hs h i held upd =
     let ks = cut_keyed folder_number (folder_number h) hs in
-    let found : (n : ℕ) → name_in ks n ≡ option_map (λ (z : Held). z.folder.name) (if eqb (folder_number h) n then None else held_in hs n) =
-    λ n. ap (option_map (λ (z : Held). z.folder.name)) (found_cut folder_number n (folder_number h) hs) in
+    let found : (n : ℕ) → name_in ks n ≡ option_map (λ (z : NumberedFolder). z.folder.name) (if eqb (folder_number h) n then None else held_in hs n) =
+    λ n. ap (option_map (λ (z : NumberedFolder). z.folder.name)) (found_cut folder_number n (folder_number h) hs) in
     inverts_cut look look' (name_in hs) (name_in ks) h.folder.name (folder_number h) (λ j. name_or_not j h.folder.name) (λ q. same_or_not q (folder_number h)) i
     (upd h.folder.name ∙ ap (λ b. if b then None else look h.folder.name) (is_self h.folder.name))
     (λ j apart. upd j ∙ ap (λ b. if b then None else look j) (other_name h.folder.name j (λ e. apart (sym e))))
-    (found (folder_number h) ∙ ap (λ b. option_map (λ (z : Held). z.folder.name) (if b then None else held_in hs (folder_number h))) (eqb_same (folder_number h)))
-    (λ n apart. found n ∙ ap (λ b. option_map (λ (z : Held). z.folder.name) (if b then None else held_in hs n)) (eqb_apart (folder_number h) n apart))
-    (ap (option_map (λ (z : Held). z.folder.name)) held)
+    (found (folder_number h) ∙ ap (λ b. option_map (λ (z : NumberedFolder). z.folder.name) (if b then None else held_in hs (folder_number h))) (eqb_same (folder_number h)))
+    (λ n apart. found n ∙ ap (λ b. option_map (λ (z : NumberedFolder). z.folder.name) (if b then None else held_in hs n)) (eqb_apart (folder_number h) n apart))
+    (ap (option_map (λ (z : NumberedFolder). z.folder.name)) held)
 
 -- ---- names that no folder has
 
 -- names that no folder has, and one folder more doesn't have, are free when it is added
-pub free_more : (hs : List Held) (h : Held) (qs : List (List ℕ)) → AllFree hs qs → AllOther h.folder.name qs → AllFree (hs ++ h ∷ []) qs
+pub free_more : (hs : List NumberedFolder) (h : NumberedFolder) (qs : List (List ℕ)) → AllFree hs qs → AllOther h.folder.name qs → AllFree (hs ++ h ∷ []) qs
 free_more hs h [] f o = tt
 free_more hs h (q ∷ qs) f o = (named_last hs f.0, free_more hs h qs f.1 o.1) where
-  named_last : (zs : List Held) → named zs q ≡ None → named (zs ++ h ∷ []) q ≡ None
+  named_last : (zs : List NumberedFolder) → named zs q ≡ None → named (zs ++ h ∷ []) q ≡ None
   named_last [] e = ap (λ b. if b then Some h else None) o.0
   named_last (z ∷ zs) e =
       elim (is_same z.folder.name q) as (λ b. (if b then Some z else named zs q) ≡ None → (if b then Some z else named (zs ++ h ∷ []) q) ≡ None) [
@@ -328,7 +328,7 @@ apart_new p qs a = apart_parts is_inbox (filter p qs) (apart_filter p qs a)
 
 -- ---- new names are free
 
-free_filter : (hs : List Held) (qs : List (List ℕ)) → AllFree hs (filter (λ name. not (is_some (named hs name))) qs)
+free_filter : (hs : List NumberedFolder) (qs : List (List ℕ)) → AllFree hs (filter (λ name. not (is_some (named hs name))) qs)
 free_filter hs [] = tt
 free_filter hs (q ∷ qs) =
     elim (named hs q) as (λ o. named hs q ≡ o → AllFree hs
@@ -337,15 +337,15 @@ free_filter hs (q ∷ qs) =
       | Some h ↦ λ e. free_filter hs qs
     ] refl
 
-free_part : (hs : List Held) (p : List ℕ → Bool) (qs : List (List ℕ)) → AllFree hs qs → AllFree hs (filter p qs)
+free_part : (hs : List NumberedFolder) (p : List ℕ → Bool) (qs : List (List ℕ)) → AllFree hs qs → AllFree hs (filter p qs)
 free_part hs p [] a = tt
 free_part hs p (q ∷ qs) a = elim (p q) as (λ b. AllFree hs (if b then q ∷ filter p qs else filter p qs)) [ true ↦ (a.0, free_part hs p qs a.1) | false ↦ free_part hs p qs a.1 ]
 
-free_append : (hs : List Held) (qs rs : List (List ℕ)) → AllFree hs qs → AllFree hs rs → AllFree hs (qs ++ rs)
+free_append : (hs : List NumberedFolder) (qs rs : List (List ℕ)) → AllFree hs qs → AllFree hs rs → AllFree hs (qs ++ rs)
 free_append hs [] rs a b = b
 free_append hs (q ∷ qs) rs a b = (a.0, free_append hs qs rs a.1 b)
 
-listed_free : (rs : List Response) (hs : List Held) (q : List ℕ) → named hs q ≡ None → named (listed rs hs) q ≡ None
+listed_free : (rs : List Response) (hs : List NumberedFolder) (q : List ℕ) → named hs q ≡ None → named (listed rs hs) q ≡ None
 listed_free rs [] q e = refl
 listed_free rs (h ∷ hs) q e =
     elim (is_same h.folder.name q) as (λ b. is_same h.folder.name q ≡ b → (if b then Some h else named hs q) ≡ None → named
@@ -357,12 +357,12 @@ listed_free rs (h ∷ hs) q e =
       ]
     ] refl e
 
-free_listed : (rs : List Response) (hs : List Held) (qs : List (List ℕ)) → AllFree hs qs → AllFree (listed rs hs) qs
+free_listed : (rs : List Response) (hs : List NumberedFolder) (qs : List (List ℕ)) → AllFree hs qs → AllFree (listed rs hs) qs
 free_listed rs hs [] a = tt
 free_listed rs hs (q ∷ qs) a = (listed_free rs hs q a.0, free_listed rs hs qs a.1)
 
 -- no folder that a LIST leaves has one of the new names
-pub free_new : (rs : List Response) (hs : List Held) → AllFree (listed rs hs) (new_names hs rs)
+pub free_new : (rs : List Response) (hs : List NumberedFolder) → AllFree (listed rs hs) (new_names hs rs)
 free_new rs hs =
     let ns : List (List ℕ) = filter (λ name. not (is_some (named hs name))) (names_told rs) in
     let free : AllFree hs ns = free_filter hs (names_told rs) in
@@ -370,19 +370,19 @@ free_new rs hs =
     (free_part hs (λ name. not (is_inbox name)) ns free))
 
 -- the names that have no number are those that no folder has
-pub names_new : (look : List ℕ → Option ℕ) (hs : List Held) → Inverts look (name_in hs) → Ascends folder_number hs → (ns : List (List ℕ))
+pub names_new : (look : List ℕ → Option ℕ) (hs : List NumberedFolder) → Inverts look (name_in hs) → Ascends folder_number hs → (ns : List (List ℕ))
     → filter (λ name. not (is_some (look name))) ns ≡ filter (λ name. not (is_some (named hs name))) ns
 names_new look hs i up ns = filter_same _ _ (λ q. ap not (same q)) ns where
   same : (q : List ℕ) → is_some (look q) ≡ is_some (named hs q)
   same q =
       elim (named hs q) as (λ o. named hs q ≡ o → is_some (look q) ≡ is_some o) [
         | None ↦ λ e. ap is_some (unnamed look hs i up q e)
-        | Some h ↦ λ e. ap is_some (i.from q (folder_number h) (ap (option_map (λ (z : Held). z.folder.name)) (named_held hs q h up e)
+        | Some h ↦ λ e. ap is_some (i.from q (folder_number h) (ap (option_map (λ (z : NumberedFolder). z.folder.name)) (named_held hs q h up e)
             ∙ ap (λ (r : List ℕ). Some r) (named_name hs q h e)))
       ] refl
 
 -- the names told that have no number, INBOX first, are the new names
-pub new_names_are : (look : List ℕ → Option ℕ) (hs : List Held) (rs : List Response) (ns names : List (List ℕ)) → Inverts look (name_in hs) → Ascends folder_number hs
+pub new_names_are : (look : List ℕ → Option ℕ) (hs : List NumberedFolder) (rs : List Response) (ns names : List (List ℕ)) → Inverts look (name_in hs) → Ascends folder_number hs
     → ns ≡ names_told rs
     → names ≡ inbox_first (filter (λ name. not (is_some (look name))) ns) → names ≡ new_names hs rs
 new_names_are look hs rs ns names i up told is = is ∙ ap inbox_first (names_new look hs i up ns)
@@ -391,11 +391,11 @@ new_names_are look hs rs ns names i up told is = is ∙ ap inbox_first (names_ne
 -- ---- a folder's name changes
 
 -- no folder but the one of the number has the name
-abbrev pub IsOnly : List Held → List ℕ → ℕ → Type 0
-IsOnly hs name n = (m : ℕ) (h : Held) → held_in hs m ≡ Some h → h.folder.name ≡ name → m ≡ n
+abbrev pub IsOnly : List NumberedFolder → List ℕ → ℕ → Type 0
+IsOnly hs name n = (m : ℕ) (h : NumberedFolder) → held_in hs m ≡ Some h → h.folder.name ≡ name → m ≡ n
 
 -- where no folder but the one of a number has a name, and no folder has the number, none has the name
-pub unused_name : (hs : List Held) (name : List ℕ) (n : ℕ) → Ascends folder_number hs → held_in hs n ≡ None → IsOnly hs name n → named hs name ≡ None
+pub unused_name : (hs : List NumberedFolder) (name : List ℕ) (n : ℕ) → Ascends folder_number hs → held_in hs n ≡ None → IsOnly hs name n → named hs name ≡ None
 unused_name hs name n up free only =
     elim (named hs name) as (λ o. named hs name ≡ o → o ≡ None) [
       | None ↦ λ e. refl
@@ -405,7 +405,7 @@ unused_name hs name n up free only =
           absurd (some_is_not_none _ (sym held ∙ ap (held_in hs) same ∙ free))
     ] refl
 
-cut_only : (hs : List Held) (name : List ℕ) (n : ℕ) → IsOnly hs name n → IsOnly (cut_keyed folder_number n hs) name n
+cut_only : (hs : List NumberedFolder) (name : List ℕ) (n : ℕ) → IsOnly hs name n → IsOnly (cut_keyed folder_number n hs) name n
 cut_only hs name n only m h held is =
     elim (same_or_not m n) [
       | inl same ↦ same
@@ -413,7 +413,7 @@ cut_only hs name n only m h held is =
     ]
 
 -- the numbers of names stay right when the folder of a number takes a name that no other folder has
-pub numbers_changed : (look look' : List ℕ → Option ℕ) (hs : List Held) (at : ℕ) (h k : Held) → Ascends folder_number hs → Inverts look (name_in hs) → IsHeldAt folder_number
+pub numbers_changed : (look look' : List ℕ → Option ℕ) (hs : List NumberedFolder) (at : ℕ) (h k : NumberedFolder) → Ascends folder_number hs → Inverts look (name_in hs) → IsHeldAt folder_number
     (folder_number k) hs at
     → h ≡ get_or hs at h → IsOnly hs k.folder.name (folder_number k)
     → ((q : List ℕ) → look' q ≡ (if is_same k.folder.name q then Some (folder_number k) else (if is_same h.folder.name q then None else look q)))
@@ -423,7 +423,7 @@ numbers_changed look look' hs at h k up i held is only upd =
     let there : held_in hs n ≡ Some h = sym (held_found folder_number n hs up at held h is) in
     let number : folder_number h ≡ n = ap folder_number is ∙ held.same h in
     let look1 : List ℕ → Option ℕ = λ q. if is_same h.folder.name q then None else look q in
-    let rest : List Held = cut_keyed folder_number n hs in
+    let rest : List NumberedFolder = cut_keyed folder_number n hs in
     let cut : Inverts look1 (name_in rest) =
     subst (λ m. Inverts look1 (name_in (cut_keyed folder_number m hs))) number (numbers_cut look look1 hs h i (ap (held_in hs) number ∙ there) (λ q. refl)) in
     let gone : held_in rest n ≡ None = found_cut folder_number n n hs ∙ ap (λ b. if b then None else held_in hs n) (eqb_same n) in
@@ -431,12 +431,12 @@ numbers_changed look look' hs at h k up i held is only upd =
     numbers_put look1 look' rest k (ascends_cut folder_number n hs up) cut gone
     (unused_name rest k.folder.name n (ascends_cut folder_number n hs up) gone (cut_only hs k.folder.name n only)) upd in
     inverts_same look' look' (name_in (put_keyed folder_number k rest)) (name_in (set hs at k)) put (λ q. refl)
-    (λ m. ap (λ (zs : List Held). name_in zs m) (sym (put_held folder_number n k hs at held refl)) ∙ ap (option_map (λ (z : Held). z.folder.name))
+    (λ m. ap (λ (zs : List NumberedFolder). name_in zs m) (sym (put_held folder_number n k hs at held refl)) ∙ ap (option_map (λ (z : NumberedFolder). z.folder.name))
     (found_put folder_number m k hs up)
-    ∙ elim (eqb n m) as (λ b. eqb n m ≡ b → option_map (λ (z : Held). z.folder.name) (if b then Some k else held_in hs m) ≡ name_in (put_keyed folder_number k rest) m) [
-      | true ↦ λ e. sym (ap (option_map (λ (z : Held). z.folder.name))
+    ∙ elim (eqb n m) as (λ b. eqb n m ≡ b → option_map (λ (z : NumberedFolder). z.folder.name) (if b then Some k else held_in hs m) ≡ name_in (put_keyed folder_number k rest) m) [
+      | true ↦ λ e. sym (ap (option_map (λ (z : NumberedFolder). z.folder.name))
           (found_put folder_number m k rest (ascends_cut folder_number n hs up) ∙ ap (λ b. if b then Some k else held_in rest m) e))
-      | false ↦ λ e. sym (ap (option_map (λ (z : Held). z.folder.name))
+      | false ↦ λ e. sym (ap (option_map (λ (z : NumberedFolder). z.folder.name))
           (found_put folder_number m k rest (ascends_cut folder_number n hs up) ∙ ap (λ b. if b then Some k else held_in rest m) e
           ∙ found_cut folder_number m n hs ∙ ap (λ b. if b then None else held_in hs m) e))
     ] refl)

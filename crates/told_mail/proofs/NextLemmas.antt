@@ -14,7 +14,7 @@ use Rattle.told_folder.specs.Keyed.{AllAbove, Ascends, put_keyed, cut_keyed}
 use Rattle.told_folder.specs.ToldBy.{selected_first, telling_by, told_by}
 use Rattle.told_folder.specs.declared.exchange.Exchange.{Exchange}
 use Rattle.told_folder.specs.declared.message.Folder.{Folder}
-use Rattle.told_folder.specs.declared.message.Held.{Held}
+use Rattle.told_folder.specs.declared.message.NumberedFolder.{NumberedFolder}
 use Rattle.told_folder.specs.declared.message.Message.{Message}
 use Rattle.told_folder.proofs.FolderLemmas.{ascend_in, ascends_in, numbers_with, uids_with}
 use Rattle.told_folder.proofs.IndexLemmas.{mark_was}
@@ -40,7 +40,7 @@ one_more_above n = omega arith
 
 -- ---- mail of which a folder is told
 
-alike_with : (hs : List Held) (k : Held) → Alike (with_messages hs (folder_number k) k.messages) (with_held hs k)
+alike_with : (hs : List NumberedFolder) (k : NumberedFolder) → Alike (with_messages hs (folder_number k) k.messages) (with_held hs k)
 alike_with [] k = tt
 alike_with (h ∷ hs) k =
     elim (eqb (folder_number h) (folder_number k)) as (λ b. eqb (folder_number h) (folder_number k) ≡ b
@@ -49,7 +49,7 @@ alike_with (h ∷ hs) k =
       | false ↦ λ t. (refl, refl, alike_with hs k)
     ] refl
 
-below_with : (hs : List Held) (k : Held) (nf : ℕ) → AllBelow nf hs → AllBelow nf (with_held hs k)
+below_with : (hs : List NumberedFolder) (k : NumberedFolder) (nf : ℕ) → AllBelow nf hs → AllBelow nf (with_held hs k)
 below_with [] k nf b = tt
 below_with (h ∷ hs) k nf b =
     elim (eqb (folder_number h) (folder_number k)) as (λ v. eqb (folder_number h) (folder_number k) ≡ v → AllBelow nf (if v then k ∷ hs else h ∷ with_held hs k)) [
@@ -57,13 +57,13 @@ below_with (h ∷ hs) k nf b =
       | false ↦ λ t. (b.0, below_with hs k nf b.1)
     ] refl
 
-placed_mail : (m : Mail) (h k : Held) (nm : ℕ) → held_in m.folders (folder_number h) ≡ Some h → folder_number k ≡ folder_number h → k.folder.name ≡ h.folder.name
+placed_mail : (m : Mail) (h k : NumberedFolder) (nm : ℕ) → held_in m.folders (folder_number h) ≡ Some h → folder_number k ≡ folder_number h → k.folder.name ≡ h.folder.name
     → IsTellingIn m.folders (folder_number h) (record { messages = k.messages; next_mark = nm }) → IsMail m
     → IsMail (record { folders = with_held m.folders k; next_mark = nm; next_folder = m.next_folder })
 placed_mail m h k nm found number name s i =
-    let hs : List Held = m.folders in
-    let ks : List Held = with_held hs k in
-    let was : List Held = with_messages hs (folder_number h) k.messages in
+    let hs : List NumberedFolder = m.folders in
+    let ks : List NumberedFolder = with_held hs k in
+    let was : List NumberedFolder = with_messages hs (folder_number h) k.messages in
     let alike : Alike was ks = subst (λ j. Alike (with_messages hs j k.messages) ks) number (alike_with hs k) in
     let marks : (p : ℕ × ℕ) (v : ℕ) → mark_in ks p ≡ Some v → mark_in was p ≡ Some v = λ p v e. sym (alike_marks was ks alike p) ∙ e in
     record {
@@ -75,7 +75,7 @@ placed_mail m h k nm found number name s i =
       numbers_below = below_with hs k m.next_folder i.numbers_below;
     }
 
-held_mail : (m : Mail) (c : Command) (rs : List Response) (name : List ℕ) (o : Option Held) → named m.folders name ≡ o → IsMail m → IsMail (tell_held m c rs o)
+held_mail : (m : Mail) (c : Command) (rs : List Response) (name : List ℕ) (o : Option NumberedFolder) → named m.folders name ≡ o → IsMail m → IsMail (tell_held m c rs o)
 held_mail m c rs name None e i = i
 held_mail m c rs name (Some h) e i =
     let found : held_in m.folders (folder_number h) ≡ Some h = named_held m.folders name h i.numbers e in
@@ -89,8 +89,8 @@ named_mail m c rs (Some name) i = held_mail m c rs name (named m.folders name) r
 
 -- ---- folders that are left
 
-left_mail : (m : Mail) (ks : List Held) → Ascends folder_number ks → AllAscend ks → AllBelow m.next_folder ks
-    → ((n : ℕ) (x : Held) → held_in ks n ≡ Some x → StoodAs m.folders n x) → IsMail m
+left_mail : (m : Mail) (ks : List NumberedFolder) → Ascends folder_number ks → AllAscend ks → AllBelow m.next_folder ks
+    → ((n : ℕ) (x : NumberedFolder) → held_in ks n ≡ Some x → StoodAs m.folders n x) → IsMail m
     → IsMail (record { folders = ks; next_mark = m.next_mark; next_folder = m.next_folder })
 left_mail m ks numbers uids below stood i =
     let marks : (p : ℕ × ℕ) (v : ℕ) → mark_in ks p ≡ Some v → mark_in m.folders p ≡ Some v = marks_stood m.folders ks stood in
@@ -104,22 +104,22 @@ left_mail m ks numbers uids below stood i =
     }
 
 module _ (rs : List Response) where
-  above_listed : (k : ℕ) (hs : List Held) → AllAbove folder_number k hs → AllAbove folder_number k (listed rs hs)
+  above_listed : (k : ℕ) (hs : List NumberedFolder) → AllAbove folder_number k hs → AllAbove folder_number k (listed rs hs)
   above_listed k [] a = tt
   above_listed k (h ∷ hs) a = elim (line_for h.folder.name rs) as (λ o. AllAbove folder_number k (put_listed o h (listed rs hs)))
       [ None ↦ above_listed k hs a.1 | Some l ↦ (a.0, above_listed k hs a.1) ]
 
-  numbers_listed : (hs : List Held) → Ascends folder_number hs → Ascends folder_number (listed rs hs)
+  numbers_listed : (hs : List NumberedFolder) → Ascends folder_number hs → Ascends folder_number (listed rs hs)
   numbers_listed [] a = tt
   numbers_listed (h ∷ hs) a = elim (line_for h.folder.name rs) as (λ o. Ascends folder_number (put_listed o h (listed rs hs)))
       [ None ↦ numbers_listed hs a.1 | Some l ↦ (above_listed (folder_number h) hs a.0, numbers_listed hs a.1) ]
 
-  uids_listed : (hs : List Held) → AllAscend hs → AllAscend (listed rs hs)
+  uids_listed : (hs : List NumberedFolder) → AllAscend hs → AllAscend (listed rs hs)
   uids_listed [] a = tt
   uids_listed (h ∷ hs) a = elim (line_for h.folder.name rs) as (λ o. AllAscend (put_listed o h (listed rs hs)))
       [ None ↦ uids_listed hs a.1 | Some l ↦ (a.0, uids_listed hs a.1) ]
 
-  below_listed : (nf : ℕ) (hs : List Held) → AllBelow nf hs → AllBelow nf (listed rs hs)
+  below_listed : (nf : ℕ) (hs : List NumberedFolder) → AllBelow nf hs → AllBelow nf (listed rs hs)
   below_listed nf [] a = tt
   below_listed nf (h ∷ hs) a = elim (line_for h.folder.name rs) as (λ o. AllBelow nf (put_listed o h (listed rs hs)))
       [ None ↦ below_listed nf hs a.1 | Some l ↦ (a.0, below_listed nf hs a.1) ]
@@ -128,40 +128,40 @@ listed_mail : (m : Mail) (rs : List Response) → IsMail m → IsMail (record { 
 listed_mail m rs i = left_mail m (listed rs m.folders) (numbers_listed rs m.folders i.numbers) (uids_listed rs m.folders i.uids)
     (below_listed rs m.next_folder m.folders i.numbers_below) (stood_listed rs m.folders i.numbers) i
 
-below_filter : (p : Held → Bool) (nf : ℕ) (hs : List Held) → AllBelow nf hs → AllBelow nf (filter p hs)
+below_filter : (p : NumberedFolder → Bool) (nf : ℕ) (hs : List NumberedFolder) → AllBelow nf hs → AllBelow nf (filter p hs)
 below_filter p nf [] b = tt
 below_filter p nf (h ∷ hs) b =
     elim (p h) as (λ v. AllBelow nf (if v then h ∷ filter p hs else filter p hs)) [ true ↦ (b.0, below_filter p nf hs b.1) | false ↦ below_filter p nf hs b.1 ]
 
 -- ---- a folder that is put
 
-names_put : (hs : List Held) (k : Held) → Ascends folder_number hs → NamesDiffer hs
-    → ((n : ℕ) (x : Held) → held_in hs n ≡ Some x → x.folder.name ≡ k.folder.name → n ≡ folder_number k) → NamesDiffer (put_keyed folder_number k hs)
+names_put : (hs : List NumberedFolder) (k : NumberedFolder) → Ascends folder_number hs → NamesDiffer hs
+    → ((n : ℕ) (x : NumberedFolder) → held_in hs n ≡ Some x → x.folder.name ≡ k.folder.name → n ≡ folder_number k) → NamesDiffer (put_keyed folder_number k hs)
 names_put hs k up differ only = λ a b x y e f same.
     elim (stood_put hs k a x up e) [
       | inl was ↦ elim (stood_put hs k b y up f) [
         | inl too ↦ differ a b x y was too same
-        | inr new ↦ only a x was (same ∙ ap (λ (z : Held). z.folder.name) new.1) ∙ sym new.0
+        | inr new ↦ only a x was (same ∙ ap (λ (z : NumberedFolder). z.folder.name) new.1) ∙ sym new.0
       ]
       | inr new ↦ elim (stood_put hs k b y up f) [
-        | inl was ↦ new.0 ∙ sym (only b y was (sym same ∙ ap (λ (z : Held). z.folder.name) new.1))
+        | inl was ↦ new.0 ∙ sym (only b y was (sym same ∙ ap (λ (z : NumberedFolder). z.folder.name) new.1))
         | inr too ↦ new.0 ∙ sym too.0
       ]
     ]
 
-put_mail : (m : Mail) (k : Held) (nf : ℕ) → m.next_folder ≤ nf → folder_number k < nf → Ascends uid_of k.messages
+put_mail : (m : Mail) (k : NumberedFolder) (nf : ℕ) → m.next_folder ≤ nf → folder_number k < nf → Ascends uid_of k.messages
     → ((u v : ℕ) → mark_at k.messages u ≡ Some v → mark_in m.folders (folder_number k, u) ≡ Some v)
-    → ((n : ℕ) (x : Held) → held_in m.folders n ≡ Some x → x.folder.name ≡ k.folder.name → n ≡ folder_number k) → IsMail m
+    → ((n : ℕ) (x : NumberedFolder) → held_in m.folders n ≡ Some x → x.folder.name ≡ k.folder.name → n ≡ folder_number k) → IsMail m
     → IsMail (record { folders = put_keyed folder_number k m.folders; next_mark = m.next_mark; next_folder = nf })
 put_mail m k nf rise less up stays only i =
-    let hs : List Held = m.folders in
-    let ks : List Held = put_keyed folder_number k hs in
+    let hs : List NumberedFolder = m.folders in
+    let ks : List NumberedFolder = put_keyed folder_number k hs in
     let marks : (p : ℕ × ℕ) (v : ℕ) → mark_in ks p ≡ Some v → mark_in hs p ≡ Some v =
     λ p v e.
     let x = mark_held ks p v e in
     elim (stood_put hs k p.0 x.0 i.numbers x.1) [
       | inl was ↦ mark_was hs p.0 p.1 x.0 was ∙ x.2
-      | inr new ↦ ap (λ q. mark_in hs (q, p.1)) new.0 ∙ stays p.1 v (subst (λ (z : Held). mark_at z.messages p.1 ≡ Some v) new.1 x.2)
+      | inr new ↦ ap (λ q. mark_in hs (q, p.1)) new.0 ∙ stays p.1 v (subst (λ (z : NumberedFolder). mark_at z.messages p.1 ≡ Some v) new.1 x.2)
     ] in
     record {
       numbers = ascends_put folder_number k hs i.numbers;
@@ -177,11 +177,11 @@ put_mail m k nf rise less up stays only i =
 new_mail : (m : Mail) (l : lists.Line) → named m.folders l.name ≡ None → IsMail m
     → IsMail (record { folders = m.folders ++ new_folder m.next_folder l ∷ []; next_mark = m.next_mark; next_folder = m.next_folder + 1 })
 new_mail m l free i =
-    let h : Held = new_folder m.next_folder l in
+    let h : NumberedFolder = new_folder m.next_folder l in
     let put : IsMail (record { folders = put_keyed folder_number h m.folders; next_mark = m.next_mark; next_folder = m.next_folder + 1 }) =
     put_mail m h (m.next_folder + 1) (one_more_least m.next_folder) (one_more_above m.next_folder) tt (λ u v e. absurd (some_is_not_none v (sym e)))
     (λ n x is same. absurd (named_there m.folders n x is (ap (named m.folders) same ∙ free))) i in
-    subst (λ (ks : List Held). IsMail (record { folders = ks; next_mark = m.next_mark; next_folder = m.next_folder + 1 })) (put_end h m.folders i.numbers_below) put
+    subst (λ (ks : List NumberedFolder). IsMail (record { folders = ks; next_mark = m.next_mark; next_folder = m.next_folder + 1 })) (put_end h m.folders i.numbers_below) put
 
 more_mail : (m : Mail) (o : Option lists.Line) (name : List ℕ) → ((l : lists.Line) → o ≡ Some l → l.name ≡ name) → named m.folders name ≡ None → IsMail m
     → IsMail (with_new_folder m o)
@@ -202,7 +202,7 @@ added_mail rs m (name ∷ names) free apart i =
     added_mail rs (with_new_folder m (line_for name rs)) names (free_added m (line_for name rs) name names (line_name name rs) free.1 apart.0) apart.1
     (more_mail m (line_for name rs) name (line_name name rs) free.0 i)
 
-apart_names : (hs : List Held) (rs : List Response) → AreApart (new_names hs rs)
+apart_names : (hs : List NumberedFolder) (rs : List Response) → AreApart (new_names hs rs)
 apart_names hs rs =
     apart_new (λ name. not (is_some (named hs name))) (names_told rs) (sorted_apart (names_told rs) (sorted_names (map (λ (l : lists.Line). l.name) (filter_map line_of rs))))
 
@@ -235,7 +235,7 @@ all_next m (x ∷ xs) i =
 
 -- ---- what is put
 
-none_put : (m : Mail) (k : Held) (n : ℕ) → Ascends folder_number m.folders → IsHeldOrNew m (folder_number k) → n < m.next_folder → held_in m.folders n ≡ None
+none_put : (m : Mail) (k : NumberedFolder) (n : ℕ) → Ascends folder_number m.folders → IsHeldOrNew m (folder_number k) → n < m.next_folder → held_in m.folders n ≡ None
     → held_in (put_keyed folder_number k m.folders) n ≡ None
 none_put m k n up new less e =
     found_put folder_number n k m.folders up
@@ -250,13 +250,13 @@ none_put m k n up new less e =
 -- mail with a folder can follow where its number is held or new, and no other folder has its name
 pub with_folder_next : (m : Mail) (f : Folder) → IsMail m → NameIsFree m.folders f → IsHeldOrNew m f.number → IsNextMail m (with_folder m f)
 with_folder_next m f i free new =
-    let k : Held = record { folder = f; messages = messages_in m.folders f.number } in
+    let k : NumberedFolder = record { folder = f; messages = messages_in m.folders f.number } in
     let rise : m.next_folder ≤ max m.next_folder (f.number + 1) = omega arith in
     let less : f.number < max m.next_folder (f.number + 1) = omega arith in
     next_by m (with_folder m f) (put_mail m k (max m.next_folder (f.number + 1)) rise less (ascends_in m.folders f.number i.uids) (λ u v e. e) free i)
     (record { counter = rise; ended = λ n below e. none_put m k n i.numbers new below e })
 
-below_messages : (nf : ℕ) (hs : List Held) (n : ℕ) (xs : List Message) → AllBelow nf hs → AllBelow nf (with_messages hs n xs)
+below_messages : (nf : ℕ) (hs : List NumberedFolder) (n : ℕ) (xs : List Message) → AllBelow nf hs → AllBelow nf (with_messages hs n xs)
 below_messages nf [] n xs b = tt
 below_messages nf (h ∷ hs) n xs b =
     elim (eqb (folder_number h) n) as (λ v. AllBelow nf (if v then record h { messages = xs } ∷ hs else h ∷ with_messages hs n xs)) [
@@ -264,9 +264,9 @@ below_messages nf (h ∷ hs) n xs b =
       | false ↦ (b.0, below_messages nf hs n xs b.1)
     ]
 
-none_messages : (hs : List Held) (n : ℕ) (xs : List Message) (j : ℕ) → held_in hs j ≡ None → held_in (with_messages hs n xs) j ≡ None
+none_messages : (hs : List NumberedFolder) (n : ℕ) (xs : List Message) (j : ℕ) → held_in hs j ≡ None → held_in (with_messages hs n xs) j ≡ None
 none_messages hs n xs j e =
-    elim (held_in (with_messages hs n xs) j) as (λ (o : Option Held). held_in (with_messages hs n xs) j ≡ o → o ≡ None) [
+    elim (held_in (with_messages hs n xs) j) as (λ (o : Option NumberedFolder). held_in (with_messages hs n xs) j ≡ o → o ≡ None) [
       | None ↦ λ f. refl
       | Some x ↦ λ f. let w = messages_from hs n xs j x f in absurd (some_is_not_none w.0 (sym w.1 ∙ e))
     ] refl
@@ -290,7 +290,7 @@ with_messages_next m n xs nm up once below i = next_by m (record { folders = wit
 -- mail with a message of a new mark can follow
 pub with_message_next : (m : Mail) (n : ℕ) (x : Message) → IsMail m → ((p : ℕ × ℕ) → mark_in m.folders p ≢ Some x.mark) → IsNextMail m (with_message m n x)
 with_message_next m n x i new =
-    let hs : List Held = m.folders in
+    let hs : List NumberedFolder = m.folders in
     let xs : List Message = messages_in hs n in
     let ys : List Message = put_keyed uid_of x xs in
     let up : Ascends uid_of xs = ascends_in hs n i.uids in
@@ -315,13 +315,13 @@ with_message_next m n x i new =
 pub without_folder_next : (m : Mail) (n : ℕ) → IsMail m → IsNextMail m (without_folder m n)
 without_folder_next m n i = next_by m (without_folder m n)
     (left_mail m (cut_keyed folder_number n m.folders) (ascends_cut folder_number n m.folders i.numbers) (uids_cut n m.folders i.uids)
-    (below_filter (λ (h : Held). not (eqb (folder_number h) n)) m.next_folder m.folders i.numbers_below) (stood_cut n m.folders) i)
-    (numbers_filter m (λ (h : Held). not (eqb (folder_number h) n)))
+    (below_filter (λ (h : NumberedFolder). not (eqb (folder_number h) n)) m.next_folder m.folders i.numbers_below) (stood_cut n m.folders) i)
+    (numbers_filter m (λ (h : NumberedFolder). not (eqb (folder_number h) n)))
 
 -- mail without a message can follow
 pub without_message_next : (m : Mail) (p : ℕ × ℕ) → IsMail m → IsNextMail m (without_message m p)
 without_message_next m p i =
-    let hs : List Held = m.folders in
+    let hs : List NumberedFolder = m.folders in
     let xs : List Message = messages_in hs p.0 in
     let ys : List Message = cut_keyed uid_of p.1 xs in
     let was : (q : ℕ × ℕ) (k : ℕ) → mark_in (with_messages hs p.0 ys) q ≡ Some k → mark_in hs q ≡ Some k =
@@ -334,10 +334,10 @@ without_message_next m p i =
 
 -- ---- after no mail
 
-numbered : (hs : List Held) (n : ℕ) (f : Folder) → AllByRecursion IsWellFormedHeld hs → folder_in hs n ≡ Some f → 0 < n
+numbered : (hs : List NumberedFolder) (n : ℕ) (f : Folder) → AllByRecursion IsWellFormedHeld hs → folder_in hs n ≡ Some f → 0 < n
 numbered [] n f a e = absurd (some_is_not_none f (sym e))
 numbered (h ∷ hs) n f a e =
-    elim (eqb (folder_number h) n) as (λ b. eqb (folder_number h) n ≡ b → option_map (λ (z : Held). z.folder) (if b then Some h else held_in hs n) ≡ Some f → 0 < n) [
+    elim (eqb (folder_number h) n) as (λ b. eqb (folder_number h) n ≡ b → option_map (λ (z : NumberedFolder). z.folder) (if b then Some h else held_in hs n) ≡ Some f → 0 < n) [
       | true ↦ λ t g. subst (λ k. 0 < k) (eqb-true _ _ t) a.0.folder.numbered
       | false ↦ λ t g. numbered hs n f a.1 g
     ] refl e

@@ -12,7 +12,7 @@ use Rattle.told_folder.specs.Folders.{folder_number, held_in, folder_in}
 use Rattle.told_folder.specs.ToldBy.{told_by}
 use Rattle.told_folder.specs.declared.exchange.Exchange.{Exchange}
 use Rattle.told_folder.specs.declared.message.Folder.{Folder}
-use Rattle.told_folder.specs.declared.message.Held.{Held}
+use Rattle.told_folder.specs.declared.message.NumberedFolder.{NumberedFolder}
 use Rattle.told_folder.proofs.KeyedLemmas.{some_is_not_none}
 use Rattle.told_mail.specs.Exchanges.{with_held, tell_held, tell_named, tell_ok, tell_as, tell, responses_of, target}
 use Rattle.told_mail.specs.Lists as lists
@@ -47,7 +47,7 @@ numbers_on a b c f g =
       ended = λ n less e. let more : n < b.next_folder = omega (arith, k, less) in g.ended n more (f.ended n less e);
     }
 
-folder_none : (o : Option Held) → option_map (λ (h : Held). h.folder) o ≡ None → o ≡ None
+folder_none : (o : Option NumberedFolder) → option_map (λ (h : NumberedFolder). h.folder) o ≡ None → o ≡ None
 folder_none None e = refl
 folder_none (Some h) e = absurd (some_is_not_none h.folder e)
 
@@ -60,7 +60,7 @@ next_by a b is g = record {
       elim (ltb n a.next_folder) as (λ v. ltb n a.next_folder ≡ v → a.next_folder ≤ n) [
         | true ↦ λ e.
             let none : held_in b.folders n ≡ None = g.ended n (ltb-true _ _ e) (folder_none (held_in a.folders n) gone) in
-            absurd (some_is_not_none f (sym there ∙ ap (option_map (λ (h : Held). h.folder)) none))
+            absurd (some_is_not_none f (sym there ∙ ap (option_map (λ (h : NumberedFolder). h.folder)) none))
         | false ↦ λ e. ltb-false _ _ e
       ] refl;
 }
@@ -82,7 +82,7 @@ next_mail_joins a b c f g =
 
 -- ---- a number that no folder has
 
-none_here : (h k : Held) (hs : List Held) (n : ℕ) → folder_number k ≡ folder_number h → held_in (h ∷ hs) n ≡ None → held_in (k ∷ hs) n ≡ None
+none_here : (h k : NumberedFolder) (hs : List NumberedFolder) (n : ℕ) → folder_number k ≡ folder_number h → held_in (h ∷ hs) n ≡ None → held_in (k ∷ hs) n ≡ None
 none_here h k hs n same e =
     ap (λ m. if eqb m n then Some k else held_in hs n) same
     ∙ elim (eqb (folder_number h) n) as (λ b. (if b then Some h else held_in hs n) ≡ None → (if b then Some k else held_in hs n) ≡ None) [
@@ -90,32 +90,32 @@ none_here h k hs n same e =
       | false ↦ λ f. f
     ] e
 
-none_behind : (h : Held) (hs ks : List Held) (n : ℕ) → (held_in hs n ≡ None → held_in ks n ≡ None) → held_in (h ∷ hs) n ≡ None → held_in (h ∷ ks) n ≡ None
+none_behind : (h : NumberedFolder) (hs ks : List NumberedFolder) (n : ℕ) → (held_in hs n ≡ None → held_in ks n ≡ None) → held_in (h ∷ hs) n ≡ None → held_in (h ∷ ks) n ≡ None
 none_behind h hs ks n more e =
     elim (eqb (folder_number h) n) as (λ b. (if b then Some h else held_in hs n) ≡ None → (if b then Some h else held_in ks n) ≡ None) [
       | true ↦ λ f. f
       | false ↦ λ f. more f
     ] e
 
-none_left : (h : Held) (hs : List Held) (n : ℕ) → held_in (h ∷ hs) n ≡ None → held_in hs n ≡ None
+none_left : (h : NumberedFolder) (hs : List NumberedFolder) (n : ℕ) → held_in (h ∷ hs) n ≡ None → held_in hs n ≡ None
 none_left h hs n e =
     elim (eqb (folder_number h) n) as (λ b. (if b then Some h else held_in hs n) ≡ None → held_in hs n ≡ None) [
       | true ↦ λ f. absurd (some_is_not_none _ f)
       | false ↦ λ f. f
     ] e
 
-none_set : (hs : List Held) (at : ℕ) (h k : Held) (n : ℕ) → at < length hs → h ≡ get_or hs at h → folder_number k ≡ folder_number h → held_in hs n ≡ None
+none_set : (hs : List NumberedFolder) (at : ℕ) (h k : NumberedFolder) (n : ℕ) → at < length hs → h ≡ get_or hs at h → folder_number k ≡ folder_number h → held_in hs n ≡ None
     → held_in (set hs at k) n ≡ None
 none_set [] at h k n within is same e = absurd (omega arith)
 none_set (x ∷ hs) zero h k n within is same e = none_here x k hs n (same ∙ ap folder_number is) e
 none_set (x ∷ hs) (suc at) h k n within is same e = none_behind x hs (set hs at k) n (λ f. none_set hs at h k n (omega arith) is same f) e
 
 -- numbers go on where another folder of the same number is set at a place
-pub numbers_set : (hs : List Held) (at : ℕ) (h k : Held) (a b nf : ℕ) → at < length hs → h ≡ get_or hs at h → folder_number k ≡ folder_number h
+pub numbers_set : (hs : List NumberedFolder) (at : ℕ) (h k : NumberedFolder) (a b nf : ℕ) → at < length hs → h ≡ get_or hs at h → folder_number k ≡ folder_number h
     → NumbersGoOn (record { folders = hs; next_mark = a; next_folder = nf }) (record { folders = set hs at k; next_mark = b; next_folder = nf })
 numbers_set hs at h k a b nf within is same = record { counter = same_least nf; ended = λ n less e. none_set hs at h k n within is same e }
 
-none_filter : (p : Held → Bool) (hs : List Held) (n : ℕ) → held_in hs n ≡ None → held_in (filter p hs) n ≡ None
+none_filter : (p : NumberedFolder → Bool) (hs : List NumberedFolder) (n : ℕ) → held_in hs n ≡ None → held_in (filter p hs) n ≡ None
 none_filter p [] n e = e
 none_filter p (h ∷ hs) n e =
     elim (p h) as (λ v. held_in (if v then h ∷ filter p hs else filter p hs) n ≡ None) [
@@ -124,10 +124,10 @@ none_filter p (h ∷ hs) n e =
     ]
 
 -- numbers go on where some folders are taken out
-pub numbers_filter : (m : Mail) (p : Held → Bool) → NumbersGoOn m (record m { folders = filter p m.folders })
+pub numbers_filter : (m : Mail) (p : NumberedFolder → Bool) → NumbersGoOn m (record m { folders = filter p m.folders })
 numbers_filter m p = record { counter = same_least m.next_folder; ended = λ n less e. none_filter p m.folders n e }
 
-none_pushed : (hs : List Held) (h : Held) (n : ℕ) → n < folder_number h → held_in hs n ≡ None → held_in (hs ++ h ∷ []) n ≡ None
+none_pushed : (hs : List NumberedFolder) (h : NumberedFolder) (n : ℕ) → n < folder_number h → held_in hs n ≡ None → held_in (hs ++ h ∷ []) n ≡ None
 none_pushed [] h n less e = ap (λ b. if b then Some h else None) (ne_eqb _ _ (λ f. omega (arith, f, less)))
 none_pushed (x ∷ hs) h n less e = none_behind x hs (hs ++ h ∷ []) n (none_pushed hs h n less) e
 
@@ -146,7 +146,7 @@ numbers_push old new f (Err e) same ok err = subst (λ (t : Told). NumbersGoOn o
 
 -- ---- what is told
 
-none_with : (hs : List Held) (k : Held) (n : ℕ) → held_in hs n ≡ None → held_in (with_held hs k) n ≡ None
+none_with : (hs : List NumberedFolder) (k : NumberedFolder) (n : ℕ) → held_in hs n ≡ None → held_in (with_held hs k) n ≡ None
 none_with [] k n e = e
 none_with (h ∷ hs) k n e =
     elim (eqb (folder_number h) (folder_number k)) as (λ b. eqb (folder_number h) (folder_number k) ≡ b → held_in (if b then k ∷ hs else h ∷ with_held hs k) n ≡ None) [
@@ -155,7 +155,7 @@ none_with (h ∷ hs) k n e =
     ] refl
 
 -- a number that no folder has is that of none that a LIST leaves
-pub none_listed : (rs : List Response) (hs : List Held) (n : ℕ) → held_in hs n ≡ None → held_in (listed rs hs) n ≡ None
+pub none_listed : (rs : List Response) (hs : List NumberedFolder) (n : ℕ) → held_in hs n ≡ None → held_in (listed rs hs) n ≡ None
 none_listed rs [] n e = e
 none_listed rs (h ∷ hs) n e =
     elim (line_for h.folder.name rs) as (λ o. held_in (put_listed o h (listed rs hs)) n ≡ None) [
@@ -163,7 +163,7 @@ none_listed rs (h ∷ hs) n e =
       | Some l ↦ none_here h (with_line l h) (listed rs hs) n refl (none_behind h hs (listed rs hs) n (none_listed rs hs n) e)
     ]
 
-numbers_held : (m : Mail) (c : Command) (rs : List Response) (o : Option Held) → NumbersGoOn m (tell_held m c rs o)
+numbers_held : (m : Mail) (c : Command) (rs : List Response) (o : Option NumberedFolder) → NumbersGoOn m (tell_held m c rs o)
 numbers_held m c rs None = numbers_stay m
 numbers_held m c rs (Some h) = record { counter = same_least m.next_folder; ended = λ n less e. none_with m.folders (told_by c rs m.next_mark h) n e }
 

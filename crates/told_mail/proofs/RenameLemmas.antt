@@ -10,9 +10,9 @@ use Rattle.std.proofs.lemmas.Slice.Eq.{bytes_eq-Decides}
 use Rattle.told_folder.specs.Folders.{folder_number, held_in, mark_in}
 use Rattle.told_folder.specs.Index.{AllAscend, Inverts, IsIndexed}
 use Rattle.told_folder.specs.Keyed.{AllAbove, Ascends, put_keyed}
-use Rattle.told_folder.specs.Work.{cleared}
+use Rattle.told_folder.specs.FolderTelling.{cleared}
 use Rattle.told_folder.specs.declared.message.Folder.{Folder}
-use Rattle.told_folder.specs.declared.message.Held.{Held}
+use Rattle.told_folder.specs.declared.message.NumberedFolder.{NumberedFolder}
 use Rattle.told_folder.specs.declared.message.Message.{Message}
 use Rattle.told_folder.proofs.IndexLemmas.{eqb_apart, eqb_same, mark_was}
 use Rattle.told_folder.proofs.KeyedLemmas.{some_is_not_none, some_same}
@@ -91,8 +91,8 @@ one_name from to a b new (Below c rest p q) (Below e more r s) =
 
 -- ---- folders that take names
 
-module _ (name : Held → Option (List ℕ)) where
-  above_named : (n : ℕ) (hs : List Held) → AllAbove folder_number n hs → AllAbove folder_number n (named_by name hs)
+module _ (name : NumberedFolder → Option (List ℕ)) where
+  above_named : (n : ℕ) (hs : List NumberedFolder) → AllAbove folder_number n hs → AllAbove folder_number n (named_by name hs)
   above_named n [] a = tt
   above_named n (h ∷ hs) a =
       elim (name h) as (λ o. AllAbove folder_number n (cons_option (option_map (λ q. with_name q h) o) (named_by name hs))) [
@@ -100,7 +100,7 @@ module _ (name : Held → Option (List ℕ)) where
         | Some q ↦ (a.0, above_named n hs a.1)
       ]
 
-  pub numbers_named : (hs : List Held) → Ascends folder_number hs → Ascends folder_number (named_by name hs)
+  pub numbers_named : (hs : List NumberedFolder) → Ascends folder_number hs → Ascends folder_number (named_by name hs)
   numbers_named [] a = tt
   numbers_named (h ∷ hs) a =
       elim (name h) as (λ o. Ascends folder_number (cons_option (option_map (λ q. with_name q h) o) (named_by name hs))) [
@@ -108,7 +108,7 @@ module _ (name : Held → Option (List ℕ)) where
         | Some q ↦ (above_named (folder_number h) hs a.0, numbers_named hs a.1)
       ]
 
-  pub uids_named : (hs : List Held) → AllAscend hs → AllAscend (named_by name hs)
+  pub uids_named : (hs : List NumberedFolder) → AllAscend hs → AllAscend (named_by name hs)
   uids_named [] a = tt
   uids_named (h ∷ hs) a =
       elim (name h) as (λ o. AllAscend (cons_option (option_map (λ q. with_name q h) o) (named_by name hs))) [
@@ -116,7 +116,7 @@ module _ (name : Held → Option (List ℕ)) where
         | Some q ↦ (a.0, uids_named hs a.1)
       ]
 
-  pub below_named : (n : ℕ) (hs : List Held) → AllBelow n hs → AllBelow n (named_by name hs)
+  pub below_named : (n : ℕ) (hs : List NumberedFolder) → AllBelow n hs → AllBelow n (named_by name hs)
   below_named n [] a = tt
   below_named n (h ∷ hs) a =
       elim (name h) as (λ o. AllBelow n (cons_option (option_map (λ q. with_name q h) o) (named_by name hs))) [
@@ -125,29 +125,29 @@ module _ (name : Held → Option (List ℕ)) where
       ]
 
   -- a folder that is left was there, under another name or the same
-  pub record WasNamed (hs : List Held) (n : ℕ) (k : Held) : Type 0 where
-    pub was : Held
+  pub record WasNamed (hs : List NumberedFolder) (n : ℕ) (k : NumberedFolder) : Type 0 where
+    pub was : NumberedFolder
     pub held : held_in hs n ≡ Some was
     pub named : name was ≡ Some k.folder.name
     pub same : k ≡ with_name k.folder.name was
 
-  held_behind : (h : Held) (hs : List Held) (n : ℕ) (w : Held) → AllAbove folder_number (folder_number h) hs → held_in hs n ≡ Some w → held_in (h ∷ hs) n ≡ Some w
+  held_behind : (h : NumberedFolder) (hs : List NumberedFolder) (n : ℕ) (w : NumberedFolder) → AllAbove folder_number (folder_number h) hs → held_in hs n ≡ Some w → held_in (h ∷ hs) n ≡ Some w
   held_behind h hs n w above e =
       let less : folder_number h < n = found_above (folder_number h) n hs w above e in
       ap (λ b. if b then Some h else held_in hs n) (eqb_apart (folder_number h) n (λ same. absurd (omega (arith, less, same)))) ∙ e
 
-  behind : (h : Held) (hs : List Held) (n : ℕ) (k : Held) → AllAbove folder_number (folder_number h) hs → WasNamed hs n k → WasNamed (h ∷ hs) n k
+  behind : (h : NumberedFolder) (hs : List NumberedFolder) (n : ℕ) (k : NumberedFolder) → AllAbove folder_number (folder_number h) hs → WasNamed hs n k → WasNamed (h ∷ hs) n k
   behind h hs n k above w = record { was = w.was; held = held_behind h hs n w.was above w.held; named = w.named; same = w.same }
 
-  here_named : (h : Held) (hs : List Held) (n : ℕ) (k : Held) (q : List ℕ) → eqb (folder_number h) n ≡ true → name h ≡ Some q → with_name q h ≡ k → WasNamed (h ∷ hs) n k
+  here_named : (h : NumberedFolder) (hs : List NumberedFolder) (n : ℕ) (k : NumberedFolder) (q : List ℕ) → eqb (folder_number h) n ≡ true → name h ≡ Some q → with_name q h ≡ k → WasNamed (h ∷ hs) n k
   here_named h hs n k q at takes is = record {
     was = h;
     held = ap (λ b. if b then Some h else held_in hs n) at;
-    named = takes ∙ ap (λ (z : Held). Some z.folder.name) is;
-    same = sym is ∙ ap (λ (z : Held). with_name z.folder.name h) is;
+    named = takes ∙ ap (λ (z : NumberedFolder). Some z.folder.name) is;
+    same = sym is ∙ ap (λ (z : NumberedFolder). with_name z.folder.name h) is;
   }
 
-  pub was_named : (hs : List Held) (n : ℕ) (k : Held) → Ascends folder_number hs → held_in (named_by name hs) n ≡ Some k → WasNamed hs n k
+  pub was_named : (hs : List NumberedFolder) (n : ℕ) (k : NumberedFolder) → Ascends folder_number hs → held_in (named_by name hs) n ≡ Some k → WasNamed hs n k
   was_named [] n k up e = absurd (some_is_not_none k (sym e))
   was_named (h ∷ hs) n k up e =
       elim (name h) as (λ o. name h ≡ o → held_in (cons_option (option_map (λ q. with_name q h) o) (named_by name hs)) n ≡ Some k → WasNamed (h ∷ hs) n k) [
@@ -159,7 +159,7 @@ module _ (name : Held → Option (List ℕ)) where
             ] refl f
       ] refl e
 
-  none_named : (hs : List Held) (n : ℕ) → held_in hs n ≡ None → held_in (named_by name hs) n ≡ None
+  none_named : (hs : List NumberedFolder) (n : ℕ) → held_in hs n ≡ None → held_in (named_by name hs) n ≡ None
   none_named [] n e = refl
   none_named (h ∷ hs) n e =
       elim (eqb (folder_number h) n) as (λ b. eqb (folder_number h) n ≡ b → (if b then Some h else held_in hs n) ≡ None → held_in (named_by name (h ∷ hs)) n ≡ None) [
@@ -170,16 +170,16 @@ module _ (name : Held → Option (List ℕ)) where
         ]
       ] refl e
 
-  pub marks_named : (hs : List Held) → Ascends folder_number hs → (p : ℕ × ℕ) (v : ℕ) → mark_in (named_by name hs) p ≡ Some v → mark_in hs p ≡ Some v
+  pub marks_named : (hs : List NumberedFolder) → Ascends folder_number hs → (p : ℕ × ℕ) (v : ℕ) → mark_in (named_by name hs) p ≡ Some v → mark_in hs p ≡ Some v
   marks_named hs up p v e =
       let x = mark_held (named_by name hs) p v e in
       let w : WasNamed hs p.0 x.0 = was_named hs p.0 x.0 up x.1 in
-      mark_was hs p.0 p.1 w.was w.held ∙ (ap (λ (xs : List Message). mark_at xs p.1) (sym (ap (λ (z : Held). z.messages) w.same)) ∙ x.2)
+      mark_was hs p.0 p.1 w.was w.held ∙ (ap (λ (xs : List Message). mark_at xs p.1) (sym (ap (λ (z : NumberedFolder). z.messages) w.same)) ∙ x.2)
 
   -- mail whose folders take names that differ can follow
   pub named_mail : (m : Mail) → NamesDiffer (named_by name m.folders) → IsMail m → IsNextMail m (record m { folders = named_by name m.folders })
   named_mail m differ i =
-      let hs : List Held = m.folders in
+      let hs : List NumberedFolder = m.folders in
       let marks : (p : ℕ × ℕ) (v : ℕ) → mark_in (named_by name hs) p ≡ Some v → mark_in hs p ≡ Some v = marks_named hs i.numbers in
       next_by m (record m { folders = named_by name hs }) (record {
         numbers = numbers_named hs i.numbers;
@@ -204,12 +204,12 @@ any_more : (name : List ℕ) (o : Option (List ℕ)) (rest : List (List ℕ)) �
 any_more name None rest e = e
 any_more name (Some n) rest e = or_right (is_same name n) (has_one_named name rest) e
 
-given_has : (from to : List ℕ) (hs : List Held) (n : ℕ) (was : Held) (new : List ℕ) → held_in hs n ≡ Some was → renamed_name from to was.folder ≡ Some new
+given_has : (from to : List ℕ) (hs : List NumberedFolder) (n : ℕ) (was : NumberedFolder) (new : List ℕ) → held_in hs n ≡ Some was → renamed_name from to was.folder ≡ Some new
     → has_one_named new (names_given from to hs) ≡ true
 given_has from to [] n was new held is = absurd (some_is_not_none was (sym held))
 given_has from to (h ∷ hs) n was new held is =
     elim (eqb (folder_number h) n) as (λ b. (if b then Some h else held_in hs n) ≡ Some was → has_one_named new (names_given from to (h ∷ hs)) ≡ true) [
-      | true ↦ λ f. (let here : renamed_name from to h.folder ≡ Some new = ap (λ (z : Held). renamed_name from to z.folder) (some_same _ _ f) ∙ is in
+      | true ↦ λ f. (let here : renamed_name from to h.folder ≡ Some new = ap (λ (z : NumberedFolder). renamed_name from to z.folder) (some_same _ _ f) ∙ is in
           subst (λ o. has_one_named new (cons_option o (names_given from to hs)) ≡ true) (sym here)
           (or_left (is_same new new) (has_one_named new (names_given from to hs)) (is_self new)))
       | false ↦ λ f. any_more new (renamed_name from to h.folder) (names_given from to hs) (given_has from to hs n was new f is)
@@ -233,11 +233,11 @@ came from to given f None q e g =
       | false ↦ λ t h. Old (sym (some_same _ _ h)) t
     ] refl g
 
-module _ (from to : List ℕ) (hs : List Held) where
+module _ (from to : List ℕ) (hs : List NumberedFolder) where
   abbrev given : List (List ℕ)
   given = names_given from to hs
 
-  apart : (i j : ℕ) (w u : Held) (p q : List ℕ) → NamesDiffer hs → held_in hs i ≡ Some w → held_in hs j ≡ Some u → p ≡ q
+  apart : (i j : ℕ) (w u : NumberedFolder) (p q : List ℕ) → NamesDiffer hs → held_in hs i ≡ Some w → held_in hs j ≡ Some u → p ≡ q
       → NameCame from to given w.folder p → NameCame from to given u.folder q → i ≡ j
   apart i j w u p q differ was too same (New a) (New b) =
       differ i j w u was too (one_name from to w.folder.name u.folder.name q
@@ -269,7 +269,7 @@ renamed_next m from to i =
 
 -- ---- the index of names
 
-append_named : (name : Held → Option (List ℕ)) (fs rest : List Held) → named_by name (fs ++ rest) ≡ named_by name fs ++ named_by name rest
+append_named : (name : NumberedFolder → Option (List ℕ)) (fs rest : List NumberedFolder) → named_by name (fs ++ rest) ≡ named_by name fs ++ named_by name rest
 append_named name [] rest = refl
 append_named name (h ∷ fs) rest =
     elim (name h) as (λ o. cons_option (option_map (λ q. with_name q h) o) (named_by name (fs ++ rest))
@@ -278,23 +278,23 @@ append_named name (h ∷ fs) rest =
       | Some q ↦ ap (λ zs. with_name q h ∷ zs) (append_named name fs rest)
     ]
 
-below_front : (fs rest : List Held) (h : Held) → Ascends folder_number (fs ++ h ∷ rest) → AllBelow (folder_number h) fs
+below_front : (fs rest : List NumberedFolder) (h : NumberedFolder) → Ascends folder_number (fs ++ h ∷ rest) → AllBelow (folder_number h) fs
 below_front [] rest h up = tt
 below_front (x ∷ fs) rest h up = (above_at fs up.0, below_front fs rest h up.1)
   where
-    above_at : (zs : List Held) → AllAbove folder_number (folder_number x) (zs ++ h ∷ rest) → folder_number x < folder_number h
+    above_at : (zs : List NumberedFolder) → AllAbove folder_number (folder_number x) (zs ++ h ∷ rest) → folder_number x < folder_number h
     above_at [] a = a.0
     above_at (z ∷ zs) a = above_at zs a.1
 
-front_up : (fs rest : List Held) → Ascends folder_number (fs ++ rest) → Ascends folder_number fs
+front_up : (fs rest : List NumberedFolder) → Ascends folder_number (fs ++ rest) → Ascends folder_number fs
 front_up [] rest up = tt
 front_up (x ∷ fs) rest up = (above_front fs up.0, front_up fs rest up.1)
   where
-    above_front : (zs : List Held) → AllAbove folder_number (folder_number x) (zs ++ rest) → AllAbove folder_number (folder_number x) zs
+    above_front : (zs : List NumberedFolder) → AllAbove folder_number (folder_number x) (zs ++ rest) → AllAbove folder_number (folder_number x) zs
     above_front [] a = tt
     above_front (z ∷ zs) a = (a.0, above_front zs a.1)
 
-held_front : (fs rest : List Held) (n : ℕ) (h : Held) → held_in fs n ≡ Some h → held_in (fs ++ rest) n ≡ Some h
+held_front : (fs rest : List NumberedFolder) (n : ℕ) (h : NumberedFolder) → held_in fs n ≡ Some h → held_in (fs ++ rest) n ≡ Some h
 held_front [] rest n h e = absurd (some_is_not_none h (sym e))
 held_front (x ∷ fs) rest n h e =
     elim (eqb (folder_number x) n) as (λ b. (if b then Some x else held_in fs n) ≡ Some h → (if b then Some x else held_in (fs ++ rest) n) ≡ Some h) [
@@ -302,26 +302,26 @@ held_front (x ∷ fs) rest n h e =
       | false ↦ λ f. held_front fs rest n h f
     ] e
 
-held_last : (fs rest : List Held) (h : Held) → AllBelow (folder_number h) fs → held_in (fs ++ h ∷ rest) (folder_number h) ≡ Some h
+held_last : (fs rest : List NumberedFolder) (h : NumberedFolder) → AllBelow (folder_number h) fs → held_in (fs ++ h ∷ rest) (folder_number h) ≡ Some h
 held_last [] rest h b = ap (λ v. if v then Some h else held_in rest (folder_number h)) (eqb_same (folder_number h))
 held_last (x ∷ fs) rest h b =
     let less : folder_number x < folder_number h = b.0 in
     ap (λ v. if v then Some x else held_in (fs ++ h ∷ rest) (folder_number h)) (ne_eqb _ _ (λ e. omega (arith, e, less))) ∙ held_last fs rest h b.1
 
-below_found : (hs : List Held) (n j : ℕ) (h : Held) → AllBelow n hs → held_in hs j ≡ Some h → folder_number h < n
+below_found : (hs : List NumberedFolder) (n j : ℕ) (h : NumberedFolder) → AllBelow n hs → held_in hs j ≡ Some h → folder_number h < n
 below_found [] n j h b e = absurd (some_is_not_none h (sym e))
 below_found (x ∷ hs) n j h b e =
     elim (eqb (folder_number x) j) as (λ v. (if v then Some x else held_in hs j) ≡ Some h → folder_number h < n) [
-      | true ↦ λ f. subst (λ (z : Held). folder_number z < n) (some_same x h f) b.0
+      | true ↦ λ f. subst (λ (z : NumberedFolder). folder_number z < n) (some_same x h f) b.0
       | false ↦ λ f. below_found hs n j h b.1 f
     ] e
 
-module _ (name : Held → Option (List ℕ)) (fs rest : List Held) (h : Held) (up : Ascends folder_number (fs ++ h ∷ rest)) (differ : NamesDiffer (named_by name (fs ++ h ∷ rest))) where
+module _ (name : NumberedFolder → Option (List ℕ)) (fs rest : List NumberedFolder) (h : NumberedFolder) (up : Ascends folder_number (fs ++ h ∷ rest)) (differ : NamesDiffer (named_by name (fs ++ h ∷ rest))) where
   -- no folder before it takes the name that it takes
   unused : (q : List ℕ) → name h ≡ Some q → named (named_by name fs) q ≡ None
   unused q takes =
-      let done : List Held = named_by name fs in
-      let k : Held = with_name q h in
+      let done : List NumberedFolder = named_by name fs in
+      let k : NumberedFolder = with_name q h in
       let below : AllBelow (folder_number h) done = below_named name (folder_number h) fs (below_front fs rest h up) in
       let whole : named_by name (fs ++ h ∷ rest) ≡ done ++ k ∷ named_by name rest =
       append_named name fs (h ∷ rest) ∙ ap (λ o. done ++ cons_option (option_map (λ p. with_name p h) o) (named_by name rest)) takes in
@@ -353,8 +353,8 @@ module _ (name : Held → Option (List ℕ)) (fs rest : List Held) (h : Held) (u
             from = λ k p f. none e k ∙ i.from k p f;
           })
       by (Some q) e =
-          let done : List Held = named_by name fs in
-          let k : Held = with_name q h in
+          let done : List NumberedFolder = named_by name fs in
+          let k : NumberedFolder = with_name q h in
           let below : AllBelow (folder_number h) done = below_named name (folder_number h) fs (below_front fs rest h up) in
           let more : named_by name (fs ++ h ∷ []) ≡ put_keyed folder_number k done =
           append_named name fs (h ∷ []) ∙ (ap (λ o. done ++ cons_option (option_map (λ p. with_name p h) o) []) e ∙ sym (put_end k done below)) in
@@ -380,7 +380,7 @@ any_same : (q : List ℕ) (xs ys : List (List ℕ)) (o : Option (List ℕ)) → 
 any_same q xs ys None e = e
 any_same q xs ys (Some n) e = ap (λ (b : Bool). is_same q n || b) e
 
-given_append : (from to : List ℕ) (fs : List Held) (h : Held) → names_given from to (fs ++ h ∷ []) ≡ names_given from to fs ++ cons_option (renamed_name from to h.folder) []
+given_append : (from to : List ℕ) (fs : List NumberedFolder) (h : NumberedFolder) → names_given from to (fs ++ h ∷ []) ≡ names_given from to fs ++ cons_option (renamed_name from to h.folder) []
 given_append from to [] h = refl
 given_append from to (f ∷ fs) h =
     elim (renamed_name from to f.folder) as (λ o. cons_option o (names_given from to (fs ++ h ∷ []))
@@ -390,12 +390,12 @@ given_append from to (f ∷ fs) h =
     ]
 
 -- the set of the names that folders get, with those of one folder more
-pub given_more : (from to : List ℕ) (hs : List Held) (i : ℕ) (h : Held) (old new : BTreeSet (Vec ℕ Global)) (o : Option (List ℕ)) → i < length hs → h ≡ get_or hs i h
+pub given_more : (from to : List ℕ) (hs : List NumberedFolder) (i : ℕ) (h : NumberedFolder) (old new : BTreeSet (Vec ℕ Global)) (o : Option (List ℕ)) → i < length hs → h ≡ get_or hs i h
     → HasNames old (names_given from to (take i hs)) → o ≡ renamed_name from to h.folder → HasNames new (cons_option o (map (λ (v : Vec ℕ Global). v.items) old.keys))
     → HasNames new (names_given from to (take (i + 1) hs))
 given_more from to hs i h old new o within is so_far name added = λ q.
     let names : List (List ℕ) = names_given from to (take i hs) in
-    let more : take (i + 1) hs ≡ take i hs ++ h ∷ [] = take_more hs i h within ∙ ap (λ (m : Held). take i hs ++ m ∷ []) (sym is) in
+    let more : take (i + 1) hs ≡ take i hs ++ h ∷ [] = take_more hs i h within ∙ ap (λ (m : NumberedFolder). take i hs ++ m ∷ []) (sym is) in
     let whole : names_given from to (take (i + 1) hs) ≡ names ++ cons_option o [] =
     ap (names_given from to) more ∙ (given_append from to (take i hs) h ∙ ap (λ p. names ++ cons_option p []) (sym name)) in
     added q ∙ (any_same q (map (λ (v : Vec ℕ Global). v.items) old.keys) names o (so_far q) ∙ (sym (any_last q names o) ∙ ap (has_one_named q) (sym whole)))
@@ -412,23 +412,23 @@ after_kept names o f e is = sym (ap (λ b. if b then None else Some f.name) is) 
 
 -- ---- folders that take their names, one after another
 
-alike_name : (done rest : List Held) (h : Held) (n : List ℕ) → Alike (done ++ h ∷ rest) ((done ++ with_name n h ∷ []) ++ rest)
+alike_name : (done rest : List NumberedFolder) (h : NumberedFolder) (n : List ℕ) → Alike (done ++ h ∷ rest) ((done ++ with_name n h ∷ []) ++ rest)
 alike_name [] rest h n = (refl, refl, alike_self rest)
 alike_name (x ∷ done) rest h n = (refl, refl, alike_name done rest h n)
 
-short : (done rest : List Held) (h : Held) → length done < length (done ++ h ∷ rest)
+short : (done rest : List NumberedFolder) (h : NumberedFolder) → length done < length (done ++ h ∷ rest)
 short [] rest h = omega arith
 short (z ∷ done) rest h = omega (arith, short done rest h)
 
-found_there : (done rest : List Held) (h : Held) → h ≡ get_or (done ++ h ∷ rest) (length done) h
+found_there : (done rest : List NumberedFolder) (h : NumberedFolder) → h ≡ get_or (done ++ h ∷ rest) (length done) h
 found_there [] rest h = refl
 found_there (z ∷ done) rest h = found_there done rest h
 
-without_it : (done rest : List Held) (h : Held) → take (length done) (done ++ h ∷ rest) ++ drop (suc (length done)) (done ++ h ∷ rest) ≡ done ++ rest
+without_it : (done rest : List NumberedFolder) (h : NumberedFolder) → take (length done) (done ++ h ∷ rest) ++ drop (suc (length done)) (done ++ h ∷ rest) ≡ done ++ rest
 without_it [] rest h = refl
 without_it (z ∷ done) rest h = ap (λ ys. z ∷ ys) (without_it done rest h)
 
-module _ (name : Held → Option (List ℕ)) (done rest : List Held) (h : Held) where
+module _ (name : NumberedFolder → Option (List ℕ)) (done rest : List NumberedFolder) (h : NumberedFolder) where
   -- the folder takes its name
   pub name_taken : (n : List ℕ) → name h ≡ Some n → (done ++ with_name n h ∷ []) ++ named_by name rest ≡ done ++ named_by name (h ∷ rest)
   name_taken n takes =
@@ -445,11 +445,11 @@ module _ (name : Held → Option (List ℕ)) (done rest : List Held) (h : Held) 
   pub indexed_gone : (marks marks' : BTreeMap ℕ (ℕ × ℕ)) (nm : ℕ) → ((q : ℕ) → get nat_cmp marks' q ≡ cleared (λ u. true) h.messages q (get nat_cmp marks q))
       → IsIndexed (done ++ h ∷ rest) marks nm → IsIndexed (done ++ rest) marks' nm
   indexed_gone marks marks' nm clear i =
-      subst (λ (zs : List Held). IsIndexed zs marks' nm) (without_it done rest h)
+      subst (λ (zs : List NumberedFolder). IsIndexed zs marks' nm) (without_it done rest h)
       (indexed_end (done ++ h ∷ rest) (length done) h marks marks' nm (short done rest h) (found_there done rest h) clear i)
 
 -- the first folder and its name are taken off
-pub popped : (name : Held → Option (List ℕ)) (fs rest : List Held) (h : Held) (names later : List (Option (List ℕ))) (n : Option (List ℕ)) → fs ≡ h ∷ rest → names ≡ n ∷ later
+pub popped : (name : NumberedFolder → Option (List ℕ)) (fs rest : List NumberedFolder) (h : NumberedFolder) (names later : List (Option (List ℕ))) (n : Option (List ℕ)) → fs ≡ h ∷ rest → names ≡ n ∷ later
     → names ≡ map name fs → (n ≡ name h) × (later ≡ map name rest)
 popped name fs rest h names later n fs_are names_are all =
     let e : n ∷ later ≡ name h ∷ map name rest = sym names_are ∙ (all ∙ ap (map name) fs_are) in
@@ -462,66 +462,66 @@ popped name fs rest h names later n fs_are names_are all =
     tail_same a b xs ys e = cc
 
 -- what stands and what is left together are the folders with their names
-pub left_step : (name : Held → Option (List ℕ)) (fs rest : List Held) (h : Held) (n : Option (List ℕ)) (done done' whole : List Held) → fs ≡ h ∷ rest → n ≡ name h
+pub left_step : (name : NumberedFolder → Option (List ℕ)) (fs rest : List NumberedFolder) (h : NumberedFolder) (n : Option (List ℕ)) (done done' whole : List NumberedFolder) → fs ≡ h ∷ rest → n ≡ name h
     → done ++ named_by name fs ≡ whole → ((q : List ℕ) → n ≡ Some q → done' ≡ done ++ with_name q h ∷ []) → (n ≡ None → done' ≡ done)
     → done' ++ named_by name rest ≡ whole
 left_step name fs rest h n done done' whole fs_are is so_far some none = by n refl
   where
     all : done ++ named_by name (h ∷ rest) ≡ whole
-    all = ap (λ (zs : List Held). done ++ named_by name zs) (sym fs_are) ∙ so_far
+    all = ap (λ (zs : List NumberedFolder). done ++ named_by name zs) (sym fs_are) ∙ so_far
 
     by : (o : Option (List ℕ)) → n ≡ o → done' ++ named_by name rest ≡ whole
-    by None e = ap (λ (zs : List Held). zs ++ named_by name rest) (none e) ∙ (none_taken name done rest h (sym is ∙ e) ∙ all)
-    by (Some q) e = ap (λ (zs : List Held). zs ++ named_by name rest) (some q e) ∙ (name_taken name done rest h q (sym is ∙ e) ∙ all)
+    by None e = ap (λ (zs : List NumberedFolder). zs ++ named_by name rest) (none e) ∙ (none_taken name done rest h (sym is ∙ e) ∙ all)
+    by (Some q) e = ap (λ (zs : List NumberedFolder). zs ++ named_by name rest) (some q e) ∙ (name_taken name done rest h q (sym is ∙ e) ∙ all)
 
 -- and the index is theirs
-pub marks_step : (fs rest : List Held) (h : Held) (n : Option (List ℕ)) (done done' : List Held) (marks marks' : BTreeMap ℕ (ℕ × ℕ)) (nm : ℕ) → fs ≡ h ∷ rest
+pub marks_step : (fs rest : List NumberedFolder) (h : NumberedFolder) (n : Option (List ℕ)) (done done' : List NumberedFolder) (marks marks' : BTreeMap ℕ (ℕ × ℕ)) (nm : ℕ) → fs ≡ h ∷ rest
     → ((q : List ℕ) → n ≡ Some q → (done' ≡ done ++ with_name q h ∷ []) × (marks' ≡ marks))
     → (n ≡ None → (done' ≡ done) × ((q : ℕ) → get nat_cmp marks' q ≡ cleared (λ u. true) h.messages q (get nat_cmp marks q)))
     → IsIndexed (done ++ fs) marks nm → IsIndexed (done' ++ rest) marks' nm
 marks_step fs rest h n done done' marks marks' nm fs_are some none i = by n refl
   where
     here : IsIndexed (done ++ h ∷ rest) marks nm
-    here = subst (λ (zs : List Held). IsIndexed (done ++ zs) marks nm) fs_are i
+    here = subst (λ (zs : List NumberedFolder). IsIndexed (done ++ zs) marks nm) fs_are i
 
     by : (o : Option (List ℕ)) → n ≡ o → IsIndexed (done' ++ rest) marks' nm
     by None e =
         let s = none e in
-        subst (λ (zs : List Held). IsIndexed (zs ++ rest) marks' nm) (sym s.0) (indexed_gone (λ z. None) done rest h marks marks' nm s.1 here)
+        subst (λ (zs : List NumberedFolder). IsIndexed (zs ++ rest) marks' nm) (sym s.0) (indexed_gone (λ z. None) done rest h marks marks' nm s.1 here)
     by (Some q) e =
         let s = some q e in
-        subst (λ (zs : List Held). IsIndexed (zs ++ rest) marks' nm) (sym s.0)
+        subst (λ (zs : List NumberedFolder). IsIndexed (zs ++ rest) marks' nm) (sym s.0)
         (subst (λ (m : BTreeMap ℕ (ℕ × ℕ)). IsIndexed ((done ++ with_name q h ∷ []) ++ rest) m nm) (sym s.1) (indexed_taken (λ z. None) done rest h q marks nm here))
 
-none_left : (hs : List Held) → length hs ≡ 0 → hs ≡ []
+none_left : (hs : List NumberedFolder) → length hs ≡ 0 → hs ≡ []
 none_left [] e = refl
 none_left (h ∷ hs) e = absurd (omega (arith, e))
 
 -- once none is left, all have their names
-pub all_taken : (name : Held → Option (List ℕ)) (done rest whole : List Held) → length rest ≡ 0 → done ++ named_by name rest ≡ named_by name whole → done ≡ named_by name whole
+pub all_taken : (name : NumberedFolder → Option (List ℕ)) (done rest whole : List NumberedFolder) → length rest ≡ 0 → done ++ named_by name rest ≡ named_by name whole → done ≡ named_by name whole
 all_taken name done rest whole none e =
-    sym (append-nil done) ∙ (ap (λ (zs : List Held). done ++ named_by name zs) (sym (none_left rest none)) ∙ e)
+    sym (append-nil done) ∙ (ap (λ (zs : List NumberedFolder). done ++ named_by name zs) (sym (none_left rest none)) ∙ e)
 
 -- and the index is that of them
-pub all_indexed : (name : Held → Option (List ℕ)) (done rest whole : List Held) (marks : BTreeMap ℕ (ℕ × ℕ)) (nm : ℕ) → length rest ≡ 0 → done ≡ named_by name whole
+pub all_indexed : (name : NumberedFolder → Option (List ℕ)) (done rest whole : List NumberedFolder) (marks : BTreeMap ℕ (ℕ × ℕ)) (nm : ℕ) → length rest ≡ 0 → done ≡ named_by name whole
     → IsIndexed (done ++ rest) marks nm → IsIndexed (named_by name whole) marks nm
 all_indexed name done rest whole marks nm none e i =
-    subst (λ (zs : List Held). IsIndexed zs marks nm) (ap (λ (zs : List Held). done ++ zs) (none_left rest none) ∙ (append-nil done ∙ e)) i
+    subst (λ (zs : List NumberedFolder). IsIndexed zs marks nm) (ap (λ (zs : List NumberedFolder). done ++ zs) (none_left rest none) ∙ (append-nil done ∙ e)) i
 
-map_end : (name : Held → Option (List ℕ)) (fs : List Held) (h : Held) → map name (fs ++ h ∷ []) ≡ map name fs ++ name h ∷ []
+map_end : (name : NumberedFolder → Option (List ℕ)) (fs : List NumberedFolder) (h : NumberedFolder) → map name (fs ++ h ∷ []) ≡ map name fs ++ name h ∷ []
 map_end name [] h = refl
 map_end name (f ∷ fs) h = ap (λ (ns : List (Option (List ℕ))). name f ∷ ns) (map_end name fs h)
 
 -- the names of the folders with one more
-pub names_more : (name : Held → Option (List ℕ)) (hs : List Held) (i : ℕ) (h : Held) → i < length hs → h ≡ get_or hs i h
+pub names_more : (name : NumberedFolder → Option (List ℕ)) (hs : List NumberedFolder) (i : ℕ) (h : NumberedFolder) → i < length hs → h ≡ get_or hs i h
     → map name (take (i + 1) hs) ≡ map name (take i hs) ++ name h ∷ []
 names_more name hs i h within is =
-    ap (map name) (take_more hs i h within ∙ ap (λ (m : Held). take i hs ++ m ∷ []) (sym is)) ∙ map_end name (take i hs) h
+    ap (map name) (take_more hs i h within ∙ ap (λ (m : NumberedFolder). take i hs ++ m ∷ []) (sym is)) ∙ map_end name (take i hs) h
 
 -- ---- a mirror
 
 -- what a mirror's mail is
-pub mirror_mail : (hs : List Held) (marks : BTreeMap ℕ (ℕ × ℕ)) (numbers : BTreeMap (Vec ℕ Global) ℕ) (nm nf : ℕ) → IsMirror hs marks numbers nm nf
+pub mirror_mail : (hs : List NumberedFolder) (marks : BTreeMap ℕ (ℕ × ℕ)) (numbers : BTreeMap (Vec ℕ Global) ℕ) (nm nf : ℕ) → IsMirror hs marks numbers nm nf
     → IsMail (record { folders = hs; next_mark = nm; next_folder = nf })
 mirror_mail hs marks numbers nm nf m = record {
   numbers = m.index.numbers;
@@ -533,12 +533,12 @@ mirror_mail hs marks numbers nm nf m = record {
 }
 
 -- a mirror whose folders took their names is one
-pub mirror_renamed : (hs ks : List Held) (from to : List ℕ) (marks marks' : BTreeMap ℕ (ℕ × ℕ)) (numbers numbers' : BTreeMap (Vec ℕ Global) ℕ) (nm nf : ℕ)
+pub mirror_renamed : (hs ks : List NumberedFolder) (from to : List ℕ) (marks marks' : BTreeMap ℕ (ℕ × ℕ)) (numbers numbers' : BTreeMap (Vec ℕ Global) ℕ) (nm nf : ℕ)
     → ks ≡ named_by (name_of from to hs) hs → (IsIndexed hs marks nm → IsIndexed (named_by (name_of from to hs) hs) marks' nm)
     → (IsMail (record { folders = hs; next_mark = nm; next_folder = nf }) → AreNumbers (renamed_folders from to hs) numbers')
     → IsMirror hs marks numbers nm nf → IsMirror ks marks' numbers' nm nf
 mirror_renamed hs ks from to marks marks' numbers numbers' nm nf same indexed named m =
-    subst (λ (zs : List Held). IsMirror zs marks' numbers' nm nf) (sym same) (record {
+    subst (λ (zs : List NumberedFolder). IsMirror zs marks' numbers' nm nf) (sym same) (record {
       index = indexed m.index;
       folders = below_named (name_of from to hs) nf hs m.folders;
       names = named (mirror_mail hs marks numbers nm nf m);

@@ -11,7 +11,7 @@ use Rattle.told_folder.specs.Keyed.{Ascends, with_key, put_keyed}
 use Rattle.told_folder.specs.Select.{last_told, validity_in, under}
 use Rattle.told_folder.specs.Tell.{Telling, tell_uid, tell_fetch, tell_response, tell_responses, with_flags, with_new, new_message, kept_header, covers, without_those}
 use Rattle.told_folder.specs.ToldBy.{adds, is_told, kept_after, selected_first, telling_in, telling_by, told_by}
-use Rattle.told_folder.specs.declared.message.Held.{Held}
+use Rattle.told_folder.specs.declared.message.NumberedFolder.{NumberedFolder}
 use Rattle.told_folder.specs.declared.message.Message.{Message}
 use Rattle.told_folder.specs.declared.telling.TheConstants.{MAX_MARK}
 use Rattle.told_folder.proofs.IndexLemmas.{mark_was}
@@ -23,7 +23,7 @@ use Rattle.told_mail.proofs.OnceLemmas.{IsOnce, once_less, once_more, mark_at, m
 use Rattle.told_mail.proofs.ToldLemmas.{pair_same}
 
 -- a folder's messages and the next mark, beside the other folders: UIDs ascend, a mark stands once, and each is below the next one
-pub record IsTellingIn (hs : List Held) (n : ℕ) (t : Telling) : Type 0 where
+pub record IsTellingIn (hs : List NumberedFolder) (n : ℕ) (t : Telling) : Type 0 where
   pub up : Ascends uid_of t.messages
   pub once : IsOnce (mark_in (with_messages hs n t.messages))
   pub below : (p : ℕ × ℕ) (k : ℕ) → mark_in (with_messages hs n t.messages) p ≡ Some k → k < t.next_mark
@@ -37,13 +37,13 @@ flags_mark x None = refl
 flags_mark x (Some fs) = refl
 
 -- the folder before the responses has its number, its name and no other messages
-pub record IsFirst (h k : Held) : Type 0 where
+pub record IsFirst (h k : NumberedFolder) : Type 0 where
   pub number : folder_number k ≡ folder_number h
   pub name : k.folder.name ≡ h.folder.name
   pub up : Ascends uid_of h.messages → Ascends uid_of k.messages
   pub marks : (u v : ℕ) → mark_at k.messages u ≡ Some v → mark_at h.messages u ≡ Some v
 
-first_under : (v : ℕ) (h : Held) → IsFirst h (under v h)
+first_under : (v : ℕ) (h : NumberedFolder) → IsFirst h (under v h)
 first_under v h =
     elim (eqb v h.folder.validity) as (λ b. IsFirst h (if b then h else record { folder = record h.folder { validity = v; next = 1 }; messages = [] })) [
       | true ↦ record { number = refl; name = refl; up = λ a. a; marks = λ u k e. e }
@@ -51,13 +51,13 @@ first_under v h =
     ]
 
 -- before its responses are told, the folder is such a one
-pub first_is : (c : Command) (rs : List Response) (h : Held) → IsFirst h (selected_first c rs h)
+pub first_is : (c : Command) (rs : List Response) (h : NumberedFolder) → IsFirst h (selected_first c rs h)
 first_is (command.Select name known) rs h =
     let f : IsFirst h (under (last_told validity_in h.folder.validity rs) h) = first_under (last_told validity_in h.folder.validity rs) h in
     record { number = f.number; name = f.name; up = f.up; marks = f.marks }
 first_is _ rs h = record { number = refl; name = refl; up = λ a. a; marks = λ u k e. e }
 
-module _ (hs : List Held) (n : ℕ) (h : Held) (found : held_in hs n ≡ Some h) where
+module _ (hs : List NumberedFolder) (n : ℕ) (h : NumberedFolder) (found : held_in hs n ≡ Some h) where
   marks_less : (xs ys : List Message) → ((u k : ℕ) → mark_at ys u ≡ Some k → mark_at xs u ≡ Some k) → (p : ℕ × ℕ) (k : ℕ) → mark_in (with_messages hs n ys) p ≡ Some k
       → mark_in (with_messages hs n xs) p ≡ Some k
   marks_less xs ys less p k e =
@@ -151,7 +151,7 @@ module _ (hs : List Held) (n : ℕ) (h : Held) (found : held_in hs n ≡ Some h)
   told_kept command.FetchFlags rs t s = told_without t (λ u. not (is_told rs u)) s
   told_kept _ rs t s = s
 
-  told_first : (nm : ℕ) (k : Held) → IsFirst h k → Ascends uid_of h.messages → IsOnce (mark_in hs) → ((p : ℕ × ℕ) (v : ℕ) → mark_in hs p ≡ Some v → v < nm)
+  told_first : (nm : ℕ) (k : NumberedFolder) → IsFirst h k → Ascends uid_of h.messages → IsOnce (mark_in hs) → ((p : ℕ × ℕ) (v : ℕ) → mark_in hs p ≡ Some v → v < nm)
       → IsTellingIn hs n (telling_in nm k)
   told_first nm k first up once below =
       let was : (p : ℕ × ℕ) (v : ℕ) → mark_in (with_messages hs n k.messages) p ≡ Some v → mark_in hs p ≡ Some v =
@@ -169,6 +169,6 @@ module _ (hs : List Held) (n : ℕ) (h : Held) (found : held_in hs n ≡ Some h)
   pub told_messages : (c : Command) (rs : List Response) (nm : ℕ) → Ascends uid_of h.messages → IsOnce (mark_in hs) → ((p : ℕ × ℕ) (v : ℕ) → mark_in hs p ≡ Some v → v < nm)
       → IsTellingIn hs n (record { messages = (told_by c rs nm h).messages; next_mark = (telling_by c rs nm h).next_mark })
   told_messages c rs nm up once below =
-      let k : Held = selected_first c rs h in
+      let k : NumberedFolder = selected_first c rs h in
       let first : IsTellingIn hs n (telling_in nm k) = told_first nm k (first_is c rs h) up once below in
       told_kept c rs (telling_by c rs nm h) (told_responses (adds c) (telling_in nm k) rs first)

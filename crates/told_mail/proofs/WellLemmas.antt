@@ -15,7 +15,7 @@ use Rattle.told_folder.specs.Select.{after_closed, is_closed, modseq_told, last_
 use Rattle.told_folder.specs.Tell.{Telling, tell_uid, tell_fetch, tell_response, tell_responses, with_flags, with_new, new_message, kept_header, covers}
 use Rattle.told_folder.specs.ToldBy.{adds, selected_first, next_after, kept_after, past, past_told, telling_in, telling_by, told_by, uid_told, is_told}
 use Rattle.told_folder.specs.declared.message.Folder.{Folder}
-use Rattle.told_folder.specs.declared.message.Held.{Held}
+use Rattle.told_folder.specs.declared.message.NumberedFolder.{NumberedFolder}
 use Rattle.told_folder.specs.declared.message.Message.{Message}
 use Rattle.told_folder.specs.declared.telling.TheConstants.{MAX_MARK}
 use Rattle.told_mail.specs.declared.mirror.listing.TheConstants.{MAX_FOLDER_NUMBER}
@@ -62,11 +62,11 @@ all_found P u (y ∷ ys) x a e =
       | false ↦ λ f. all_found P u ys x a.1 f
     ] e
 
-all_append : (P : Held → Type 0) (hs : List Held) (h : Held) → AllByRecursion P hs → P h → AllByRecursion P (hs ++ h ∷ [])
+all_append : (P : NumberedFolder → Type 0) (hs : List NumberedFolder) (h : NumberedFolder) → AllByRecursion P hs → P h → AllByRecursion P (hs ++ h ∷ [])
 all_append P [] h a p = (p, tt)
 all_append P (x ∷ xs) h a p = (a.0, all_append P xs h a.1 p)
 
-all_named : (P : Held → Type 0) (hs : List Held) (name : List ℕ) (h : Held) → AllByRecursion P hs → named hs name ≡ Some h → P h
+all_named : (P : NumberedFolder → Type 0) (hs : List NumberedFolder) (name : List ℕ) (h : NumberedFolder) → AllByRecursion P hs → named hs name ≡ Some h → P h
 all_named P [] name h a e = absurd (cc)
 all_named P (x ∷ xs) name h a e =
     elim (is_same x.folder.name name) as (λ b. (if b then Some x else named xs name) ≡ Some h → P h) [
@@ -74,7 +74,7 @@ all_named P (x ∷ xs) name h a e =
       | false ↦ λ f. all_named P xs name h a.1 f
     ] e
 
-all_with : (P : Held → Type 0) (hs : List Held) (k : Held) → AllByRecursion P hs → P k → AllByRecursion P (with_held hs k)
+all_with : (P : NumberedFolder → Type 0) (hs : List NumberedFolder) (k : NumberedFolder) → AllByRecursion P hs → P k → AllByRecursion P (with_held hs k)
 all_with P [] k a p = tt
 all_with P (h ∷ hs) k a p =
     elim (eqb (folder_number h) (folder_number k)) as (λ b. AllByRecursion P (if b then k ∷ hs else h ∷ with_held hs k)) [ true ↦ (p, a.1) | false ↦ (a.0, all_with P hs k a.1 p) ]
@@ -174,17 +174,17 @@ well_fields f v m n l h w = record {
   next = h;
 }
 
-well_under : (v : ℕ) (h : Held) → IsWellFormedHeld h → IsWellFormedHeld (under v h)
+well_under : (v : ℕ) (h : NumberedFolder) → IsWellFormedHeld h → IsWellFormedHeld (under v h)
 well_under v h w =
     elim (eqb v h.folder.validity) as (λ b. IsWellFormedHeld (if b then h else record { folder = record h.folder { validity = v; next = 1 }; messages = [] })) [
       | true ↦ w
       | false ↦ record { folder = well_fields h.folder v h.folder.modseq 1 (omega arith) (omega arith) w.folder; messages = tt }
     ]
 
-well_modseq : (n : ℕ) (h : Held) → IsWellFormedHeld h → IsWellFormedHeld (with_modseq n h)
+well_modseq : (n : ℕ) (h : NumberedFolder) → IsWellFormedHeld h → IsWellFormedHeld (with_modseq n h)
 well_modseq n h w = record { folder = well_fields h.folder h.folder.validity n h.folder.next w.folder.begun w.folder.next w.folder; messages = w.messages }
 
-well_first : (c : Command) (rs : List Response) (h : Held) → IsWellFormedHeld h → IsWellFormedHeld (selected_first c rs h)
+well_first : (c : Command) (rs : List Response) (h : NumberedFolder) → IsWellFormedHeld h → IsWellFormedHeld (selected_first c rs h)
 well_first (command.Select name known) rs h w = well_modseq (modseq_told rs) (under (last_told validity_in h.folder.validity rs) h) (well_under _ h w)
 well_first _ rs h w = w
 
@@ -192,7 +192,7 @@ well_kept : (c : Command) (rs : List Response) (xs : List Message) → AllByRecu
 well_kept command.FetchFlags rs xs a = all_filter IsWellFormedMessage (λ (x : Message). not (not (is_told rs x.uid))) xs a
 well_kept _ rs xs a = a
 
-well_told : (c : Command) (rs : List Response) (nm : ℕ) (h : Held) → FitsSlice c → AllSpelled rs → 0 < nm → nm ≤ MAX_MARK + 1 → IsWellFormedHeld h
+well_told : (c : Command) (rs : List Response) (nm : ℕ) (h : NumberedFolder) → FitsSlice c → AllSpelled rs → 0 < nm → nm ≤ MAX_MARK + 1 → IsWellFormedHeld h
     → IsWellFormedHeld (told_by c rs nm h) × (0 < (telling_by c rs nm h).next_mark) × ((telling_by c rs nm h).next_mark ≤ MAX_MARK + 1)
 well_told c rs nm h fits sp l m w =
     let first : IsWellFormedHeld (selected_first c rs h) = well_first c rs h w in
@@ -212,7 +212,7 @@ well_told c rs nm h fits sp l m w =
 abbrev IsWellMade : Mail → Type 0
 IsWellMade m = AllByRecursion IsWellFormedHeld m.folders × (0 < m.next_mark) × (m.next_mark ≤ MAX_MARK + 1) × (0 < m.next_folder) × (m.next_folder ≤ MAX_FOLDER_NUMBER + 1)
 
-well_held : (m : Mail) (c : Command) (rs : List Response) (name : List ℕ) (o : Option Held) → FitsSlice c → AllSpelled rs → named m.folders name ≡ o → IsWellMade m
+well_held : (m : Mail) (c : Command) (rs : List Response) (name : List ℕ) (o : Option NumberedFolder) → FitsSlice c → AllSpelled rs → named m.folders name ≡ o → IsWellMade m
     → IsWellMade (tell_held m c rs o)
 well_held m c rs name None fits sp e w = w
 well_held m c rs name (Some h) fits sp e w =
@@ -245,7 +245,7 @@ line_well : (name : List ℕ) (rs : List Response) (l : lists.Line) → AllSpell
 line_well name rs l sp e = all_last IsWellLine (filter (λ k. is_same k.name name) (filter_map line_of rs)) l
     (all_filter IsWellLine (λ (k : lists.Line). is_same k.name name) (filter_map line_of rs) (well_lines rs sp)) e
 
-well_listed : (rs : List Response) (hs : List Held) → AllSpelled rs → AllByRecursion IsWellFormedHeld hs → AllByRecursion IsWellFormedHeld (listed rs hs)
+well_listed : (rs : List Response) (hs : List NumberedFolder) → AllSpelled rs → AllByRecursion IsWellFormedHeld hs → AllByRecursion IsWellFormedHeld (listed rs hs)
 well_listed rs [] sp a = tt
 well_listed rs (h ∷ hs) sp a =
     let rest = well_listed rs hs sp a.1 in
@@ -326,7 +326,7 @@ well_formed m x fits sp w = by x.status
 -- ---- what is put and cut
 
 -- the messages of a folder of well-formed mail are well formed
-pub all_messages : (hs : List Held) (n : ℕ) → AllByRecursion IsWellFormedHeld hs → AllByRecursion IsWellFormedMessage (messages_in hs n)
+pub all_messages : (hs : List NumberedFolder) (n : ℕ) → AllByRecursion IsWellFormedHeld hs → AllByRecursion IsWellFormedMessage (messages_in hs n)
 all_messages [] n a = tt
 all_messages (h ∷ hs) n a =
     elim (eqb (folder_number h) n) as (λ b. AllByRecursion IsWellFormedMessage (messages_of (if b then Some h else held_in hs n))) [
@@ -334,7 +334,7 @@ all_messages (h ∷ hs) n a =
       | false ↦ all_messages hs n a.1
     ]
 
-all_with_messages : (hs : List Held) (n : ℕ) (xs : List Message) → AllByRecursion IsWellFormedHeld hs → AllByRecursion IsWellFormedMessage xs
+all_with_messages : (hs : List NumberedFolder) (n : ℕ) (xs : List Message) → AllByRecursion IsWellFormedHeld hs → AllByRecursion IsWellFormedMessage xs
     → AllByRecursion IsWellFormedHeld (with_messages hs n xs)
 all_with_messages [] n xs a m = tt
 all_with_messages (h ∷ hs) n xs a m =
@@ -368,7 +368,7 @@ well_with_message m n x p w = record {
 -- well-formed mail is still so without a folder
 pub well_without_folder : (m : Mail) (n : ℕ) → IsWellFormed m → IsWellFormed (without_folder m n)
 well_without_folder m n w = record {
-  folders = all_filter IsWellFormedHeld (λ (h : Held). not (eqb (folder_number h) n)) m.folders w.folders;
+  folders = all_filter IsWellFormedHeld (λ (h : NumberedFolder). not (eqb (folder_number h) n)) m.folders w.folders;
   marked = w.marked;
   marks = w.marks;
   numbered = w.numbered;
@@ -409,10 +409,10 @@ well_with_flags m n uid flags (Some x) kept_is found w =
       numbers = w.numbers;
     }
 
-well_folder_in : (hs : List Held) (n : ℕ) (f : Folder) → folder_in hs n ≡ Some f → AllByRecursion IsWellFormedHeld hs → IsWellFormedFolder f
+well_folder_in : (hs : List NumberedFolder) (n : ℕ) (f : Folder) → folder_in hs n ≡ Some f → AllByRecursion IsWellFormedHeld hs → IsWellFormedFolder f
 well_folder_in [] n f e a = absurd (cc)
 well_folder_in (h ∷ hs) n f e a =
-    elim (eqb (folder_number h) n) as (λ b. option_map (λ (z : Held). z.folder) (if b then Some h else held_in hs n) ≡ Some f → IsWellFormedFolder f) [
+    elim (eqb (folder_number h) n) as (λ b. option_map (λ (z : NumberedFolder). z.folder) (if b then Some h else held_in hs n) ≡ Some f → IsWellFormedFolder f) [
       | true ↦ λ g. subst IsWellFormedFolder (some_same h.folder f g) a.0.folder
       | false ↦ λ g. well_folder_in hs n f g a.1
     ] e
@@ -432,7 +432,7 @@ well_with_attributes m n attributes (Some f) kept_is found w =
       next = fine.next;
     }) w
 
-well_with_name : (name : List ℕ) (h : Held) → IsWellFormedHeld h → IsWellFormedHeld (with_name name h)
+well_with_name : (name : List ℕ) (h : NumberedFolder) → IsWellFormedHeld h → IsWellFormedHeld (with_name name h)
 well_with_name name h w = record {
   folder = record {
     numbered = w.folder.numbered;
@@ -445,7 +445,7 @@ well_with_name name h w = record {
   messages = w.messages;
 }
 
-well_names : (name : Held → Option (List ℕ)) (hs : List Held) → AllByRecursion IsWellFormedHeld hs → AllByRecursion IsWellFormedHeld (named_by name hs)
+well_names : (name : NumberedFolder → Option (List ℕ)) (hs : List NumberedFolder) → AllByRecursion IsWellFormedHeld hs → AllByRecursion IsWellFormedHeld (named_by name hs)
 well_names name [] a = tt
 well_names name (h ∷ hs) a =
     elim (name h) as (λ o. AllByRecursion IsWellFormedHeld (cons_option (option_map (λ q. with_name q h) o) (named_by name hs))) [

@@ -7,7 +7,7 @@ use Rattle.std.specs.Ordering.{nat_cmp}
 use Rattle.std.specs.Cmp.Lexicographic.{slice_cmp}
 use Rattle.imap_types.specs.declared.response.Response.{Response}
 use Rattle.imap_types.specs.declared.response.Response.TheVariants as response
-use Rattle.told_folder.specs.declared.message.Held.{Held}
+use Rattle.told_folder.specs.declared.message.NumberedFolder.{NumberedFolder}
 use Rattle.told_folder.specs.Keyed.{last_of}
 use Rattle.told_mail.specs.declared.mirror.listing.TheConstants.{MAX_FOLDER_NUMBER}
 use Rattle.told_mail.specs.Mail.{Mail, is_same, named}
@@ -28,15 +28,15 @@ line_of _ = None
 abbrev pub line_for : List ℕ → List Response → Option Line
 line_for name rs = last_of (filter (λ l. is_same l.name name) (filter_map line_of rs))
 
-abbrev pub with_line : Line → Held → Held
+abbrev pub with_line : Line → NumberedFolder → NumberedFolder
 with_line l h = record { folder = record h.folder { delimiter = l.delimiter; attributes = l.attributes }; messages = h.messages }
 
-abbrev pub put_listed : Option Line → Held → List Held → List Held
+abbrev pub put_listed : Option Line → NumberedFolder → List NumberedFolder → List NumberedFolder
 put_listed None h hs = hs
 put_listed (Some l) h hs = with_line l h ∷ hs
 
 -- folders that are told take what was told of them, the others end with their messages
-abbrev pub listed : List Response → List Held → List Held
+abbrev pub listed : List Response → List NumberedFolder → List NumberedFolder
 listed rs [] = []
 listed rs (h ∷ hs) = put_listed (line_for h.folder.name rs) h (listed rs hs)
 
@@ -55,10 +55,10 @@ abbrev pub names_told : List Response → List (List ℕ)
 names_told rs = in_order (map (λ l. l.name) (filter_map line_of rs))
 
 -- the names that are told and that no folder has, INBOX first, then by octets
-abbrev pub new_names : List Held → List Response → List (List ℕ)
+abbrev pub new_names : List NumberedFolder → List Response → List (List ℕ)
 new_names hs rs = inbox_first (filter (λ name. not (is_some (named hs name))) (names_told rs))
 
-abbrev pub new_folder : ℕ → Line → Held
+abbrev pub new_folder : ℕ → Line → NumberedFolder
 new_folder n l = record {
   folder = record { number = n; name = l.name; delimiter = l.delimiter; attributes = l.attributes; validity = 0; modseq = 0; next = 1 };
   messages = [];
@@ -81,6 +81,6 @@ abbrev pub tell_list : Mail → List Response → Mail
 tell_list m rs = with_new_folders rs (record m { folders = listed rs m.folders }) (new_names m.folders rs)
 
 -- the LIST tells each folder as it is, and no other
-pub record ListsKnown (hs : List Held) (rs : List Response) : Type 0 where
+pub record ListsKnown (hs : List NumberedFolder) (rs : List Response) : Type 0 where
   pub folders : listed rs hs ≡ hs
   pub names : new_names hs rs ≡ []

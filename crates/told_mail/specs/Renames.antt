@@ -3,7 +3,7 @@ use Rattle.std.specs.Prelude.{ℕ, ◌==◌, Bool, List, [], ◌∷◌, ◌++◌
 use Rattle.std.specs.List.{list_any, filter_map}
 use Rattle.std.specs.Option.{option_map}
 use Rattle.told_folder.specs.declared.message.Folder.{Folder}
-use Rattle.told_folder.specs.declared.message.Held.{Held}
+use Rattle.told_folder.specs.declared.message.NumberedFolder.{NumberedFolder}
 use Rattle.told_mail.specs.Lists.{is_inbox}
 use Rattle.told_mail.specs.Mail.{Mail, is_same}
 
@@ -28,7 +28,7 @@ abbrev pub renamed_name : List ℕ → List ℕ → Folder → Option (List ℕ)
 renamed_name from to f = if is_same f.name from then Some to else option_map (λ rest. to ++ rest) (child_part from f.delimiter f.name)
 
 -- the names that folders get
-abbrev pub names_given : List ℕ → List ℕ → List Held → List (List ℕ)
+abbrev pub names_given : List ℕ → List ℕ → List NumberedFolder → List (List ℕ)
 names_given from to hs = filter_map (λ h. renamed_name from to h.folder) hs
 
 abbrev pub has_one_named : List ℕ → List (List ℕ) → Bool
@@ -41,14 +41,14 @@ abbrev pub name_after : List (List ℕ) → Option (List ℕ) → Folder → Opt
 name_after given (Some name) f = Some name
 name_after given None f = if has_one_named f.name given then None else Some f.name
 
-abbrev pub with_name : List ℕ → Held → Held
+abbrev pub with_name : List ℕ → NumberedFolder → NumberedFolder
 with_name name h = record { folder = record h.folder { name = name }; messages = h.messages }
 
-abbrev pub renamed_held : List ℕ → List ℕ → List (List ℕ) → Held → Option Held
+abbrev pub renamed_held : List ℕ → List ℕ → List (List ℕ) → NumberedFolder → Option NumberedFolder
 renamed_held from to given h = option_map (λ name. with_name name h) (name_after given (renamed_name from to h.folder) h.folder)
 
 -- the folder and those below it have other names, all at once
-abbrev pub renamed_folders : List ℕ → List ℕ → List Held → List Held
+abbrev pub renamed_folders : List ℕ → List ℕ → List NumberedFolder → List NumberedFolder
 renamed_folders from to hs = filter_map (renamed_held from to (names_given from to hs)) hs
 
 -- Of INBOX it tells nothing: INBOX stays, and its messages move to a new folder, with UIDs that no response tells.

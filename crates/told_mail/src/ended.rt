@@ -2,13 +2,13 @@
 ghost use Rattle.std.specs.BTreeMap.{get};
 ghost use Rattle.std.specs.Ordering.{nat_cmp};
 ghost use Rattle.std.specs.Prelude.{◌≡◌, ℕ, List, Bool, true, None, if◌then◌else◌, is_some, filter};
-ghost use Rattle.told_folder.specs.Work.{cleared};
+ghost use Rattle.told_folder.specs.FolderTelling.{cleared};
 ghost use Rattle.told_mail.specs.Mail.{is_same};
 ghost use Rattle.told_mail.specs.reading.Index.{IsMirror};
 ghost use Rattle.told_mail.specs.reading.Lines.{is_listed};
 ghost use Rattle.told_mail.specs.reading.Names.{place_in};
 
-use crate::Held;
+use crate::NumberedFolder;
 use crate::names::cut_name;
 use std::collections::BTreeMap;
 use told_folder::telling::clear_marks;
@@ -23,7 +23,7 @@ pub fn has_line(lines: &BTreeMap<Vec<u8>, usize>, name: &[u8]) -> bool
 
 /// Takes the marks and the name of a folder out of the indexes.
 pub fn clear_folder(
-    held: &Held,
+    held: &NumberedFolder,
     marks: &mut BTreeMap<u64, (u64, u32)>,
     numbers: &mut BTreeMap<Vec<u8>, u64>,
 )
@@ -36,7 +36,7 @@ pub fn clear_folder(
 
 /// Takes the marks and names of those folders out of the indexes that no line tells.
 pub fn clear_ended(
-    folders: &[Held],
+    folders: &[NumberedFolder],
     lines: &BTreeMap<Vec<u8>, usize>,
     marks: &mut BTreeMap<u64, (u64, u32)>,
     numbers: &mut BTreeMap<Vec<u8>, u64>,
@@ -51,7 +51,7 @@ pub fn clear_ended(
 }
 
 /// Takes out the folders that no line tells.
-pub fn keep_told(folders: &mut Vec<Held>, lines: &BTreeMap<Vec<u8>, usize>)
+pub fn keep_told(folders: &mut Vec<NumberedFolder>, lines: &BTreeMap<Vec<u8>, usize>)
     ensures { folders.new.items ≡ filter (is_listed lines.now) folders.old.items }
 {
     folders.retain(|held| has_line(lines, held.folder.name.as_slice()));

@@ -17,6 +17,7 @@ fn fits_slice(command: &Command)
 {
     match command {
         Command::FetchSlice { to, .. } => {
+            // (reading it says that it fits its type)
             let _to = *to;
         }
         _ => {}

@@ -3,7 +3,7 @@ ghost use Rattle.std.specs.Prelude.{◌≡◌, ℕ, ◌+◌, ◌<◌, ◌≤◌,
 ghost use Rattle.std.specs.BTreeMap.{get};
 ghost use Rattle.std.specs.Ordering.{nat_cmp};
 ghost use Rattle.std.specs.VecDeque.{deque_len};
-ghost use Rattle.told_folder.specs.Work.{cleared};
+ghost use Rattle.told_folder.specs.FolderTelling.{cleared};
 ghost use Rattle.std.specs.List.{list_any, cons_option};
 ghost use Rattle.std.specs.Option.{option_map};
 ghost use Rattle.told_folder.specs.Index.{IsIndexed};
@@ -15,7 +15,7 @@ ghost use Rattle.told_mail.specs.reading.Names.{place_in};
 ghost use Rattle.told_mail.specs.reading.Renaming.{HasNames, name_of, named_by};
 
 use crate::names::put_name;
-use crate::{Folder, Held};
+use crate::{Folder, NumberedFolder};
 use octets::Bytes;
 use std::alloc::{AllocError, Global};
 use std::collections::{BTreeMap, BTreeSet, VecDeque};
@@ -88,7 +88,7 @@ fn add_given(set: &mut BTreeSet<Vec<u8>>, name: Option<Vec<u8>>) -> Result<(), A
 /// The names that folders get.
 pub fn given_names(
     alloc: Global,
-    folders: &[Held],
+    folders: &[NumberedFolder],
     from: &[u8],
     to: &[u8],
 ) -> Result<BTreeSet<Vec<u8>>, AllocError>
@@ -158,7 +158,7 @@ pub struct AfterRename {
 /// What the RENAME of `from` to `to` makes of the folders, of which these names are given.
 pub fn renamed(
     alloc: Global,
-    folders: &[Held],
+    folders: &[NumberedFolder],
     from: &[u8],
     to: &[u8],
     given: &BTreeSet<Vec<u8>>,
@@ -180,13 +180,13 @@ pub fn renamed(
 }
 
 /// Adds the folder, under this name, at the end, where there is room.
-fn push_named(left: &mut Vec<Held>, held: Held, name: Bytes)
+fn push_named(left: &mut Vec<NumberedFolder>, held: NumberedFolder, name: Bytes)
     requires { vec_len left.old < vec_capacity left.old }
     ensures items { left.new.items ≡ left.old.items ++ renames.with_name name held ∷ [] }
     ensures len { vec_len left.new ≡ vec_len left.old + 1 }
     ensures room { vec_capacity left.old ≤ vec_capacity left.new }
 {
-    let Held { folder, messages } = held;
+    let NumberedFolder { folder, messages } = held;
     let Folder {
         number,
         name: _,
@@ -205,16 +205,16 @@ fn push_named(left: &mut Vec<Held>, held: Held, name: Bytes)
         modseq,
         next,
     };
-    let Ok(()) = left.push(Held { folder, messages }) else {
+    let Ok(()) = left.push(NumberedFolder { folder, messages }) else {
         unreachable!()
     };
 }
 
 /// Adds the folder under its name; where it has none, its marks are taken out.
 fn take_name(
-    left: &mut Vec<Held>,
+    left: &mut Vec<NumberedFolder>,
     marks: &mut BTreeMap<u64, (u64, u32)>,
-    held: Held,
+    held: NumberedFolder,
     name: Option<Bytes>,
 )
     requires { vec_len left.old < vec_capacity left.old }
@@ -231,16 +231,16 @@ fn take_name(
 
 /// The folders, each under its name. Those that have none end, with their marks. It takes no memory: `left` has room.
 pub fn take_names(
-    folders: Vec<Held>,
+    folders: Vec<NumberedFolder>,
     names: VecDeque<Option<Bytes>>,
-    left: Vec<Held>,
+    left: Vec<NumberedFolder>,
     marks: &mut BTreeMap<u64, (u64, u32)>,
-) -> Vec<Held>
+) -> Vec<NumberedFolder>
     requires empty { left.items ≡ [] }
     requires room { vec_len left + vec_len folders ≤ vec_capacity left }
     requires same { deque_len names ≡ vec_len folders }
-    ensures names { (name : Held → Option (List ℕ)) → names.items ≡ map name folders.items → result.items ≡ named_by name folders.items }
-    ensures marks { (name : Held → Option (List ℕ)) → names.items ≡ map name folders.items
+    ensures names { (name : NumberedFolder → Option (List ℕ)) → names.items ≡ map name folders.items → result.items ≡ named_by name folders.items }
+    ensures marks { (name : NumberedFolder → Option (List ℕ)) → names.items ≡ map name folders.items
         → (next_mark : ℕ) → IsIndexed folders.items marks.old next_mark → IsIndexed (named_by name folders.items) marks.new next_mark }
 {
     let mut folders = VecDeque::from_vec(folders);

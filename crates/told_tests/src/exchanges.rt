@@ -6,8 +6,8 @@ use crate::showing::shown;
 use octets::{Bytes, Names};
 use std::alloc::{AllocError, Global};
 use std::mem;
-use test_rows::{first_number, first_uid};
-use told_dialogues::exchange_of;
+use test_rows::{first_number, first_uid, first_word};
+use told_dialogues::{bytes_of, exchange_of};
 use told_mail::{Folder, Message, Mirror};
 
 /// The greatest number of a folder, and the greatest mark.
@@ -53,6 +53,15 @@ fn filled(alloc: Global, number: u64, mark: u64) -> Result<Mirror, AllocError>
     mirror.put_folder(folder(alloc, number, name))?;
     mirror.put_message(number, message(alloc, mark, header))?;
     Ok(mirror)
+}
+
+/// The words of a text, as flags or attributes.
+fn names_of(alloc: Global, text: &str) -> Result<Names, AllocError> {
+    let mut names = Names::new(alloc);
+    for word in text.split(' ') {
+        names.push(bytes_of(alloc, word)?)?;
+    }
+    Ok(names)
 }
 
 fn number_of(folder: Option<&Folder>) -> Option<u64> {
@@ -165,6 +174,28 @@ impl Told {
         }
     }
 
+    /// Gives a message other flags, or a folder other attributes, or renames folders.
+    fn set(&mut self, word: &str, text: &str) -> Result<(), AllocError> {
+        let (folder, rest) = first_number(text);
+        match word {
+            "set-flags" => {
+                let (uid, rest) = first_uid(rest);
+                let flags = names_of(self.alloc, rest)?;
+                self.mirror.set_flags(folder, uid, flags);
+                Ok(())
+            }
+            "set-attributes" => {
+                let attributes = names_of(self.alloc, rest)?;
+                self.mirror.set_attributes(folder, attributes);
+                Ok(())
+            }
+            _ => {
+                let (from, to) = first_word(text);
+                self.mirror.rename(from.as_bytes(), to.as_bytes())
+            }
+        }
+    }
+
     /// Says what the mirror answers.
     fn answer(&mut self, word: &str, text: &str, out: &mut String) -> Result<(), AllocError> {
         let (number, _) = first_number(text);
@@ -207,6 +238,7 @@ impl Told {
             }
             "fill" => self.fill(text),
             "copy" | "swap" | "cut-folder" => self.change(word, text),
+            "set-flags" | "set-attributes" | "rename" => self.set(word, text),
             _ => self.answer(word, text, out),
         }
     }

@@ -2,7 +2,7 @@
 use octets::Names;
 use std::alloc::{AllocError, Global};
 use test_rows::put_octets;
-use told_mail::{Held, Message, Mirror};
+use told_mail::{Message, Mirror, NumberedFolder};
 
 fn put_names(out: &mut String, names: &Names) -> Result<(), AllocError> {
     for name in names.as_slice() {
@@ -19,7 +19,7 @@ fn put_messages(out: &mut String, messages: &[Message]) -> Result<(), AllocError
     Ok(())
 }
 
-fn put_folder(out: &mut String, held: &Held) -> Result<(), AllocError> {
+fn put_folder(out: &mut String, held: &NumberedFolder) -> Result<(), AllocError> {
     let folder = &held.folder;
     write!(out, "{} ", folder.number)?;
     put_octets(out, folder.name.as_slice())?;

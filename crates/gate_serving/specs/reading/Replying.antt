@@ -1,5 +1,5 @@
 -- What the parts of answering a client add.
-use Rattle.std.specs.Prelude.{◌≡◌, ◌≢◌, ◌⊎◌, ◌++◌, ℕ, List, [], ◌∷◌, Option, Some, None, Result, Ok, Err}
+use Rattle.std.specs.Prelude.{◌≡◌, ◌≢◌, ◌⊎◌, ◌++◌, ℕ, false, List, [], ◌∷◌, Option, Some, None, Result, Ok, Err}
 use Rattle.std.specs.declared.alloc.AllocError.{AllocError}
 use Rattle.gate_world.specs.Causes.{Faults, Hidden, Rose}
 use Rattle.gate_world.specs.Sending.{Sends}
@@ -7,37 +7,32 @@ use Rattle.gate_world.specs.declared.event.Event.{Event}
 use Rattle.gate_world.specs.declared.event.Event.TheVariants.{Accepted}
 use Rattle.gate_world.specs.declared.outside.Failed.{Failed}
 use Rattle.http_requests.specs.declared.asking.AskError.TheVariants as unread
-use Rattle.email_bodies.specs.Asking.{BodyAsk, AreDue}
-use Rattle.jmap_arguments.specs.declared.method_error.MethodError.TheVariants.{ServerUnavailable}
 use Rattle.imap_exchange.specs.Answering.{HangsUp}
-use Rattle.gate_machine.specs.Fetching.{CallsAsk}
-use Rattle.gate_machine.specs.Progress.{Progress, Bears, is_up}
+use Rattle.gate_machine.specs.Progress.{Progress, Bears, idle, is_up}
 use Rattle.gate_machine.specs.Holding.{HoldsMachine}
 use Rattle.gate_machine.specs.Machine.{MachineState, forgotten}
 use Rattle.gate_machine.specs.declared.machine.Machine.{Machine}
-use Rattle.gate_machine.specs.declared.standing.MailStatus.TheVariants.{OutOfMemory}
-use Rattle.gate_calls.specs.Mailings.{mail_at}
+use Rattle.gate_machine.specs.declared.mail_status.MailStatus.TheVariants.{OutOfMemory}
 use Rattle.gate_serving.specs.declared.door.Door.{Door}
 use Rattle.gate_serving.specs.declared.gate.Gate.{Gate}
 use Rattle.gate_serving.specs.declared.response.Response.{Response}
 use Rattle.gate_serving.specs.declared.outcomes.ClientOutcome.{ClientOutcome}
 use Rattle.gate_serving.specs.declared.outcomes.ClientOutcome.TheVariants as served
 use Rattle.gate_serving.specs.Answers.{Answer, KeepsUpload, MayKeepUpload, TakesMemory, spelled}
+use Rattle.gate_serving.specs.Doing.{Does}
 use Rattle.gate_serving.specs.GateState.{GateState}
 use Rattle.gate_serving.specs.Gates.{account_by}
-use Rattle.gate_serving.specs.Requests.{Account, Asking, ReadsAsking}
+use Rattle.gate_serving.specs.Requests.{Account, Asking, ReadsAsking, asks_for_mail}
 use Rattle.gate_serving.specs.Segment.{Replies, Segment, reply_blamed, blamed, went}
 use Rattle.gate_serving.specs.RequestWork.{RequestWork}
-use Rattle.gate_serving.specs.reading.OneMail.{IsResponse, AsksFirst}
 use Rattle.gate_serving.specs.reading.Texts.{text_sent}
 
--- the response that is made over the mail of the work so far; or none, after bodies were asked that were due
-abbrev pub IsMadeOver : Door → Account → List (List ℕ) → Asking → Progress → List BodyAsk → Progress → Result Response AllocError → Type 0
-IsMadeOver door account uploads asking begun asks answered (Ok response) =
-    IsResponse door account (record { mail = mail_at begun; uploads = uploads }) asking asks (text_sent response)
+-- the response that is made by what is done; or none, where memory runs out
+abbrev pub IsMadeBy : Door → Account → List (List ℕ) → Asking → Progress → List Event → Progress → Result Response AllocError → Type 0
+IsMadeBy door account uploads asking begun doing answered (Ok response) =
+    (answer : Answer) × Does account uploads asking begun doing answered (Some answer) × (text_sent response ≡ spelled door answer)
     × (answered.standing ≢ OutOfMemory)
-IsMadeOver door account uploads asking begun asks answered (Err _) =
-    AreDue (AsksFirst (record { mail = mail_at begun; uploads = uploads }) asking) asks
+IsMadeBy door account uploads asking begun doing answered (Err _) = Does account uploads asking begun doing answered None
 
 -- the machine that is left: where there was no response it isn't ready
 abbrev pub machine_left : Result Response AllocError → MachineState → MachineState
@@ -47,21 +42,20 @@ machine_left (Err _) m = forgotten m
 -- What is asked is answered in the link life that there is, which is over then.
 pub record Finishes (door : Door) (account : Account) (uploads : List (List ℕ)) (asking : Asking) (begun : Progress) (kept : Machine) (was now : Faults)
     (result : Result Response AllocError) (events : List Event) : Type 0 where
-  pub asks : List BodyAsk
   pub answered : Progress
-  pub fetching : List Event
+  pub doing : List Event
   pub ending : List Event
-  pub calls_ask : CallsAsk begun asks fetching answered
   pub hangs_up : HangsUp (is_up answered.left) ending
-  pub whole : events ≡ fetching ++ ending
+  pub whole : events ≡ doing ++ ending
   pub held : HoldsMachine (machine_left result answered.machine) kept
   pub bears : Bears answered.blamed was now
-  pub made : IsMadeOver door account uploads asking begun asks answered result
+  pub made : IsMadeBy door account uploads asking begun doing answered result
 
 -- the response to what needs no mail, by a gate that keeps what is uploaded
 abbrev pub MakesAtOnce : Asking → Gate → Gate → Response → Type 0
-MakesAtOnce asking before after response = KeepsUpload asking before.uploads after.uploads × ((secrets : Hidden) → (asks : List BodyAsk)
-    × IsResponse after.door (account_by after secrets) (record { mail = Err ServerUnavailable; uploads = after.uploads }) asking asks (text_sent response))
+MakesAtOnce asking before after response = KeepsUpload asking before.uploads after.uploads × ((secrets : Hidden) (m : MachineState)
+    → asks_for_mail asking ≡ false → (answer : Answer) × Does (account_by after secrets) after.uploads asking (idle m) [] (idle m) (Some answer)
+    × (text_sent response ≡ spelled after.door answer))
 
 -- the response, by the work on it; or there was no memory for one that takes memory
 abbrev pub IsMade : Door → Account → Asking → GateState → GateState → List Event → Progress → Result Response AllocError → Type 0

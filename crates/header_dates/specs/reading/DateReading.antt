@@ -5,7 +5,7 @@ use Rattle.header_dates.specs.declared.date.Day.{Day}
 use Rattle.header_dates.specs.declared.date.Moment.{Moment}
 use Rattle.header_dates.specs.declared.pieces.Piece.{Piece as Code}
 use Rattle.header_dates.specs.declared.pieces.Piece.TheVariants as code
-use Rattle.header_dates.specs.declared.pieces.Place.{Place}
+use Rattle.header_dates.specs.declared.pieces.PartPlace.{PartPlace}
 use Rattle.header_tokens.specs.declared.token.Alphabet.TheVariants as alphabet
 use Rattle.header_tokens.specs.Tokens.{Spelled}
 use Rattle.header_tokens.specs.Kinds.{has_mark, is_atom}
@@ -27,7 +27,7 @@ unfoldable pub pieces_behind : List ℕ → List ℕ → List DatePiece
 pieces_behind atom rest = runs atom ++ pieces_of (lexemes_in alphabet.Mail rest)
 
 -- the pieces from a place on
-abbrev pub pieces_at : Place → List DatePiece
+abbrev pub pieces_at : PartPlace → List DatePiece
 pieces_at p = pieces_behind p.atom.now p.rest.now
 
 -- ---- the productions

@@ -7,7 +7,7 @@ use Rattle.change_list.specs.declared.entries.Entry.{Entry}
 use Rattle.change_list.specs.declared.entries.Kind.TheVariants.{Added, Changed, Removed}
 use Rattle.told_folder.specs.Folders.{message_in}
 use Rattle.told_folder.specs.declared.message.Message.{Message}
-use Rattle.told_folder.specs.declared.message.Held.{Held}
+use Rattle.told_folder.specs.declared.message.NumberedFolder.{NumberedFolder}
 use Rattle.mail_maps.specs.declared.row.EmailRow.{EmailRow}
 use Rattle.mail_maps.specs.Rows.{Rows}
 use Rattle.mail_maps.specs.Keywords.{keywords_of}
@@ -26,7 +26,7 @@ abbrev pub served_if : ℕ → Option Message → Option Placed
 served_if folder None = None
 served_if folder (Some x) = if_served folder x
 
-abbrev pub served_at : List Held → ℕ → ℕ → Option Placed
+abbrev pub served_at : List NumberedFolder → ℕ → ℕ → Option Placed
 served_at hs folder uid = served_if folder (message_in hs folder uid)
 
 -- ---- the pass
@@ -84,27 +84,27 @@ gather_where (Some p) g e = record g {
   updates = g.updates ++ update_where (is_another e.1 p) e.0 p;
 }
 
-abbrev pub gather_one : List Held → PassSoFar → ℕ × EmailRow → PassSoFar
+abbrev pub gather_one : List NumberedFolder → PassSoFar → ℕ × EmailRow → PassSoFar
 gather_one hs g e = gather_where (shown hs e.1.mark) g e
 
-abbrev pub gather_all : List Held → PassSoFar → Rows → PassSoFar
+abbrev pub gather_all : List NumberedFolder → PassSoFar → Rows → PassSoFar
 gather_all hs g [] = g
 gather_all hs g (e ∷ es) = gather_all hs (gather_one hs g e) es
 
 -- ---- in the end
 
 -- the rows that go
-abbrev pub is_hidden : List Held → ℕ × EmailRow → Bool
+abbrev pub is_hidden : List NumberedFolder → ℕ × EmailRow → Bool
 is_hidden hs e = not (is_some (shown hs e.1.mark))
 
-abbrev pub gone_in : List Held → Rows → List RemovedEmail
+abbrev pub gone_in : List NumberedFolder → Rows → List RemovedEmail
 gone_in hs rows = map gone_of (filter (is_hidden hs) rows)
 
 abbrev pub changes_where : Option Placed → ℕ × EmailRow → List Entry
 changes_where None e = []
 changes_where (Some p) e = change_where (is_moved e.1 p) e.0
 
-abbrev pub changes_in : List Held → Rows → List Entry
+abbrev pub changes_in : List NumberedFolder → Rows → List Entry
 changes_in hs [] = []
 changes_in hs (e ∷ es) = changes_where (shown hs e.1.mark) e ++ changes_in hs es
 
@@ -112,7 +112,7 @@ abbrev pub updates_where : Option Placed → ℕ × EmailRow → List Update
 updates_where None e = []
 updates_where (Some p) e = update_where (is_another e.1 p) e.0 p
 
-abbrev pub updates_in : List Held → Rows → List Update
+abbrev pub updates_in : List NumberedFolder → Rows → List Update
 updates_in hs [] = []
 updates_in hs (e ∷ es) = updates_where (shown hs e.1.mark) e ++ updates_in hs es
 
@@ -140,6 +140,6 @@ is_new_message marks x = is_served x && not (is_some (get nat_cmp marks x.mark))
 abbrev pub is_unmarked : BTreeMap ℕ ℕ → Placed → Bool
 is_unmarked marks p = is_new_message marks p.message
 
-abbrev pub unmarked : BTreeMap ℕ ℕ → List Held → List Placed
+abbrev pub unmarked : BTreeMap ℕ ℕ → List NumberedFolder → List Placed
 unmarked marks [] = []
 unmarked marks (h ∷ hs) = filter (is_unmarked marks) (placed_in h) ++ unmarked marks hs

@@ -6,7 +6,7 @@ use Rattle.change_list.specs.Advance.{advance_entries}
 use Rattle.change_list.specs.declared.entries.Entry.{Entry}
 use Rattle.served_maps.specs.Past.{tests_of}
 use Rattle.told_folder.specs.declared.message.Folder.{Folder}
-use Rattle.told_folder.specs.declared.message.Held.{Held}
+use Rattle.told_folder.specs.declared.message.NumberedFolder.{NumberedFolder}
 use Rattle.mail_maps.specs.declared.row.MailboxRow.{MailboxRow}
 use Rattle.mail_maps.specs.Rows.{Rows}
 use Rattle.mail_maps.specs.Mailboxes.{folders_of, mailbox_row, mailboxes_of}
@@ -16,7 +16,7 @@ use Rattle.mail_maps.specs.Serve.{mailbox_of, mailbox_tests, same_names}
 abbrev pub stripped : Folder → Folder
 stripped f = record f { validity = 0; modseq = 0; next = 0 }
 
-abbrev pub stripped_folders : List Held → List Folder
+abbrev pub stripped_folders : List NumberedFolder → List Folder
 stripped_folders hs = map stripped (folders_of hs)
 
 -- whether a folder is another one without those
@@ -26,7 +26,7 @@ is_stripped kept f =
     && (kept.validity == 0 && (kept.modseq == 0 && kept.next == 0)))))
 
 -- whether folders are these without those, one by one
-abbrev pub are_stripped : List Folder → List Held → Bool
+abbrev pub are_stripped : List Folder → List NumberedFolder → Bool
 are_stripped [] [] = true
 are_stripped [] (h ∷ hs) = false
 are_stripped (k ∷ ks) [] = false
@@ -37,7 +37,7 @@ abbrev pub boxes_by : List Folder → Rows → List (ℕ × MailboxRow)
 boxes_by fs rows = map {B = ℕ × MailboxRow} (λ (f : Folder). (f.number, mailbox_row fs rows f)) fs
 
 -- the Mailboxes come to those of the folders and rows, by these touches
-pub record StepsMailboxes (before : List (ℕ × MailboxRow)) (hs : List Held) (rows : Rows) (now : List (ℕ × MailboxRow)) (steps : List Entry) : Type 0 where
+pub record StepsMailboxes (before : List (ℕ × MailboxRow)) (hs : List NumberedFolder) (rows : Rows) (now : List (ℕ × MailboxRow)) (steps : List Entry) : Type 0 where
   pub mailboxes : now ≡ mailboxes_of hs rows
   pub touches : steps ≡ advance_entries (tests_of mailbox_of mailbox_tests) before now
 

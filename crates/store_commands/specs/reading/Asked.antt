@@ -1,13 +1,13 @@
 -- The command that octets ask, by what was read of them.
 use Rattle.imap_types.specs.declared.command.Command.{Command}
 use Rattle.imap_types.specs.declared.command.Command.TheVariants as command
-use Rattle.store_commands.specs.declared.request.Request.{Request}
-use Rattle.store_commands.specs.declared.request.Request.TheVariants as request
+use Rattle.store_commands.specs.declared.request.CommandRequest.{CommandRequest}
+use Rattle.store_commands.specs.declared.request.CommandRequest.TheVariants as request
 use Rattle.command_parts.specs.reading.Strings.{credential_of}
 use Rattle.imap_values.specs.Strings.{astring_in}
 use Rattle.imap_values.specs.Spans.{flags_in}
 
-abbrev pub command_asked : Request → Command
+abbrev pub command_asked : CommandRequest → Command
 command_asked request.Capability = command.Capability
 command_asked (request.Login user password) = command.Login (credential_of user) (credential_of password)
 command_asked request.Enable = command.Enable

@@ -5,7 +5,7 @@ use Rattle.std.specs.BTreeMap.{BTreeMap}
 use Rattle.std.specs.Option.{option_and_then}
 use Rattle.std.specs.declared.alloc.Global.{Global}
 use Rattle.imap_types.specs.declared.response.Response.{Response}
-use Rattle.told_folder.specs.declared.message.Held.{Held}
+use Rattle.told_folder.specs.declared.message.NumberedFolder.{NumberedFolder}
 use Rattle.told_mail.specs.Lists as lists
 use Rattle.told_mail.specs.Lists.{line_of, line_for, names_told, with_line, is_inbox}
 use Rattle.told_mail.specs.Mail.{Mail}
@@ -28,15 +28,15 @@ pub record IsLined (f g : Folder) (l : lists.Line) (result : Result Bool AllocEr
   pub new : IfOk result (λ b. b ≡ true → as_listed f l ≢ f)
 
 -- the folder with what its line tells, where there is one
-abbrev pub lined_by : Option lists.Line → Held → Held
+abbrev pub lined_by : Option lists.Line → NumberedFolder → NumberedFolder
 lined_by None h = h
 lined_by (Some l) h = with_line l h
 
-abbrev pub lined : List Response → Held → Held
+abbrev pub lined : List Response → NumberedFolder → NumberedFolder
 lined rs h = lined_by (line_for h.folder.name rs) h
 
 -- the first folder with what its line tells
-abbrev pub lined_here : List Response → List Held → List Held
+abbrev pub lined_here : List Response → List NumberedFolder → List NumberedFolder
 lined_here rs [] = []
 lined_here rs (h ∷ hs) = lined rs h ∷ hs
 
@@ -64,7 +64,7 @@ pub record AreLinesFrom (rs : List Response) (at : ℕ) (lines : BTreeMap (Vec �
   pub places : (name : List ℕ) → StandsAt rs (line_for name (drop at rs)) (place_in lines name)
 
 -- a line has the folder's name
-abbrev pub is_listed : BTreeMap (Vec ℕ Global) ℕ → Held → Bool
+abbrev pub is_listed : BTreeMap (Vec ℕ Global) ℕ → NumberedFolder → Bool
 is_listed lines h = is_some (place_in lines h.folder.name)
 
 -- ---- names that are picked

@@ -4,7 +4,7 @@ use Rattle.std.specs.BTreeMap.{BTreeMap, get_by, keys}
 use Rattle.std.specs.Cmp.Lexicographic.{slice_cmp}
 use Rattle.std.specs.Ordering.{nat_cmp}
 use Rattle.std.specs.declared.alloc.Global.{Global}
-use Rattle.told_folder.specs.declared.message.Held.{Held}
+use Rattle.told_folder.specs.declared.message.NumberedFolder.{NumberedFolder}
 use Rattle.told_mail.specs.Mail.{is_same, named}
 
 abbrev pub names_in : BTreeMap (Vec ℕ Global) ℕ → List (List ℕ)
@@ -23,6 +23,6 @@ AreApart [] = Unit {0}
 AreApart (q ∷ qs) = AllOther q qs × AreApart qs
 
 -- no folder has one of the names
-abbrev pub AllFree : List Held → List (List ℕ) → Type 0
+abbrev pub AllFree : List NumberedFolder → List (List ℕ) → Type 0
 AllFree hs [] = Unit {0}
 AllFree hs (q ∷ qs) = (named hs q ≡ None) × AllFree hs qs

@@ -15,7 +15,7 @@ use crate::lines::{line_for, lines_of};
 use crate::list::{Line, new_folder, set_line};
 use crate::names::put_name;
 use crate::new_names::new_names;
-use crate::{Folder, Held};
+use crate::{Folder, NumberedFolder};
 use imap_types::Response;
 use octets::{Bytes, Listed};
 use std::alloc::AllocError;
@@ -29,8 +29,8 @@ impl Mirror {
     /// What a line of a LIST tells of the folder at a place.
     fn set_line_at(&mut self, at: usize, line: Line<'_>) -> Result<(), AllocError>
         requires { at < length self.old.mail.folders }
-        ensures ok { OnOk result ((h : Held) → h ≡ slice_index_or self.old.mail.folders at h → self.new.mail ≡ record self.old.mail { folders = slice_set self.old.mail.folders at (with_line (value_of line.entry) h) }) }
-        ensures known { (h : Held) → h ≡ slice_index_or self.old.mail.folders at h → with_line (value_of line.entry) h ≡ h → OnOk result (self.new.changes ≡ self.old.changes) }
+        ensures ok { OnOk result ((h : NumberedFolder) → h ≡ slice_index_or self.old.mail.folders at h → self.new.mail ≡ record self.old.mail { folders = slice_set self.old.mail.folders at (with_line (value_of line.entry) h) }) }
+        ensures known { (h : NumberedFolder) → h ≡ slice_index_or self.old.mail.folders at h → with_line (value_of line.entry) h ≡ h → OnOk result (self.new.changes ≡ self.old.changes) }
         ensures counts { Rises self.old self.new }
         ensures numbers { NumbersGoOn self.old.mail self.new.mail }
     {
@@ -132,7 +132,7 @@ impl Mirror {
             folder.number,
         )?;
         let messages = Listed::from_vec(Vec::new(self.alloc));
-        let Ok(()) = self.folders.push(Held { folder, messages }) else {
+        let Ok(()) = self.folders.push(NumberedFolder { folder, messages }) else {
             unreachable!()
         };
         self.next_folder += 1;

@@ -9,7 +9,7 @@ ghost use Rattle.told_mail.specs.Told.{counted_up};
 
 use super::Mirror;
 use crate::names::{change_name, cut_name, put_name};
-use crate::{Folder, Held, Message};
+use crate::{Folder, Message, NumberedFolder};
 use octets::Listed;
 use std::alloc::AllocError;
 use told_folder::keyed::index_of;
@@ -120,7 +120,10 @@ impl Mirror {
             number,
         )?;
         let messages = Listed::from_vec(Vec::new(self.alloc));
-        let Ok(()) = self.folders.insert(place, Held { folder, messages }) else {
+        let Ok(()) = self
+            .folders
+            .insert(place, NumberedFolder { folder, messages })
+        else {
             unreachable!()
         };
         self.next_folder = self.next_folder.max(number + 1);

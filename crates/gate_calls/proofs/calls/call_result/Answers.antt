@@ -10,5 +10,6 @@ returns-in-Ok-clause-meant g c =
 
 pub returns-in-Err-clause-meant : goal.returns-in-Err-clause-meant
 returns-in-Err-clause-meant g c =
-    unnamed g.B.BodySource.answers g.B.BodySource.lacks c.args.uses c.args.over.now _ (map call_data c.args.earlier.now) (call_data c.args.call.now) c.in-Err.error
+    unnamed (g.C.CallSource.answers c.args.uploads.now) (g.C.CallSource.lacks c.args.uploads.now) c.args.uses _ (map call_data c.args.earlier.now)
+    (call_data c.args.call.now) c.in-Err.error
     (ap (λ (n : List ℕ). method_asked c.args.uses n) (sym c.as_str.ensures) ∙ sym c.in-Err.ensures)

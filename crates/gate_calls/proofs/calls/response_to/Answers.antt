@@ -5,5 +5,5 @@ use Rattle.gate_calls.proofs.calls.response_to.Goals as goal
 
 pub returns-clause-meant : goal.returns-clause-meant
 returns-clause-meant g c =
-    responds g.B.BodySource.answers g.B.BodySource.lacks c.args.uses c.args.over.now _ _ (map call_data c.args.earlier.now) (call_data c.args.call.now) c.call_result-came.result
-    c.response_of.result c.call_result-came.ensures.meant c.response_of.ensures.meant
+    responds (g.C.CallSource.answers c.args.uploads.now) (g.C.CallSource.lacks c.args.uploads.now) c.args.uses _ _ (map call_data c.args.earlier.now)
+    (call_data c.args.call.now) c.call_result-came.result c.response_of.result c.call_result-came.ensures.meant c.response_of.ensures.meant

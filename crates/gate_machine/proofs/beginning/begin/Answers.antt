@@ -2,7 +2,7 @@ use Rattle.std.proofs.Common.{◌++◌, sym, subst}
 use Rattle.gate_world.specs.Causes.{Hidden, Faults}
 use Rattle.gate_world.proofs.Joins.{join, widen}
 use Rattle.gate_machine.specs.Beginning.{BeginsTo}
-use Rattle.gate_machine.specs.declared.standing.MailStatus.TheVariants.{OutOfMemory}
+use Rattle.gate_machine.specs.declared.mail_status.MailStatus.TheVariants.{OutOfMemory}
 use Rattle.gate_machine.proofs.Stages.{begun_by, begun_only}
 use Rattle.gate_machine.proofs.beginning.begin.Goals as goal
 

@@ -9,12 +9,12 @@ use Rattle.gate_serving.proofs.answers.calls_response.Goals as goal
 pub returns-in_err-responses : goal.returns-in_err-responses
 returns-in_err-responses g c =
     let ends = err_from_is_err_and c.from_residual.result c.from_residual.ensures.1 in
-    calls_lacked g.B.BodySource.answers g.B.BodySource.lacks _ _ _ c.args.over.now (request_data c.args.request.now) _ c.from_residual.result ends.0 ends.1
-    (ap (λ (cs : List Call). map call_data cs) c.as_slice.ensures.value) c.in_err-responses.ensures.meant
+    calls_lacked (g.C.CallSource.answers c.args.uploads.now) (g.C.CallSource.lacks c.args.uploads.now) _ _ _ (request_data c.args.request.now) _ c.from_residual.result
+    ends.0 ends.1 (ap (λ (cs : List Call). map call_data cs) c.as_slice.ensures.value) c.in_err-responses.ensures.meant
 
 pub returns : goal.returns
 returns g c =
-    calls_made g.B.BodySource.answers g.B.BodySource.lacks _ _ c.args.door c.args.account.now.user c.args.account.now.base c.args.over.now (request_data c.args.request.now) _
-    (map call_data c.in_ok-responses.responses.items) _ c.responses_answer.result
+    calls_made (g.C.CallSource.answers c.args.uploads.now) (g.C.CallSource.lacks c.args.uploads.now) _ _ c.args.door c.args.account.now.user c.args.account.now.base
+    (request_data c.args.request.now) _ (map call_data c.in_ok-responses.responses.items) _ c.responses_answer.result
     (ap (λ (cs : List Call). map call_data cs) c.as_slice.ensures.value) (ap (λ (cs : List Call). map call_data cs) c.as_slice-2.ensures.value)
     c.in_ok-responses.ensures.meant c.responses_answer.ensures

@@ -2,4 +2,4 @@ use Rattle.mail_state.proofs.ValidityLemmas.{new_ids}
 use Rattle.mail_state.proofs.laws.a_new_validity_makes_new_ids.Goals as goal
 
 pub returns : goal.returns
-returns c = λ h after xs f g number row sound none. new_ids h after xs f g number row sound
+returns c = new_ids

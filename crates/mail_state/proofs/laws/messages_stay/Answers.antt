@@ -1,5 +1,5 @@
-use Rattle.mail_state.proofs.StayLemmas.{all_stay}
+use Rattle.mail_state.proofs.ChangeLemmas.{all_stay}
 use Rattle.mail_state.proofs.laws.messages_stay.Goals as goal
 
 pub returns : goal.returns
-returns c = λ m xs is none. all_stay m xs is
+returns c = all_stay

@@ -1,12 +1,12 @@
 use Rattle.std.proofs.Common.{arith}
-use Rattle.thread_rule.specs.BaseSubject.{Step4, Stays}
+use Rattle.thread_rule.specs.BaseSubject.{Step4, NoStep}
 use Rattle.thread_rule.proofs.PieceLemmas.{lacks_trailer_behind}
 use Rattle.thread_rule.proofs.LeaderLemmas.{lacks_leader_behind}
 use Rattle.thread_rule.proofs.NormalForms.{reaches_more}
 use Rattle.thread_rule.proofs.base.without_blobs.Goals as goal
 
 pub loop-more-init : goal.loop-more-init
-loop-more-init c = record { reached = Stays c.args.text.now; trailer = c.requires.trailer; leader = c.requires.leader; shorter = omega arith }
+loop-more-init c = record { reached = NoStep c.args.text.now; trailer = c.requires.trailer; leader = c.requires.leader; shorter = omega arith }
 
 pub loop-more-preserved : goal.loop-more-preserved
 loop-more-preserved c =

@@ -1,10 +1,10 @@
 use Rattle.std.proofs.Common.{arith}
-use Rattle.thread_rule.specs.BaseSubject.{Step2, Stays}
+use Rattle.thread_rule.specs.BaseSubject.{Step2, NoStep}
 use Rattle.thread_rule.proofs.NormalForms.{reaches_more}
 use Rattle.thread_rule.proofs.base.without_trailers.Goals as goal
 
 pub loop-more-init : goal.loop-more-init
-loop-more-init c = record { reached = Stays c.args.text.now; shorter = omega arith }
+loop-more-init c = record { reached = NoStep c.args.text.now; shorter = omega arith }
 
 pub loop-more-preserved : goal.loop-more-preserved
 loop-more-preserved c = record {

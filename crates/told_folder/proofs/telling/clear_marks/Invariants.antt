@@ -1,6 +1,6 @@
 use Rattle.std.proofs.Common.{◌≡◌, ℕ, take, nat_cmp}
 use Rattle.std.specs.BTreeMap.{get}
-use Rattle.told_folder.specs.Work.{cleared}
+use Rattle.told_folder.specs.FolderTelling.{cleared}
 use Rattle.told_folder.proofs.telling.clear_marks.Given as goal
 
 abbrev pub invariant-loop-message : goal.invariant-loop-message

@@ -3,7 +3,7 @@ use Rattle.std.specs.BTreeMap.{get}
 use Rattle.told_folder.specs.Folders.{uid_of}
 use Rattle.told_folder.specs.Keyed.{Ascends}
 use Rattle.told_folder.specs.Tell.{without_those}
-use Rattle.told_folder.specs.Work.{cleared}
+use Rattle.told_folder.specs.FolderTelling.{cleared}
 use Rattle.told_folder.specs.declared.message.Message.{Message}
 use Rattle.told_folder.proofs.VanishLemmas.{vanish_goes, filter_whole, ascends_without}
 use Rattle.told_folder.proofs.telling.tell_gone.Goals as goal

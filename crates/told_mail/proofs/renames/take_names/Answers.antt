@@ -1,6 +1,6 @@
 use Rattle.std.proofs.Common.{◌≡◌, ◌∙◌, List, length, map, ap, sym, subst, arith}
 use Rattle.told_folder.specs.Index.{IsIndexed}
-use Rattle.told_folder.specs.declared.message.Held.{Held}
+use Rattle.told_folder.specs.declared.message.NumberedFolder.{NumberedFolder}
 use Rattle.told_mail.specs.reading.Renaming.{named_by}
 use Rattle.told_mail.proofs.RenameLemmas.{popped, left_step, marks_step, all_taken, all_indexed}
 use Rattle.told_mail.proofs.renames.take_names.Goals as goal
@@ -25,7 +25,7 @@ returns-clause-names c = λ name all.
     let none : length c.loop-held.folders.items ≡ 0 = omega (arith, c.in_default.ensures.cases) in
     let from : c.args.names.items ≡ map name c.from_vec-folders.result.items = all ∙ ap (map name) (sym c.from_vec-folders.ensures.items) in
     all_taken name c.loop-held.left.items c.loop-held.folders.items c.args.folders.items none
-    (c.loop-held.invariant.left name from ∙ ap (λ (zs : List Held). named_by name zs) c.from_vec-folders.ensures.items)
+    (c.loop-held.invariant.left name from ∙ ap (λ (zs : List NumberedFolder). named_by name zs) c.from_vec-folders.ensures.items)
 
 pub returns-clause-marks : goal.returns-clause-marks
 returns-clause-marks c = λ name all nm i.
@@ -34,6 +34,6 @@ returns-clause-marks c = λ name all nm i.
     let from : c.args.names.items ≡ map name c.from_vec-folders.result.items = all ∙ ap (map name) (sym same) in
     let done : c.loop-held.left.items ≡ named_by name c.args.folders.items =
     all_taken name c.loop-held.left.items c.loop-held.folders.items c.args.folders.items none
-    (c.loop-held.invariant.left name from ∙ ap (λ (zs : List Held). named_by name zs) same) in
+    (c.loop-held.invariant.left name from ∙ ap (λ (zs : List NumberedFolder). named_by name zs) same) in
     all_indexed name c.loop-held.left.items c.loop-held.folders.items c.args.folders.items c.loop-held.marks nm none done
-    (c.loop-held.invariant.marks name from nm (subst (λ (zs : List Held). IsIndexed zs c.args.marks.now nm) (sym same) i))
+    (c.loop-held.invariant.marks name from nm (subst (λ (zs : List NumberedFolder). IsIndexed zs c.args.marks.now nm) (sym same) i))

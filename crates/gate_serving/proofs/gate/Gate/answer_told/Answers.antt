@@ -1,46 +1,27 @@
-use Rattle.std.proofs.Common.{◌∙◌, Bool, refl, sym, ap, subst}
-use Rattle.gate_world.specs.Causes.{Faults, Hidden, LinkAlone}
+use Rattle.std.proofs.Common.{◌≡◌, ◌∙◌, sym, ap, subst}
+use Rattle.std.specs.Option.{option_copied}
+use Rattle.gate_world.specs.Causes.{Faults}
 use Rattle.gate_world.specs.Tape.{Adds}
-use Rattle.imap_client.specs.LinkLife.{ClientState}
-use Rattle.imap_exchange.specs.Answering.{HangsUp}
-use Rattle.gate_machine.specs.Lending.{Moment, SourceState}
-use Rattle.gate_machine.proofs.Asking.{same_on}
-use Rattle.mail_state.specs.State.{IsStateOf}
-use Rattle.mail_state.specs.declared.state.MailState.{MailState}
+use Rattle.gate_machine.specs.Progress.{CameTo, Progress}
+use Rattle.gate_machine.specs.declared.mail_status.MailStatus.TheVariants.{Stands}
 use Rattle.gate_serving.specs.Gates.{account_by}
-use Rattle.gate_serving.specs.declared.gate.Gate.{Gate}
-use Rattle.gate_serving.proofs.Answering.{counts_of, finished, goes_on_of, on_err, on_ok}
-use Rattle.gate_serving.proofs.gate.Gate.answer_told.Given as given
+use Rattle.gate_serving.specs.Requests.{Asking, Download}
+use Rattle.gate_serving.specs.reading.Askings.{over_mail_data}
+use Rattle.gate_serving.specs.reading.Replying.{Finishes}
 use Rattle.gate_serving.proofs.gate.Gate.answer_told.Goals as goal
 
--- the source and the outside, as bodies are asked
-abbrev moment : (g : given.Over) → SourceState × g.row.W.Denot → Moment
-moment g s =
-    record { source = s.0; tape = g.W.Taped.tape s.1; faults = g.W.Taped.faults s.1; hidden = g.W.Taped.hidden s.1 }
+pub returns-in-Calls-clause-run : goal.returns-in-Calls-clause-run
+returns-in-Calls-clause-run g c =
+    subst (λ (a : Asking). Adds (g.W.Taped.tape c.args.world.now) (g.W.Taped.tape c.answer_calls.new.world) (λ es. (p : Progress) (was : Faults)
+    → CameTo c.args.self.now.machine c.args.client Stands was (g.W.Taped.faults c.args.world.now) p
+    → Finishes c.args.self.now.door (account_by c.args.self.now (g.W.Taped.hidden c.args.world.now)) c.args.self.now.uploads a p c.answer_calls.new.self.machine was
+    (g.W.Taped.faults c.answer_calls.new.world) c.answer_calls.result es)) (sym (ap over_mail_data c.in-Calls.is)) c.answer_calls.ensures.run
 
-pub take_back-client-requires : goal.take_back-client-requires
-take_back-client-requires g c =
-    same_on c.lend-served.ensures.same (counts_of (moment g) _ _ _ _ c.response_over-made.result c.response_over-made.ensures)
-
-pub returns-clause-run : goal.returns-clause-run
-returns-clause-run g c =
-    finished
-    c.lend-served.ensures.lent
-    (λ k is. record { mail = subst (λ (s : MailState). IsStateOf k.history s) (sym c.state.ensures) is; uploads = refl })
-    (subst (λ (b : Bool). Adds (g.W.Taped.tape c.response_over-made.new.world) (g.W.Taped.tape c.leave.new.link) (HangsUp b))
-    (ap (λ (x : ClientState). x.alive) c.take_back-client.ensures.client) c.leave.ensures.tape)
-    c.leave.ensures.cause
-    (moment g) (c.lend-served.result.1, c.args.world.now) (c.response_over-made.new.bodies, c.response_over-made.new.world) c.unless_lacking.result
-    c.response_over-made.result c.take_back-client.new.self (λ (h : Hidden). account_by c.args.self.now h) (g.W.Taped.hidden c.args.world.now) refl refl refl
-    c.unless_lacking.ensures.made c.response_over-made.ensures c.take_back-client.ensures.held
-    (on_ok (λ (gate : Gate). gate.machine) _ _ c.unless_lacking.result c.unless_lacking.ensures.ok)
-    (on_err (λ (gate : Gate). gate.machine.known) _ _ c.unless_lacking.result c.unless_lacking.ensures.err)
-
-pub returns-clause-alone : goal.returns-clause-alone
-returns-clause-alone g c =
-    subst (λ (f : Faults). LinkAlone (g.W.Taped.faults c.args.world.now) f) (sym c.leave.ensures.cause)
-    (goes_on_of (moment g) _ _ _ _ c.response_over-made.result c.response_over-made.ensures).alone
-
-pub returns-clause-hidden : goal.returns-clause-hidden
-returns-clause-hidden g c =
-    c.leave.ensures.hidden ∙ (goes_on_of (moment g) _ _ _ _ c.response_over-made.result c.response_over-made.ensures).hidden
+pub returns-in-Download-clause-run : goal.returns-in-Download-clause-run
+returns-in-Download-clause-run g c =
+    let same : Download c.as_slice.result.now (option_copied c.media_of.result) ≡ over_mail_data c.args.asking.now =
+    (λ i. Download (c.as_slice.ensures i) (c.media_of.ensures i)) ∙ sym (ap over_mail_data c.in-Download.is) in
+    subst (λ (a : Asking). Adds (g.W.Taped.tape c.args.world.now) (g.W.Taped.tape c.answer_download.new.world) (λ es. (p : Progress) (was : Faults)
+    → CameTo c.args.self.now.machine c.args.client Stands was (g.W.Taped.faults c.args.world.now) p
+    → Finishes c.args.self.now.door (account_by c.args.self.now (g.W.Taped.hidden c.args.world.now)) c.args.self.now.uploads a p c.answer_download.new.self.machine was
+    (g.W.Taped.faults c.answer_download.new.world) c.answer_download.result es)) same c.answer_download.ensures.run

@@ -1,5 +1,5 @@
 use Rattle.std.proofs.Common.{◌∙◌, List, ap, arith}
-use Rattle.told_folder.specs.declared.message.Held.{Held}
+use Rattle.told_folder.specs.declared.message.NumberedFolder.{NumberedFolder}
 use Rattle.mail_rows.specs.NumberedRows.{NumberedRows}
 use Rattle.mail_rows.specs.Taking.{TakesMail}
 use Rattle.mail_rows.proofs.FollowLemmas.{takes, next_after, touches_between, no_fewer}
@@ -22,7 +22,7 @@ touches_of-requires c =
 
 pub returns : goal.returns
 returns c =
-    let hs : List Held = c.args.mirror.now.mail.folders in
+    let hs : List NumberedFolder = c.args.mirror.now.mail.folders in
     let after : NumberedRows = c.in_ok-emails-2.emails in
     let t : TakesMail c.args.self hs after =
     takes c.args.self c.in_ok-emails.field-0.emails hs c.in_ok-arrivals.arrivals.items after c.in_ok-emails.ensures.emails c.in_ok-arrivals.ensures c.in_ok-emails-2.ensures in

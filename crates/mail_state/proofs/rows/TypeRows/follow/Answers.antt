@@ -1,5 +1,5 @@
 use Rattle.std.proofs.Common.{List, ◌∙◌, ap, subst}
-use Rattle.told_folder.specs.declared.message.Held.{Held}
+use Rattle.told_folder.specs.declared.message.NumberedFolder.{NumberedFolder}
 use Rattle.mail_maps.specs.Mailboxes.{mailboxes_of}
 use Rattle.mail_maps.specs.Threads.{threads_of}
 use Rattle.mail_rows.specs.NumberedRows.{NumberedRows}
@@ -17,7 +17,7 @@ pub invariant_of-rows : goal.invariant_of-rows
 invariant_of-rows c =
     let old : NumberedRows = c.self.inside.emails in
     let now : NumberedRows = c.in_ok-emails.emails in
-    let hs : List Held = c.args.mirror.now.mail.folders in
+    let hs : List NumberedFolder = c.args.mirror.now.mail.folders in
     let order : InOrder old = record { sorted = c.are_in_order.ensures.sorted; under = as_under old.next old.rows c.are_in_order.ensures.below } in
     let boxes = c.in_ok-mailboxes.ensures.steps (boxes_stay old hs now c.self.inside.folders.items c.self.inside.mailboxes.entries _ _ order c.in_ok-emails.ensures.takes
     c.self.invariant.1 c.rows-now.ensures (c.as_slice.ensures.value ∙ c.in_ok-emails.ensures.touches)) in
@@ -33,7 +33,7 @@ returns c =
     let before : ServedRows = record { numbered = c.self.inside.emails; mailboxes = c.self.inside.mailboxes.entries; threads = c.self.inside.threads.entries } in
     let now : ServedRows = record { numbered = c.in_ok-emails.emails; mailboxes = c.in_ok-mailboxes.mailboxes.entries; threads = c.in_ok-threads.threads.entries } in
     let touches : Touches = record { mailbox = c.in_ok-mailboxes.mailbox.items; email = c.in_ok-emails.email.items; thread = c.in_ok-threads.thread.items } in
-    let hs : List Held = c.args.mirror.now.mail.folders in
+    let hs : List NumberedFolder = c.args.mirror.now.mail.folders in
     let order : InOrder before.numbered = record {
       sorted = c.are_in_order.ensures.sorted;
       under = as_under before.numbered.next before.numbered.rows c.are_in_order.ensures.below;

@@ -1,11 +1,11 @@
 use Rattle.std.proofs.Common.{◌<◌, List, length, suc}
-use Rattle.told_folder.specs.declared.message.Held.{Held}
+use Rattle.told_folder.specs.declared.message.NumberedFolder.{NumberedFolder}
 use Rattle.told_mail.proofs.ToldLemmas.{names_end, indexed_end, below_take, below_drop, below_append}
 use Rattle.told_mail.proofs.mirror.Mirror.cut_at_place.Goals as goal
 
 pub invariant_of-self : goal.invariant_of-self
 invariant_of-self c =
-    let hs : List Held = c.self.inside.folders.items in
+    let hs : List NumberedFolder = c.self.inside.folders.items in
     let within : c.args.at < length hs = rw (← c.self.view_is) at c.requires in
     rw c.remove-held.ensures.items (record {
       index = indexed_end hs c.args.at c.remove-held.result c.self.inside.marks c.clear_marks.new.marks c.self.inside.next_mark within

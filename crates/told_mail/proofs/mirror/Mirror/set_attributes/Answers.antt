@@ -1,7 +1,7 @@
 use Rattle.std.proofs.Common.{◌≡◌, ◌<◌, ◌∙◌, List, length, ap, sym, refl, true}
 use Rattle.told_folder.specs.Folders.{folder_number}
 use Rattle.told_folder.specs.Places.{IsFreeAt, IsHeldAt}
-use Rattle.told_folder.specs.declared.message.Held.{Held}
+use Rattle.told_folder.specs.declared.message.NumberedFolder.{NumberedFolder}
 use Rattle.told_folder.proofs.FolderLemmas.{set_here}
 use Rattle.told_mail.specs.Mail.{Mail, with_attributes}
 use Rattle.told_mail.specs.Told.{Told}
@@ -23,8 +23,8 @@ returns-in_default-clause-counted c =
 
 pub returns-then-are_same-clause-mail : goal.returns-then-are_same-clause-mail
 returns-then-are_same-clause-mail c =
-    let hs : List Held = c.self.inside.folders.items in
-    let k : Held = c.index_mut-held.result.now in
+    let hs : List NumberedFolder = c.self.inside.folders.items in
+    let k : NumberedFolder = c.index_mut-held.result.now in
     let held : IsHeldAt folder_number c.args.folder hs c.in-Ok.at = rw c.as_slice.ensures.value at c.in-Ok.ensures in
     mail_same _ _ _ _ _ _ (set_here hs c.in-Ok.at k held.within c.index_mut-held.ensures.value) refl refl
     ∙ (sym (attributes_kept hs c.in-Ok.at c.args.folder k c.args.attributes c.self.inside.next_mark c.self.inside.next_folder c.self.invariant.index.numbers held
@@ -33,8 +33,8 @@ returns-then-are_same-clause-mail c =
 
 pub returns-then-are_same-clause-counted : goal.returns-then-are_same-clause-counted
 returns-then-are_same-clause-counted c =
-    let hs : List Held = c.self.inside.folders.items in
-    let k : Held = c.index_mut-held.result.now in
+    let hs : List NumberedFolder = c.self.inside.folders.items in
+    let k : NumberedFolder = c.index_mut-held.result.now in
     let held : IsHeldAt folder_number c.args.folder hs c.in-Ok.at = rw c.as_slice.ensures.value at c.in-Ok.ensures in
     let kept : with_attributes (record { folders = hs; next_mark = c.self.inside.next_mark; next_folder = c.self.inside.next_folder }) c.args.folder c.args.attributes
     ≡ record { folders = hs; next_mark = c.self.inside.next_mark; next_folder = c.self.inside.next_folder } =
@@ -44,14 +44,14 @@ returns-then-are_same-clause-counted c =
 
 pub invariant_of-self-2 : goal.invariant_of-self-2
 invariant_of-self-2 c =
-    let hs : List Held = c.self.inside.folders.items in
-    let k : Held = c.index_mut-held.result.now in
+    let hs : List NumberedFolder = c.self.inside.folders.items in
+    let k : NumberedFolder = c.index_mut-held.result.now in
     let within : c.in-Ok.at < length hs = rw c.as_slice.ensures.value at c.in-Ok.ensures.within in
     lined_at hs c.in-Ok.at k (record k.folder { attributes = c.args.attributes }) k.folder.delimiter c.args.attributes _ _ _ _ within c.index_mut-held.ensures.value refl c.self.invariant
 
 pub returns-clause-mail : goal.returns-clause-mail
 returns-clause-mail c =
-    let hs : List Held = c.self.inside.folders.items in
+    let hs : List NumberedFolder = c.self.inside.folders.items in
     let held : IsHeldAt folder_number c.args.folder hs c.in-Ok.at = rw c.as_slice.ensures.value at c.in-Ok.ensures in
     attributes_put hs c.in-Ok.at c.args.folder c.index_mut-held.result.now c.args.attributes c.self.inside.next_mark c.self.inside.next_folder c.self.invariant.index.numbers held
     c.index_mut-held.ensures.value c.self.invariant.folders
@@ -59,8 +59,8 @@ returns-clause-mail c =
 
 pub returns-clause-same : goal.returns-clause-same
 returns-clause-same c = λ stays.
-    let hs : List Held = c.self.inside.folders.items in
-    let k : Held = c.index_mut-held.result.now in
+    let hs : List NumberedFolder = c.self.inside.folders.items in
+    let k : NumberedFolder = c.index_mut-held.result.now in
     let held : IsHeldAt folder_number c.args.folder hs c.in-Ok.at = rw c.as_slice.ensures.value at c.in-Ok.ensures in
     let same : with_attributes (record { folders = hs; next_mark = c.self.inside.next_mark; next_folder = c.self.inside.next_folder }) c.args.folder c.args.attributes
     ≡ record { folders = hs; next_mark = c.self.inside.next_mark; next_folder = c.self.inside.next_folder } =

@@ -2,7 +2,7 @@ use Rattle.std.proofs.Common.{◌≡◌, ◌<◌, ◌∙◌, List, Some, length,
 use Rattle.told_folder.specs.Folders.{folder_number, uid_of, message_in}
 use Rattle.told_folder.specs.Keyed.{with_key}
 use Rattle.told_folder.specs.Places.{IsFreeAt}
-use Rattle.told_folder.specs.declared.message.Held.{Held}
+use Rattle.told_folder.specs.declared.message.NumberedFolder.{NumberedFolder}
 use Rattle.told_folder.proofs.FolderLemmas.{ascend_in}
 use Rattle.told_folder.proofs.IndexLemmas.{here, IsHere, messages_here}
 use Rattle.told_mail.specs.Mail.{Mail, with_flags}
@@ -36,8 +36,8 @@ set_flags_in-requires c =
 
 pub invariant_of-self : goal.invariant_of-self
 invariant_of-self c =
-    let hs : List Held = c.self.inside.folders.items in
-    let k : Held = c.index_mut-held.result.now in
+    let hs : List NumberedFolder = c.self.inside.folders.items in
+    let k : NumberedFolder = c.index_mut-held.result.now in
     let h : IsHere hs c.args.folder c.in-Ok.at k =
     here _ c.as_slice.result.now _ _ _ c.as_slice.ensures.value c.self.invariant.index.numbers c.in-Ok.ensures c.index_mut-held.ensures.value in
     let within : c.in-Ok.at < length hs = rw c.as_slice.ensures.value at c.in-Ok.ensures.within in
@@ -52,8 +52,8 @@ invariant_of-self c =
 
 pub returns-clause-mail : goal.returns-clause-mail
 returns-clause-mail c =
-    let hs : List Held = c.self.inside.folders.items in
-    let k : Held = c.index_mut-held.result.now in
+    let hs : List NumberedFolder = c.self.inside.folders.items in
+    let k : NumberedFolder = c.index_mut-held.result.now in
     let h : IsHere hs c.args.folder c.in-Ok.at k =
     here _ c.as_slice.result.now _ _ _ c.as_slice.ensures.value c.self.invariant.index.numbers c.in-Ok.ensures c.index_mut-held.ensures.value in
     let other : with_flags c.args.self.now.mail c.args.folder c.args.uid c.args.flags ≡ c.args.self.now.mail → ⊥ =

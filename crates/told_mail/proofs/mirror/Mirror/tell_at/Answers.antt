@@ -1,5 +1,5 @@
 use Rattle.std.proofs.Common.{◌∙◌, sym, ap, subst, ◌<◌, List, refl, length}
-use Rattle.told_folder.specs.declared.message.Held.{Held}
+use Rattle.told_folder.specs.declared.message.NumberedFolder.{NumberedFolder}
 use Rattle.told_folder.specs.declared.message.Folder.{Folder}
 use Rattle.told_folder.proofs.FolderLemmas.{ascend_in, held_same}
 use Rattle.told_mail.proofs.ListLemmas.{on_ok_both}
@@ -10,21 +10,21 @@ use Rattle.told_mail.proofs.mirror.Mirror.tell_at.Goals as goal
 
 pub new-messages-requires : goal.new-messages-requires
 new-messages-requires c =
-    let hs : List Held = c.self.inside.folders.items in
+    let hs : List NumberedFolder = c.self.inside.folders.items in
     let within : c.args.at < length hs = rw (← c.self.view_is) at c.requires in
     rw c.take_messages-taken.ensures.taken (ascend_in hs _ c.index_mut-held.result.now c.self.invariant.index.uids
     (sym (here_at_place hs c.args.at c.index_mut-held.result.now c.self.invariant.index.numbers within c.index_mut-held.ensures.value).found))
 
 pub tell_exchange-done-requires : goal.tell_exchange-done-requires
 tell_exchange-done-requires c =
-    let hs : List Held = c.self.inside.folders.items in
+    let hs : List NumberedFolder = c.self.inside.folders.items in
     let within : c.args.at < length hs = rw (← c.self.view_is) at c.requires in
     rw (c.new-messages.ensures, c.take_messages-taken.ensures.taken) (ascend_in hs _ c.index_mut-held.result.now c.self.invariant.index.uids
     (sym (here_at_place hs c.args.at c.index_mut-held.result.now c.self.invariant.index.numbers within c.index_mut-held.ensures.value).found))
 
 pub invariant_of-self : goal.invariant_of-self
 invariant_of-self c =
-    let hs : List Held = c.self.inside.folders.items in
+    let hs : List NumberedFolder = c.self.inside.folders.items in
     let within : c.args.at < length hs = rw (← c.self.view_is) at c.requires in
     record {
       index = (
@@ -56,7 +56,7 @@ invariant_of-self c =
 
 pub returns-clause-ok : goal.returns-clause-ok
 returns-clause-ok c =
-    let hs : List Held = c.self.inside.folders.items in
+    let hs : List NumberedFolder = c.self.inside.folders.items in
     let within : c.args.at < length hs = rw (← c.self.view_is) at c.requires in
     rw (← c.self.view_is)
     (on_ok_both c.tell_exchange-done.result (λ told next k isk.
@@ -75,7 +75,7 @@ returns-clause-ok c =
 
 pub returns-clause-numbers : goal.returns-clause-numbers
 returns-clause-numbers c =
-    let hs : List Held = c.self.inside.folders.items in
+    let hs : List NumberedFolder = c.self.inside.folders.items in
     let within : c.args.at < length hs = rw (← c.self.view_is) at c.requires in
     rw (← c.self.view_is)
     (numbers_set hs c.args.at c.index_mut-held.result.now _ c.self.inside.next_mark c.tell_exchange-done.new.work.next_mark c.self.inside.next_folder within

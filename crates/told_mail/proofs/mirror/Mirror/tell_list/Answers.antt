@@ -1,5 +1,5 @@
 use Rattle.std.proofs.Common.{◌≡◌, ◌∙◌, ℕ, List, ap, sym, subst}
-use Rattle.told_folder.specs.declared.message.Held.{Held}
+use Rattle.told_folder.specs.declared.message.NumberedFolder.{NumberedFolder}
 use Rattle.told_folder.proofs.OpenLemmas.{on_ok_map}
 use Rattle.told_mail.specs.Lists.{listed, new_names, with_new_folders}
 use Rattle.told_mail.specs.Mail.{Mail}
@@ -12,17 +12,17 @@ use Rattle.told_mail.proofs.mirror.Mirror.tell_list.Goals as goal
 
 pub add_folders-requires-clause-free : goal.add_folders-requires-clause-free
 add_folders-requires-clause-free c =
-    let hs : List Held = c.self.inside.folders.items in
+    let hs : List NumberedFolder = c.self.inside.folders.items in
     let rs = c.args.responses.now in
     let names : c.in_ok-names.names.items ≡ new_names hs rs = new_names_are (place_in c.self.inside.numbers) hs rs (names_in c.in_ok-lines.lines) c.in_ok-names.names.items
     c.self.invariant.names c.self.invariant.index.numbers (c.in_ok-lines.ensures.names ∙ names_whole rs) c.in_ok-names.ensures.names in
     let folders : c.list_folders.new.self.mail.folders ≡ listed rs hs = ap (λ (k : Mail). k.folders) (rw (← c.self.view_is) at c.in_ok-list_folders.ensures.ok) in
     rw c.as_slice.ensures.value (subst (λ (qs : List (List ℕ)). AllFree c.list_folders.new.self.mail.folders qs) (sym names)
-    (subst (λ (ks : List Held). AllFree ks (new_names hs rs)) (sym folders) (free_new rs hs)))
+    (subst (λ (ks : List NumberedFolder). AllFree ks (new_names hs rs)) (sym folders) (free_new rs hs)))
 
 pub returns-clause-ok : goal.returns-clause-ok
 returns-clause-ok c =
-    let hs : List Held = c.self.inside.folders.items in
+    let hs : List NumberedFolder = c.self.inside.folders.items in
     let rs = c.args.responses.now in
     let names : c.in_ok-names.names.items ≡ new_names hs rs = new_names_are (place_in c.self.inside.numbers) hs rs (names_in c.in_ok-lines.lines) c.in_ok-names.names.items
     c.self.invariant.names c.self.invariant.index.numbers (c.in_ok-lines.ensures.names ∙ names_whole rs) c.in_ok-names.ensures.names in
@@ -34,7 +34,7 @@ returns-clause-ok c =
 
 pub returns-clause-known : goal.returns-clause-known
 returns-clause-known c = λ k.
-    let hs : List Held = c.self.inside.folders.items in
+    let hs : List NumberedFolder = c.self.inside.folders.items in
     let rs = c.args.responses.now in
     let names : c.in_ok-names.names.items ≡ new_names hs rs = new_names_are (place_in c.self.inside.numbers) hs rs (names_in c.in_ok-lines.lines) c.in_ok-names.names.items
     c.self.invariant.names c.self.invariant.index.numbers (c.in_ok-lines.ensures.names ∙ names_whole rs) c.in_ok-names.ensures.names in

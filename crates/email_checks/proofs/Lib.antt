@@ -1,0 +1,4 @@
+mod SetLemmas
+mod MissingLemmas
+mod RepeatLemmas
+mod ValueLemmas

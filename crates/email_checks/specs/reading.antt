@@ -1,0 +1,4 @@
+-- What the code has, as definitions have it: clauses and proofs speak of it.
+pub mod Sets
+pub mod Tests
+pub mod Updates

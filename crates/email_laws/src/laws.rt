@@ -1,0 +1,19 @@
+// What the jobs of updates and destroys of Emails are.
+ghost use Rattle.std.specs.Prelude.{◌≡◌, ℕ, List, Ok};
+ghost use Rattle.serde_json.specs.Data.{Members};
+ghost use Rattle.set_jobs.specs.declared.job.Job.{Job};
+ghost use Rattle.set_items.specs.Commands.{IsFit, appends_of};
+ghost use Rattle.set_given.specs.Given.{Given};
+ghost use Rattle.email_checks.specs.Emails.{update_email, destroy_email};
+
+/// The commands of an item that passes its checks have to be obeyed, but for EXPUNGE, and it makes and lists no folder.
+pub fn email_items_are_fit()
+    ensures update { (g : Given) (text : List ℕ) (patch : Members) (job : Job) → update_email g text patch ≡ Ok job → IsFit job }
+    ensures destroy { (g : Given) (text : List ℕ) (job : Job) → destroy_email g text ≡ Ok job → IsFit job }
+{}
+
+/// No update and no destroy of an Email sends an APPEND.
+pub fn email_items_append_nothing()
+    ensures update { (g : Given) (text : List ℕ) (patch : Members) (job : Job) → update_email g text patch ≡ Ok job → appends_of job.steps ≡ 0 }
+    ensures destroy { (g : Given) (text : List ℕ) (job : Job) → destroy_email g text ≡ Ok job → appends_of job.steps ≡ 0 }
+{}

@@ -1,0 +1,6 @@
+//! What the definitions of the items of Email/set promise, as clauses of functions that do nothing.
+#![tactic(auto)]
+
+mod laws;
+
+pub use laws::{email_items_append_nothing, email_items_are_fit};

@@ -1,0 +1,5 @@
+mod Doing
+mod Settling
+mod Ends
+mod Telling
+mod Keeping

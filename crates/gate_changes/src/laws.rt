@@ -1,0 +1,46 @@
+//! What the definitions of changing calls over a machine promise, as clauses of functions that do nothing.
+ghost use Rattle.std.specs.Prelude.{◌≡◌, ◌≢◌, List, Result, false};
+ghost use Rattle.gate_world.specs.declared.event.Event.{Event};
+ghost use Rattle.jmap_arguments.specs.declared.method_error.MethodError.{MethodError};
+ghost use Rattle.gate_machine.specs.Going.{MachineGoesOn};
+ghost use Rattle.gate_machine.specs.Progress.{Progress, is_up};
+ghost use Rattle.gate_machine.specs.ServedFolders.{TellsServedFolders};
+ghost use Rattle.gate_machine.specs.Sources.{KnowsExchanges};
+ghost use Rattle.gate_machine.specs.declared.mail_status.MailFailure.TheVariants.{Broken};
+ghost use Rattle.gate_machine.specs.declared.mail_status.MailStatus.TheVariants.{Stands, Unserved};
+ghost use Rattle.set_jobs.specs.declared.done.Done.{Done};
+ghost use Rattle.set_order.specs.Ordered.{Item};
+ghost use Rattle.set_calls.specs.Calls.{SetCall};
+ghost use Rattle.gate_changes.specs.Changing.{ChangesMail, LacksChange};
+
+use mail_state::laws::emails_have_their_messages;
+
+/// Over a call that changes mail the history that is served goes on; where there was no memory for it the machine isn't ready.
+pub fn changes_keep_history()
+    ensures changes { (call : SetCall) (items : List Item) (before : Progress) (result : Result (List (Item × Done)) MethodError) (events : List Event) (after : Progress)
+        → ChangesMail call items before result events after → MachineGoesOn before.machine events after.machine }
+    ensures lacks { (call : SetCall) (items : List Item) (before : Progress) (events : List Event) (after : Progress)
+        → LacksChange call items before events after → MachineGoesOn before.machine events after.machine }
+{}
+
+/// What the machine knows after such a call comes of exchanges, as before it.
+pub fn changes_come_of_exchanges()
+    ensures changes { (call : SetCall) (items : List Item) (before : Progress) (result : Result (List (Item × Done)) MethodError) (events : List Event) (after : Progress)
+        → ChangesMail call items before result events after → KnowsExchanges before.machine → KnowsExchanges after.machine }
+    ensures lacks { (call : SetCall) (items : List Item) (before : Progress) (events : List Event) (after : Progress)
+        → LacksChange call items before events after → KnowsExchanges before.machine → KnowsExchanges after.machine }
+{}
+
+/// Where later calls have the mail, the folder of each Email that is served is told.
+pub fn changes_tell_served_folders()
+    ensures { (call : SetCall) (items : List Item) (before : Progress) (result : Result (List (Item × Done)) MethodError) (events : List Event) (after : Progress)
+        → ChangesMail call items before result events after → KnowsExchanges before.machine → after.standing ≡ Stands → TellsServedFolders after.machine }
+{
+    emails_have_their_messages();
+}
+
+/// Where they don't have it, the link life has ended.
+pub fn broken_calls_hang_up()
+    ensures { (call : SetCall) (items : List Item) (before : Progress) (result : Result (List (Item × Done)) MethodError) (events : List Event) (after : Progress)
+        → ChangesMail call items before result events after → after.standing ≢ Stands → (after.standing ≡ Unserved Broken) × (is_up after.left ≡ false) }
+{}

@@ -1,0 +1,3 @@
+pub mod EmailLemmas
+pub mod ServedLemmas
+pub mod UnchangedLemmas

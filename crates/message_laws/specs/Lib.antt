@@ -1,0 +1,3 @@
+pub mod SafeTexts
+pub mod Headers
+pub mod ReadBack

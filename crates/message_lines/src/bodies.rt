@@ -1,0 +1,65 @@
+// Bodies of leaves, in base64 (RFC 2045 section 6.8).
+ghost use Rattle.std.specs.Prelude.{◌≡◌, ◌++◌, length, IfOk, OnOk};
+ghost use Rattle.base64.specs.Engines.{standard};
+ghost use Rattle.base64.specs.GeneralPurpose.{encode_of};
+ghost use Rattle.message_lines.specs.Bodies as bodies;
+ghost use Rattle.message_lines.specs.Folding.{crlf};
+
+use base64::engine::general_purpose::STANDARD;
+use std::alloc::{AllocError, Global};
+
+/// The octets that a line of 76 octets encodes.
+const LINE_OCTETS: usize = 57;
+
+/// How long octets are in base64, in lines.
+pub(crate) fn base64_len(octets: &[u8]) -> u64
+    ensures { result ≡ length (bodies.base64_lines octets.now) }
+{
+    let len = octets.len() as u64;
+    let symbols = len.div_ceil(3) * 4;
+    symbols + symbols.div_ceil(76) * 2
+}
+
+/// Adds octets in base64, and the end of their line. What `line` has is of no account: it is there to keep its memory.
+fn push_line(text: &mut Vec<u8>, line: &mut String, octets: &[u8]) -> Result<(), AllocError>
+    ensures { OnOk result (text.new.items ≡ text.old.items ++ (encode_of standard octets.now ++ crlf)) }
+{
+    line.clear();
+    STANDARD.encode_string(octets, line)?;
+    text.extend_from_slice(line.as_bytes())?;
+    text.extend_from_slice(b"\r\n")
+}
+
+/// Adds octets in base64, in lines.
+pub(crate) fn push_base64(
+    text: &mut Vec<u8>,
+    line: &mut String,
+    octets: &[u8],
+) -> Result<(), AllocError>
+    ensures { OnOk result (text.new.items ≡ text.old.items ++ bodies.base64_lines octets.now) }
+{
+    let mut rest = octets;
+    while !rest.is_empty() {
+        let (front, behind) = rest.split_at(rest.len().min(LINE_OCTETS));
+        push_line(text, line, front)?;
+        rest = behind;
+    }
+    Ok(())
+}
+
+/// The value of a text with CR LF at the end of each line.
+#[tactic(auto, unfolding(crate::specs::Bodies::with_crlf))]
+pub fn with_crlf(alloc: Global, value: &[u8]) -> Result<Vec<u8>, AllocError>
+    ensures { IfOk result (λ v. v.items ≡ bodies.with_crlf value.now) }
+{
+    let mut text = Vec::new(alloc);
+    let mut behind_cr = false;
+    for octet in value {
+        if *octet == b'\n' && !behind_cr {
+            text.push(b'\r')?;
+        }
+        text.push(*octet)?;
+        behind_cr = *octet == b'\r';
+    }
+    Ok(text)
+}

@@ -1,0 +1,4 @@
+pub mod AddressLemmas
+pub mod DateLemmas
+pub mod FieldLemmas
+pub mod PartLemmas

@@ -1,0 +1,5 @@
+pub mod DateTexts
+pub mod AddressTexts
+pub mod Parts
+pub mod Fields
+pub mod Messages

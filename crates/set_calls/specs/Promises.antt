@@ -1,0 +1,41 @@
+-- What laws say of the items of a call.
+use Rattle.std.specs.Prelude.{◌≡◌, ◌≤◌, ℕ, ◌+◌, List, [], ◌∷◌, Ok}
+use Rattle.gate_world.specs.declared.event.Event.{Event}
+use Rattle.set_jobs.specs.declared.done.Done.{Done}
+use Rattle.set_jobs.specs.declared.job.Job.{Job}
+use Rattle.set_order.specs.Ordered.{Item, Create}
+use Rattle.set_given.specs.Given.{Given}
+use Rattle.set_items.specs.Causes.{Ending}
+use Rattle.set_items.specs.Commands.{IsFit, appends_of}
+use Rattle.set_items.specs.declared.item.ItemEnd.{ItemEnd}
+use Rattle.set_items.specs.Talks.{ending_of}
+use Rattle.set_calls.specs.Calls.{SetCall, CallState, DoesItems, StopsAt}
+
+-- The steps of an item ended the call, after the items before it; this is so of how they ended.
+pub record IsEndedBy (Why : Ending → Type 0) (c : SetCall) (before after : CallState) : Type 0 where
+  pub done : List (Item × Done)
+  pub earlier : List Event
+  pub mid : CallState
+  pub course : DoesItems c before done earlier mid
+  pub item : Item
+  pub ends : ItemEnd
+  pub last : List Event
+  pub stop : StopsAt c item mid ends last after
+  pub why : Why (ending_of mid.exchanges stop.steps.does.runs)
+
+-- each job that an item is has the steps that it may have
+abbrev pub ChecksFit : SetCall → Type 0
+ChecksFit c = (g : Given) (item : Item) (job : Job) → c.check g item ≡ Ok job → IsFit job
+
+abbrev pub creation_count : Item → ℕ
+creation_count (Create key ms) = 1
+creation_count _ = 0
+
+-- how many of the items are to make something
+abbrev pub creations_in : List Item → ℕ
+creations_in [] = 0
+creations_in (i ∷ is) = creation_count i + creations_in is
+
+-- an item that is to make something has one APPEND at most, and no other one has any
+abbrev pub ChecksAppend : SetCall → Type 0
+ChecksAppend c = (g : Given) (item : Item) (job : Job) → c.check g item ≡ Ok job → appends_of job.steps ≤ creation_count item

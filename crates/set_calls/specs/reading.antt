@@ -1,0 +1,2 @@
+-- What the code's call stands for.
+pub mod Calling

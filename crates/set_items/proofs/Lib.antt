@@ -1,0 +1,10 @@
+mod Staging
+mod Refusing
+mod Leaving
+mod Endings
+mod Broken
+mod Appending
+mod Rows
+mod Lasts
+mod Shows
+mod ItemSteps

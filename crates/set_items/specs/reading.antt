@@ -1,0 +1,2 @@
+-- What private clauses and proofs alone speak of: an item's plan.
+pub mod Running

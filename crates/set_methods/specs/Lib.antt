@@ -1,0 +1,2 @@
+-- Checks is what an item of each method has to pass.
+pub mod Checks

@@ -1,0 +1,11 @@
+mod DestroyLemmas
+mod ItemLemmas
+mod LeftLemmas
+mod MakingLemmas
+mod NextLemmas
+mod OnceByLemmas
+mod OneOrder
+mod PendingLemmas
+mod PlacingLemmas
+mod TakingLemmas
+mod WaitingLemmas

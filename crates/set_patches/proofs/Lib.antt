@@ -1,0 +1,4 @@
+mod LengthLemmas
+mod TokenLemmas
+mod OverlapLemmas
+mod NameLemmas

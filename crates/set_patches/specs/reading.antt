@@ -1,0 +1,2 @@
+-- What the code has, as definitions have it: clauses and proofs speak of it.
+pub mod Parts

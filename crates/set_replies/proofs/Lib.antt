@@ -1,0 +1,4 @@
+mod AnswerLemmas
+mod ListLemmas
+mod RowLemmas
+mod StateLemmas
