@@ -1,11 +1,13 @@
 -- What a changing call leaves of what the machine knows.
-use Rattle.std.proofs.Common.{◌≡◌, ◌≢◌, ◌∙◌, ◌++◌, false, List, [], Option, Some, None, Result, Ok, Err, refl, sym, ap, subst}
+use Rattle.std.proofs.Common.{◌≡◌, ◌≢◌, ◌∙◌, ◌++◌, ℕ, false, List, [], Option, Some, None, Result, Ok, Err, refl, sym, ap, subst}
 use Rattle.std.proofs.lemmas.List.{append-nil}
 use Rattle.gate_world.specs.declared.event.Event.{Event}
 use Rattle.imap_client.specs.LinkLife.{LinkLife}
 use Rattle.jmap_arguments.specs.declared.method_error.MethodError.{MethodError}
-use Rattle.gate_machine.specs.Beginning.{Settles}
+use Rattle.gate_machine.specs.Beginning.{Settles, Same, Moves, Spends, Lacks}
 use Rattle.gate_machine.specs.Going.{MachineGoesOn}
+use Rattle.gate_machine.specs.History.{KnownMail, served_anew}
+use Rattle.gate_machine.specs.KeptBodies.{IsAmong, KeepsBody}
 use Rattle.gate_machine.specs.Machine.{MachineState}
 use Rattle.gate_machine.specs.Progress.{Progress, is_up}
 use Rattle.gate_machine.specs.ServedFolders.{TellsServedFolders}
@@ -20,6 +22,7 @@ use Rattle.set_order.specs.Ordered.{Item}
 use Rattle.set_items.specs.declared.item.ItemEnd.TheVariants.{Comes, Ends, OutOfMemory}
 use Rattle.set_calls.specs.Calls.{SetCall}
 use Rattle.gate_changes.specs.Changing.{DoesItemsOver, GoesToCommit, ItemsCame, ChangesMail, Committed, SpentBy, FailedInPart, LacksChange, InItems, InCommit, hung}
+use Rattle.gate_changes.proofs.Doing.{one_known}
 use Rattle.gate_changes.proofs.Telling.{runs_tell}
 
 -- what goes to the commit isn't a call for which there was no memory
@@ -118,3 +121,43 @@ breaks_off call items before result events after (FailedInPart mid doing ending 
   ap (λ (p : Progress). p.standing) is,
   ap (λ (p : Progress). is_up p.left) is ∙ hung_down mid.left,
 )
+
+-- ---- bodies that are kept
+
+known_keeps : (m n : MachineState) (k l : KnownMail) (b : ℕ × List ℕ) → m.known ≡ Some k → n.known ≡ Some l → l.bodies ≡ k.bodies → KeepsBody n b → KeepsBody m b
+known_keeps m n k l b was now same keeps =
+    let is : keeps.0 ≡ l = one_known keeps.0 l (sym keeps.1 ∙ now) in
+    (k, was, subst (λ (bs : List (ℕ × List ℕ)). IsAmong b bs) (ap (λ (j : KnownMail). j.bodies) is ∙ same) keeps.2)
+
+none_keeps : (m n : MachineState) (b : ℕ × List ℕ) → n.known ≡ None → KeepsBody n b → KeepsBody m b
+none_keeps m n b none keeps = absurd (cc (sym keeps.1 ∙ none))
+
+same_keeps : (m n : MachineState) (b : ℕ × List ℕ) → n ≡ m → KeepsBody n b → KeepsBody m b
+same_keeps m n b is keeps = subst (λ (x : MachineState). KeepsBody x b) is keeps
+
+settled_keeps : (before after : Progress) (events : List Event) (b : ℕ × List ℕ) → Settles before events after → KeepsBody after.machine b → KeepsBody before.machine b
+settled_keeps before after events b (Same k stands known same none is) keeps = same_keeps before.machine after.machine b (machine_is before after is) keeps
+settled_keeps before after events b (Moves new next goes room none is) keeps =
+    known_keeps before.machine after.machine new.known (served_anew new.known next) b new.ready (ap (λ (p : Progress). p.machine.known) is) refl keeps
+settled_keeps before after events b (Spends new spent none is) keeps = none_keeps before.machine after.machine b (ap (λ (p : Progress). p.machine.known) is) keeps
+settled_keeps before after events b (Lacks stands none is) keeps = none_keeps before.machine after.machine b (ap (λ (p : Progress). p.machine.known) is) keeps
+
+does_keep : (call : SetCall) (items : List Item) (before after : Progress) (came : ItemsCame) (events : List Event) (b : ℕ × List ℕ)
+    → DoesItemsOver call items before came events after → KeepsBody after.machine b → KeepsBody before.machine b
+does_keep call items before after came events b d keeps =
+    known_keeps before.machine after.machine d.known (record d.known { told = d.told }) b d.ready (ap (λ (p : Progress). p.machine.known) d.after_is) refl keeps
+
+pub changes_keep : (call : SetCall) (items : List Item) (before : Progress) (result : Result (List (Item × Done)) MethodError) (events : List Event) (after : Progress)
+    → ChangesMail call items before result events after → (b : ℕ × List ℕ) → KeepsBody after.machine b → KeepsBody before.machine b
+changes_keep call items before result events after (Committed came mid does goes settles stands is) b keeps =
+    does_keep call items before mid came events b does (settled_keeps mid after [] b settles keeps)
+changes_keep call items before result events after (SpentBy came mid spent doing ending does goes settles why hangs whole is error) b keeps =
+    does_keep call items before mid came doing b does (settled_keeps mid spent [] b settles (same_keeps spent.machine after.machine b (machine_is _ after is) keeps))
+changes_keep call items before result events after (FailedInPart mid doing ending does hangs whole is error) b keeps =
+    does_keep call items before mid _ doing b does (same_keeps mid.machine after.machine b (machine_is _ after is) keeps)
+
+pub lacks_keep : (call : SetCall) (items : List Item) (before : Progress) (events : List Event) (after : Progress) → LacksChange call items before events after
+    → (b : ℕ × List ℕ) → KeepsBody after.machine b → KeepsBody before.machine b
+lacks_keep call items before events after (InItems mid does is) b keeps = none_keeps before.machine after.machine b (ap (λ (p : Progress). p.machine.known) is) keeps
+lacks_keep call items before events after (InCommit came mid does goes settles why) b keeps =
+    does_keep call items before mid came events b does (settled_keeps mid after [] b settles keeps)

@@ -3,3 +3,4 @@ mod Settling
 mod Ends
 mod Telling
 mod Keeping
+mod Replying

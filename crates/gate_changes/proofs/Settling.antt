@@ -1,15 +1,15 @@
 -- What the items told is served, or the call breaks off what its request does over the link.
-use Rattle.std.proofs.Common.{◌≡◌, ◌++◌, ◌∙◌, Bool, List, [], Option, Some, None, Result, Ok, Err, refl, sym, ap, subst, map, inl, inr, Vec, Global}
+use Rattle.std.proofs.Common.{◌≡◌, ◌++◌, ◌∙◌, List, [], Result, Ok, Err, refl, sym, ap, subst, map, inl, inr, Vec, Global}
 use Rattle.std.proofs.lemmas.List.{append-nil}
 use Rattle.gate_world.specs.Causes.{Faults}
 use Rattle.gate_world.specs.declared.event.Event.{Event}
 use Rattle.imap_exchange.specs.Answering.{HangsUp}
-use Rattle.imap_client.specs.LinkLife.{LinkLife, ClientState, Stands, IsLife, fresh, hung_up}
+use Rattle.imap_client.specs.LinkLife.{ClientState}
 use Rattle.jmap_arguments.specs.declared.method_error.MethodError.{MethodError}
 use Rattle.jmap_arguments.specs.declared.method_error.MethodError.TheVariants.{ServerUnavailable, ServerPartialFail, ServerFail}
 use Rattle.gate_machine.specs.Beginning.{Settles, Same, Moves, Spends, Lacks}
 use Rattle.gate_machine.specs.Holding.{unready}
-use Rattle.gate_machine.specs.Progress.{CameTo, Progress, StandsInLife, is_up, out_of_memory}
+use Rattle.gate_machine.specs.Progress.{CameTo, Progress, is_up, out_of_memory}
 use Rattle.gate_machine.specs.declared.machine.Machine.{Machine}
 use Rattle.gate_machine.specs.declared.mail_status.MailFailure.{MailFailure}
 use Rattle.gate_machine.specs.declared.mail_status.MailFailure.TheVariants as failure
@@ -23,44 +23,9 @@ use Rattle.set_calls.specs.Calls.{SetCall}
 use Rattle.set_calls.specs.declared.call.CallEnd.{CallEnd}
 use Rattle.set_calls.specs.declared.call.CallEnd.TheVariants as ends
 use Rattle.set_calls.specs.reading.Calling.{came_data, done_data}
-use Rattle.gate_changes.specs.Changing.{DoesItemsOver, GoesToCommit, ItemsCame, Committed, SpentBy, FailedInPart, InItems, InCommit, broken_off, hung}
+use Rattle.gate_changes.specs.Changing.{DoesItemsOver, GoesToCommit, ItemsCame, Committed, SpentBy, FailedInPart, InItems, InCommit, broken_off}
 use Rattle.gate_changes.specs.reading.Asking.{ChangesTo}
 use Rattle.gate_changes.proofs.Ends.{ends_either, unavailable_only}
-
--- ---- a life that is hung up
-
-life_hung : (life : LinkLife) → IsLife life → IsLife (hung_up life)
-life_hung life so = record { remaining = so.remaining; greeted = so.greeted; completed = so.completed; whole = λ never. absurd (cc never) }
-
-hung_stands : (left : Option LinkLife) (client : ClientState) → StandsInLife left client → StandsInLife (hung left) fresh
-hung_stands None client stands = refl
-hung_stands (Some life) client stands = record {
-  alive = refl;
-  selected_is = refl;
-  unread_is = λ on. absurd (cc on);
-  number_is = λ on. absurd (cc on);
-  special_use_is = λ on. absurd (cc on);
-  spelled = life_hung life stands.spelled;
-}
-
-alive_is : (left : Option LinkLife) (client : ClientState) → StandsInLife left client → client.alive ≡ is_up left
-alive_is None client stands = stands
-alive_is (Some life) client stands = stands.alive
-
--- the client has left, and no later call has the mail
-pub broken : (p : Progress) (machine : Machine) (client left : ClientState) (how : MailStatus) (was mid now : Faults) (events : List Event) → CameTo machine client how was mid p
-    → HangsUp client.alive events → left ≡ fresh → now ≡ mid
-    → HangsUp (is_up p.left) events × CameTo machine left (standing.Unserved failure.Broken) was now (broken_off p)
-broken p machine client left how was mid now events came hangs left_is still = (
-  subst (λ (b : Bool). HangsUp b events) (alive_is p.left client came.in_life) hangs,
-  subst (λ (c : ClientState). CameTo machine c (standing.Unserved failure.Broken) was now (broken_off p)) (sym left_is)
-      (subst (λ (f : Faults). CameTo machine fresh (standing.Unserved failure.Broken) was f (broken_off p)) (sym still) (record {
-        held = came.held;
-        standing_is = refl;
-        in_life = hung_stands p.left client came.in_life;
-        bears = came.bears;
-      })),
-)
 
 -- ---- the commit
 

@@ -1,2 +1,3 @@
--- What the code's call stands for.
+-- What the code's call stands for, and what it comes to.
 pub mod Asking
+pub mod Answers

@@ -1,8 +1,9 @@
 //! What the definitions of changing calls over a machine promise, as clauses of functions that do nothing.
-ghost use Rattle.std.specs.Prelude.{◌≡◌, ◌≢◌, List, Result, false};
+ghost use Rattle.std.specs.Prelude.{◌≡◌, ◌≢◌, ℕ, List, Result, false};
 ghost use Rattle.gate_world.specs.declared.event.Event.{Event};
 ghost use Rattle.jmap_arguments.specs.declared.method_error.MethodError.{MethodError};
 ghost use Rattle.gate_machine.specs.Going.{MachineGoesOn};
+ghost use Rattle.gate_machine.specs.KeptBodies.{KeepsBody};
 ghost use Rattle.gate_machine.specs.Progress.{Progress, is_up};
 ghost use Rattle.gate_machine.specs.ServedFolders.{TellsServedFolders};
 ghost use Rattle.gate_machine.specs.Sources.{KnowsExchanges};
@@ -39,7 +40,15 @@ pub fn changes_tell_served_folders()
     emails_have_their_messages();
 }
 
-/// Where they don't have it, the link life has ended.
+/// The body of an Email that is kept after such a call was kept before it.
+pub fn changes_keep_bodies()
+    ensures changes { (call : SetCall) (items : List Item) (before : Progress) (result : Result (List (Item × Done)) MethodError) (events : List Event) (after : Progress)
+        → ChangesMail call items before result events after → (b : ℕ × List ℕ) → KeepsBody after.machine b → KeepsBody before.machine b }
+    ensures lacks { (call : SetCall) (items : List Item) (before : Progress) (events : List Event) (after : Progress)
+        → LacksChange call items before events after → (b : ℕ × List ℕ) → KeepsBody after.machine b → KeepsBody before.machine b }
+{}
+
+/// Where later calls don't have the mail, the link life has ended.
 pub fn broken_calls_hang_up()
     ensures { (call : SetCall) (items : List Item) (before : Progress) (result : Result (List (Item × Done)) MethodError) (events : List Event) (after : Progress)
         → ChangesMail call items before result events after → after.standing ≢ Stands → (after.standing ≡ Unserved Broken) × (is_up after.left ≡ false) }

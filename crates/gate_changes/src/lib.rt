@@ -1,11 +1,13 @@
 //! A call that changes mail, in what is left of its request's link life: its items, and then one commit (RFC 8620 sections 3.6.2 and 5.3).
 #![tactic(auto)]
 
+mod answering;
 mod changing;
 mod laws;
 
+pub use answering::{Answered, answer_change};
 pub use changing::{Changed, change_mail};
 pub use laws::{
-    broken_calls_hang_up, changes_come_of_exchanges, changes_keep_history,
+    broken_calls_hang_up, changes_come_of_exchanges, changes_keep_bodies, changes_keep_history,
     changes_tell_served_folders,
 };

@@ -1,5 +1,5 @@
 -- What a RENAME would give (RFC 9051 section 6.3.6).
-use Rattle.std.specs.Prelude.{ℕ, ◌&&◌, ◌||◌, Bool, false, not, List, bytes_eq, is_some, Option, Some, None}
+use Rattle.std.specs.Prelude.{ℕ, ◌&&◌, ◌||◌, Bool, false, not, List, [], is_some, Option, Some, None}
 use Rattle.std.specs.List.{list_any}
 use Rattle.told_folder.specs.declared.message.Folder.{Folder}
 use Rattle.told_folder.specs.declared.message.NumberedFolder.{NumberedFolder}
@@ -10,10 +10,10 @@ abbrev pub is_under : Option ℕ → List ℕ → List ℕ → Bool
 is_under None name above = false
 is_under (Some d) name above = is_below name d above
 
--- the parent is the folder itself, or below it by the delimiter of either
+-- the parent is the folder itself or one that is renamed with it, or is below it by its delimiter
 abbrev pub is_within : Folder → Option Folder → Bool
 is_within f None = false
-is_within f (Some parent) = bytes_eq parent.name f.name || is_under f.delimiter parent.name f.name || is_under parent.delimiter parent.name f.name
+is_within f (Some parent) = is_some (renamed_name f.name [] parent) || is_under f.delimiter parent.name f.name
 
 abbrev pub is_renamed : List ℕ → List ℕ → NumberedFolder → Bool
 is_renamed from to h = is_some (renamed_name from to h.folder)

@@ -21,19 +21,6 @@ fn is_under(delimiter: Option<u8>, name: &[u8], above: &[u8]) -> bool
     }
 }
 
-/// Whether the parent is the folder itself, or below it by the delimiter of either.
-pub fn is_within(folder: &Folder, parent: Option<&Folder>) -> bool
-    ensures { result ≡ renames.is_within folder.now (option_copied parent.entry) }
-{
-    let Some(parent) = parent else {
-        return false;
-    };
-    let (name, above) = (parent.name.as_slice(), folder.name.as_slice());
-    name == above
-        || is_under(folder.delimiter, name, above)
-        || is_under(parent.delimiter, name, above)
-}
-
 /// What follows the old name in that of a folder that is renamed with it.
 fn rest_renamed<'a>(from: &[u8], folder: &'a Folder) -> Option<&'a [u8]>
     ensures { MatchOption result ((to : List ℕ) → renamed_name from.now to folder.now ≡ None)
@@ -44,6 +31,23 @@ fn rest_renamed<'a>(from: &[u8], folder: &'a Folder) -> Option<&'a [u8]>
         [] => Some(rest),
         [first, ..] if folder.delimiter == Some(*first) => Some(rest),
         _ => None,
+    }
+}
+
+/// Whether the parent is the folder itself or one that is renamed with it, or is below it by its delimiter.
+pub fn is_within(folder: &Folder, parent: Option<&Folder>) -> bool
+    ensures { result ≡ renames.is_within folder.now (option_copied parent.entry) }
+{
+    let Some(parent) = parent else {
+        return false;
+    };
+    match rest_renamed(folder.name.as_slice(), parent) {
+        Some(_) => true,
+        None => is_under(
+            folder.delimiter,
+            parent.name.as_slice(),
+            folder.name.as_slice(),
+        ),
     }
 }
 

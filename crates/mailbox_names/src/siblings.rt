@@ -33,16 +33,29 @@ pub fn is_served_as(alloc: Global, octets: &[u8], text: &str) -> Result<bool, Al
     }
 }
 
-/// What follows the parent's name and one octet, in a name that may be under it.
-fn rest_under<'a>(parent: Option<&Folder>, name: &'a [u8]) -> Option<&'a [u8]>
-    ensures { option_map (λ rest. rest.now) result ≡ rests.rest_under (option_copied parent.entry) name.now }
+/// What follows the delimiter, where that comes first.
+fn after_delimiter(delimiter: Option<u8>, octets: &[u8]) -> Option<&[u8]>
+    ensures { option_map (λ rest. rest.now) result ≡ rests.after_delimiter delimiter octets.now }
 {
+    let (first, rest) = octets.split_first()?;
+    if delimiter == Some(*first) {
+        Some(rest)
+    } else {
+        None
+    }
+}
+
+/// What follows the parent's name and the folder's delimiter; the whole name at the top level.
+fn rest_under<'a>(parent: Option<&Folder>, folder: &'a Folder) -> Option<&'a [u8]>
+    ensures { option_map (λ rest. rest.now) result ≡ rests.rest_under (option_copied parent.entry) folder.now }
+{
+    let name = folder.name.as_slice();
     let Some(parent) = parent else {
         return Some(name);
     };
     match name.strip_prefix(parent.name.as_slice()) {
-        Some([_, rest @ ..]) => Some(rest),
-        _ => None,
+        Some(rest) => after_delimiter(folder.delimiter, rest),
+        None => None,
     }
 }
 
@@ -71,7 +84,7 @@ fn is_named_child(
     requires { AreLengths lengths.now mirror.now.mail.folders }
     ensures { IfOk result (λ is. is ≡ siblings.is_named_child (folders_of mirror.now.mail.folders) (option_copied parent.entry) name.now folder.now) }
 {
-    let Some(rest) = rest_under(parent, folder.name.as_slice()) else {
+    let Some(rest) = rest_under(parent, folder) else {
         return Ok(false);
     };
     if !is_served_as(alloc, rest, name)? {
@@ -126,7 +139,7 @@ fn is_child(mirror: &Mirror, lengths: &BTreeSet<usize>, folder: &Folder, other: 
     requires { AreLengths lengths.now mirror.now.mail.folders }
     ensures { result ≡ siblings.is_child_of (folders_of mirror.now.mail.folders) (Some folder.now) other.now }
 {
-    match rest_under(Some(folder), other.name.as_slice()) {
+    match rest_under(Some(folder), other) {
         Some(_) => is_child_of(mirror, lengths, Some(folder), other),
         None => false,
     }

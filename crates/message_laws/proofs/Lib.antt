@@ -16,3 +16,4 @@ pub mod SubjectReading
 pub mod BodyReading
 pub mod LastFields
 pub mod DraftReading
+mod Rows

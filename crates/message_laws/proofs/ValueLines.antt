@@ -20,7 +20,7 @@ use Rattle.mail_drafts.specs.MediaTypes.{is_tspecial, is_token_octet, is_token, 
 use Rattle.message_lines.specs.declared.folding.Line.{Line}
 use Rattle.message_lines.specs.Folding.{FieldPiece, plain_piece, next_line, line_after}
 use Rattle.message_lines.specs.Ids.{bracketed, id_piece, hex_digit, hex_digits, drawn_id}
-use Rattle.message_lines.specs.Names.{is_word_octet, is_plain_word, words_of, IsNameText, PlainName, EncodedName}
+use Rattle.message_lines.specs.Names.{is_word_octet, is_plain_word, are_plain_words, words_of, IsNameText, PlainName, EncodedName}
 use Rattle.message_lines.specs.Subjects.{shown_subject, begins_with, has_word_mark, is_plain_subject, IsSubject, PlainSubject, EncodedSubject}
 use Rattle.message_lines.specs.Words.{word_piece, IsNextPiece, Behind, Below, AreWordsBehind, NoWord, NextWord}
 use Rattle.message_texts.specs.AddressTexts.{angle_piece, IsAddressText, Unnamed, Named, comma_before, AreAddressTexts, NoAddress, NextAddress}
@@ -60,7 +60,7 @@ plain_words (w ∷ ws) e =
     (plain_word w p.0, plain_words ws p.1)
 
 pub name_printed : (line : Line) (name : List ℕ) (ps : List FieldPiece) → IsNameText line name ps → ArePrinted ps
-name_printed line name _ (PlainName e) = plain_words (words_of name) e
+name_printed line name _ (PlainName e) = plain_words (words_of name) (and_parts (are_plain_words name) (nat_le (length name) 997) e).0
 name_printed line name _ (EncodedName ps e a) = words_printed line name ps a
 
 shown_octet : (c : ℕ) → is_between 32 126 c ≡ true → is_line_octet c ≡ true

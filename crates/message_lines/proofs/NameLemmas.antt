@@ -5,7 +5,7 @@ use Rattle.std.proofs.lemmas.List.{take_all, length-drop}
 use Rattle.text_words.specs.Cuts.{front, back}
 use Rattle.message_lines.specs.declared.folding.Line.{Line}
 use Rattle.message_lines.specs.Folding.{FieldPiece, plain_piece, laid, line_after, next_line, Lays}
-use Rattle.message_lines.specs.Names.{is_word_octet, is_no_space, words_of, onto_first, is_plain_word, is_plain_phrase, IsNameText, PlainName, EncodedName}
+use Rattle.message_lines.specs.Names.{is_word_octet, is_no_space, words_of, onto_first, is_plain_word, are_plain_words, is_plain_phrase, IsNameText, PlainName, EncodedName}
 use Rattle.message_lines.specs.Words.{AreWordsBehind}
 use Rattle.message_lines.proofs.LineLemmas.{Goes, goes_on, goes_end}
 
@@ -84,7 +84,7 @@ tests (c ∷ t) = record { alone = first (c == 32) refl (tests t); behind = seco
         ∙ and_cond (is_word_octet c) (are_behind (w ∷ ws)) (phrase_from true t) (ap are_behind (sym (words_cut t)) ∙ r.behind)
 
 -- a name is a phrase exactly where the test from its front says so
-pub phrase_test : (t : List ℕ) → is_plain_phrase t ≡ phrase_from false t
+pub phrase_test : (t : List ℕ) → are_plain_words t ≡ phrase_from false t
 phrase_test t = (tests t).alone
 
 -- ---- what is written

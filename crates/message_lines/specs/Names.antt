@@ -1,5 +1,5 @@
 -- Names of mailboxes as they are written (RFC 5322 section 3.4).
-use Rattle.std.specs.Prelude.{◌≡◌, ℕ, Bool, true, false, not, ◌||◌, ◌==◌, if◌then◌else◌, List, [], ◌∷◌, map}
+use Rattle.std.specs.Prelude.{◌≡◌, ℕ, Bool, true, false, not, ◌||◌, ◌&&◌, ◌==◌, nat_le, if◌then◌else◌, List, [], ◌∷◌, length, map}
 use Rattle.std.specs.List.{list_all}
 use Rattle.text_words.specs.Octets.{is_digit, is_alpha}
 use Rattle.message_lines.specs.declared.folding.Line.{Line}
@@ -27,8 +27,12 @@ is_plain_word [] = false
 is_plain_word (c ∷ t) = list_all is_word_octet (c ∷ t)
 
 -- one or more words of letters and digits with one space between two
+abbrev pub are_plain_words : List ℕ → Bool
+are_plain_words name = list_all is_plain_word (words_of name)
+
+-- The same, short enough that each word fits in a line (RFC 5322 section 2.1.1): a longer one has to be encoded, in which it can be folded.
 abbrev pub is_plain_phrase : List ℕ → Bool
-is_plain_phrase name = list_all is_plain_word (words_of name)
+is_plain_phrase name = are_plain_words name && nat_le (length name) 997
 
 -- a name is its words, or encoded words
 pub data IsNameText (line : Line) (name : List ℕ) : List FieldPiece → Type 0 where

@@ -9,6 +9,9 @@ use crate::words::push_words;
 use std::alloc::{AllocError, Global};
 use text_words::{Class, cut, is_alpha, is_digit};
 
+/// How many octets a name may have whose words are written as they are.
+const MAX_PLAIN_OCTETS: usize = 997;
+
 /// All but the space.
 struct NoSpace;
 
@@ -29,8 +32,8 @@ fn is_word_octet(octet: u8) -> bool
 }
 
 /// Whether the name is one or more words of letters and digits with one space between two.
-fn is_plain_phrase(name: &[u8]) -> bool
-    ensures { result ≡ texts.is_plain_phrase name.now }
+fn are_plain_words(name: &[u8]) -> bool
+    ensures { result ≡ texts.are_plain_words name.now }
 {
     let mut behind_word = false;
     for octet in name {
@@ -43,6 +46,13 @@ fn is_plain_phrase(name: &[u8]) -> bool
         }
     }
     behind_word
+}
+
+/// Whether it is so, and each of its words fits in a line.
+fn is_plain_phrase(name: &[u8]) -> bool
+    ensures { result ≡ texts.is_plain_phrase name.now }
+{
+    are_plain_words(name) && name.len() <= MAX_PLAIN_OCTETS
 }
 
 /// Adds what stands between the spaces of a name.

@@ -1,5 +1,5 @@
 -- How many APPENDs are completed for the items of a call.
-use Rattle.std.proofs.Common.{◌≡◌, ◌≤◌, ◌+◌, ◌++◌, ℕ, List, [], ◌∷◌, map, Ok, Result, refl, sym, ◌∙◌, ap, subst, arith}
+use Rattle.std.proofs.Common.{◌≡◌, ◌≤◌, ◌+◌, ◌++◌, ℕ, List, [], ◌∷◌, Result, sym, ◌∙◌, ap, subst, arith}
 use Rattle.std.proofs.lemmas.List.{map-append}
 use Rattle.gate_world.specs.declared.event.Event.{Event}
 use Rattle.told_folder.specs.declared.exchange.Exchange.{Exchange}
@@ -9,10 +9,10 @@ use Rattle.imap_client.specs.Plans.{Ran}
 use Rattle.set_jobs.specs.declared.done.Done.{Done}
 use Rattle.set_jobs.specs.declared.job.Job.{Job}
 use Rattle.set_order.specs.Ordered.{Item}
-use Rattle.set_items.specs.Commands.{append_count, appends_in, appends_of}
+use Rattle.set_items.specs.Commands.{appends_in, appends_of}
 use Rattle.set_items.specs.declared.item.ItemEnd.{ItemEnd}
 use Rattle.set_items.specs.Items.{Answers, ItemState, item_plan, item_start}
-use Rattle.set_calls.specs.Calls.{SetCall, CallState, DoesItems, NoItems, MoreItems, NextItem, RunsItems, AllDone, Stopped, Wanting, StepsItem, TakesItem, Refused, Stepped, items_of}
+use Rattle.set_calls.specs.Calls.{SetCall, CallState, DoesItems, NoItems, MoreItems, RunsItems, AllDone, Stopped, Wanting, StepsItem, TakesItem, Refused, Stepped, items_of}
 use Rattle.set_calls.specs.Promises.{ChecksAppend, creation_count, creations_in}
 
 -- what is proved of items

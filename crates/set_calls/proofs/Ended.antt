@@ -17,20 +17,22 @@ EndsWhere Why c e = (item : Item) (mid after : CallState) (job : Job) (events : 
     → (steps : StepsItem item job mid (Ends e) events after) → Why (ending_of mid.exchanges steps.does.runs)
 
 pub ended : (Why : Ending → Type 0) (c : SetCall) (e : MethodError) → EndsWhere Why c e → (items : List Item) (before after : CallState) (events : List Event)
-    → RunsItems c items before (Err (Ends e)) events after → IsEndedBy Why c before after
+    → RunsItems c items before (Err (Ends e)) events after → IsEndedBy Why e c items before after events
 ended Why c e so items before after events (AllDone done course all ok) = absurd (cc ok)
 ended Why c e so items before after events (Wanting done later course whole is) = absurd (cc is)
 ended Why c e so items before after events (Stopped done item later mid so_far last ends course stop whole all is) =
-    let same : Ends e ≡ ends = cc is in
+    let same : ends ≡ Ends e = cc is in
+    let mine : StopsAt c item mid (Ends e) last after = subst (λ (x : ItemEnd). StopsAt c item mid x last after) same stop in
     record {
       done = done;
       earlier = so_far;
       mid = mid;
       course = course;
       item = item;
-      ends = ends;
+      later = later;
       last = last;
-      stop = stop;
-      why = subst (λ (x : ItemEnd). (stop : StopsAt c item mid x last after) → Why (ending_of mid.exchanges stop.steps.does.runs)) same
-          (λ (stop : StopsAt c item mid (Ends e) last after). so item mid after stop.job last stop.is_checked stop.steps) stop;
+      stop = mine;
+      whole = whole;
+      events_are = all;
+      why = so item mid after mine.job last mine.is_checked mine.steps;
     }

@@ -1,5 +1,5 @@
 -- An item of a call after those before it.
-use Rattle.std.proofs.Common.{◌≡◌, ◌≢◌, ◌≤◌, ◌+◌, ◌++◌, ◌⊎◌, inl, inr, ℕ, Bool, false, IfOk, List, [], ◌∷◌, fold, map, take, drop, Option, Result, Ok, Err, Vec, refl, sym, ◌∙◌, ap, subst, arith}
+use Rattle.std.proofs.Common.{◌≡◌, ◌≢◌, ◌+◌, ◌++◌, inl, inr, ℕ, Bool, false, IfOk, List, [], ◌∷◌, fold, map, Option, Result, Ok, Err, Vec, refl, sym, ◌∙◌, ap, subst, arith}
 use Rattle.std.proofs.lemmas.List.{append-nil, map-append}
 use Rattle.std.specs.declared.alloc.Global.{Global}
 use Rattle.gate_world.specs.Causes.{RoseBy}
@@ -22,12 +22,12 @@ use Rattle.set_given.specs.Given.{Given, MadeFolders as Made}
 use Rattle.set_given.specs.declared.made.MadeFolders.{MadeFolders}
 use Rattle.set_given.specs.reading.Makings.{IsMade}
 use Rattle.set_items.specs.declared.item.ItemEnd.{ItemEnd}
-use Rattle.set_items.specs.declared.item.ItemEnd.TheVariants.{Comes, Ends, OutOfMemory}
+use Rattle.set_items.specs.declared.item.ItemEnd.TheVariants.{Comes, OutOfMemory}
 use Rattle.set_items.specs.Ends.{any_change}
 use Rattle.set_items.specs.declared.stage.ItemStage.{ItemStage}
 use Rattle.set_items.specs.Items.{item_at, item_start}
 use Rattle.set_items.specs.Ends.{item_end}
-use Rattle.set_items.specs.Talks.{AllReadKnown, DoesItem, IsItemDone, ending_of, fault_in, has_changed}
+use Rattle.set_items.specs.Talks.{AllReadKnown, IsItemDone, ending_of, fault_in, has_changed}
 use Rattle.told_changes.specs.Told.{told}
 use Rattle.imap_exchange.specs.declared.link_end.LinkEnd.{LinkEnd}
 use Rattle.imap_exchange.specs.declared.link_end.LinkEnd.TheVariants as end

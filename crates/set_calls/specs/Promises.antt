@@ -1,26 +1,29 @@
 -- What laws say of the items of a call.
-use Rattle.std.specs.Prelude.{◌≡◌, ◌≤◌, ℕ, ◌+◌, List, [], ◌∷◌, Ok}
+use Rattle.std.specs.Prelude.{◌≡◌, ◌≤◌, ℕ, ◌+◌, ◌++◌, List, [], ◌∷◌, Ok}
 use Rattle.gate_world.specs.declared.event.Event.{Event}
+use Rattle.jmap_arguments.specs.declared.method_error.MethodError.{MethodError}
 use Rattle.set_jobs.specs.declared.done.Done.{Done}
 use Rattle.set_jobs.specs.declared.job.Job.{Job}
 use Rattle.set_order.specs.Ordered.{Item, Create}
 use Rattle.set_given.specs.Given.{Given}
 use Rattle.set_items.specs.Causes.{Ending}
 use Rattle.set_items.specs.Commands.{IsFit, appends_of}
-use Rattle.set_items.specs.declared.item.ItemEnd.{ItemEnd}
+use Rattle.set_items.specs.declared.item.ItemEnd.TheVariants.{Ends}
 use Rattle.set_items.specs.Talks.{ending_of}
-use Rattle.set_calls.specs.Calls.{SetCall, CallState, DoesItems, StopsAt}
+use Rattle.set_calls.specs.Calls.{SetCall, CallState, DoesItems, StopsAt, items_of}
 
--- The steps of an item ended the call, after the items before it; this is so of how they ended.
-pub record IsEndedBy (Why : Ending → Type 0) (c : SetCall) (before after : CallState) : Type 0 where
+-- The steps of one of the call's items ended it with this error, after the items before it, and these were the events; this is so of how they ended.
+pub record IsEndedBy (Why : Ending → Type 0) (e : MethodError) (c : SetCall) (items : List Item) (before after : CallState) (events : List Event) : Type 0 where
   pub done : List (Item × Done)
   pub earlier : List Event
   pub mid : CallState
   pub course : DoesItems c before done earlier mid
   pub item : Item
-  pub ends : ItemEnd
+  pub later : List Item
   pub last : List Event
-  pub stop : StopsAt c item mid ends last after
+  pub stop : StopsAt c item mid (Ends e) last after
+  pub whole : items_of done ++ item ∷ later ≡ items
+  pub events_are : events ≡ earlier ++ last
   pub why : Why (ending_of mid.exchanges stop.steps.does.runs)
 
 -- each job that an item is has the steps that it may have

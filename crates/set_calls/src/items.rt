@@ -1,5 +1,5 @@
 // The items of a call, one after another.
-ghost use Rattle.std.specs.Prelude.{◌≡◌, ◌≢◌, Bool, Err, IfOk, OnOk, List, map};
+ghost use Rattle.std.specs.Prelude.{◌≡◌, ◌≢◌, Bool, Err, IfOk, OnOk, List, false, map};
 ghost use Rattle.gate_world.specs.Causes.{LinkAlone, RoseBy};
 ghost use Rattle.gate_world.specs.Tape.{Adds};
 ghost use Rattle.told_mail.specs.Mail.{IsNextMail};
@@ -65,6 +65,7 @@ fn do_steps<L: Link>(
         × Leaves client.new mirror.old mirror.new changed.new result (L.faults link.old).link (L.faults link.new).link s after) }
     ensures counts { CountsOn mirror.old mirror.new }
     ensures next { IsNextMail mirror.old.mail mirror.new.mail }
+    ensures idle { client.old.alive ≡ false → (client.new ≡ client.old) × (link.new ≡ link.old) }
     ensures alone { LinkAlone (L.faults link.old) (L.faults link.new) }
     ensures hidden { L.hidden link.new ≡ L.hidden link.old }
 {
@@ -91,6 +92,7 @@ fn take_item<'k, L: Link, C: Checks>(
         × Leaves client.new mirror.old mirror.new changed.new result (L.faults link.old).link (L.faults link.new).link s after) }
     ensures counts { CountsOn mirror.old mirror.new }
     ensures next { IsNextMail mirror.old.mail mirror.new.mail }
+    ensures idle { client.old.alive ≡ false → (client.new ≡ client.old) × (link.new ≡ link.old) }
     ensures alone { LinkAlone (L.faults link.old) (L.faults link.new) }
     ensures hidden { L.hidden link.new ≡ L.hidden link.old }
 {
@@ -128,6 +130,7 @@ pub fn run_items<'k, L: Link, C: Checks>(
         × RoseBy after.lost (L.faults link.old).link (L.faults link.new).link) }
     ensures counts { CountsOn mirror.old mirror.new }
     ensures next { IsNextMail mirror.old.mail mirror.new.mail }
+    ensures idle { client.old.alive ≡ false → (client.new ≡ client.old) × (link.new ≡ link.old) }
     ensures alone { LinkAlone (L.faults link.old) (L.faults link.new) }
     ensures hidden { L.hidden link.new ≡ L.hidden link.old }
 {

@@ -20,9 +20,9 @@ use set_items::{
 /// A call ends with serverPartialFail or serverUnavailable only by the causes of each, over all that was exchanged for it.
 pub fn calls_end_by_their_causes()
     ensures partly { (c : SetCall) (items : List Item) (m : Mail) (life : LinkLife) (after : CallState) (events : List Event) → ChecksFit c
-        → RunsItems c items (call_begun m life) (Err (Ends ServerPartialFail)) events after → IsEndedBy FailedPartly c (call_begun m life) after }
+        → RunsItems c items (call_begun m life) (Err (Ends ServerPartialFail)) events after → IsEndedBy FailedPartly ServerPartialFail c items (call_begun m life) after events }
     ensures unavailable { (c : SetCall) (items : List Item) (m : Mail) (life : LinkLife) (after : CallState) (events : List Event)
-        → RunsItems c items (call_begun m life) (Err (Ends ServerUnavailable)) events after → IsEndedBy WasUnavailable c (call_begun m life) after }
+        → RunsItems c items (call_begun m life) (Err (Ends ServerUnavailable)) events after → IsEndedBy WasUnavailable ServerUnavailable c items (call_begun m life) after events }
 {
     items_end_by_their_causes();
 }

@@ -1,9 +1,9 @@
-use Rattle.std.proofs.Common.{rules, arith, ◌≡◌, ◌<◌, ◌+◌, ◌++◌, ◌∷◌, ◌∙◌, ℕ, List, [], length, map, take, drop, get_or, refl, sym, ap, subst, Err, Result, Vec}
-use Rattle.std.proofs.lemmas.List.{take_all, take_more, take-append-drop, append-nil, map-append}
+use Rattle.std.proofs.Common.{rules, arith, ◌≡◌, ◌<◌, ◌+◌, ◌++◌, ◌∷◌, ◌∙◌, ℕ, List, [], length, map, take, drop, get_or, refl, sym, ap, subst, Err}
+use Rattle.std.proofs.lemmas.List.{take_all, take_more, take-append-drop, map-append}
 use Rattle.std.proofs.lemmas.Result.{err_from_is_err_and}
-use Rattle.std.specs.declared.alloc.Global.{Global}
 use Rattle.gate_world.specs.Tape.{Adds}
 use Rattle.gate_world.proofs.Joins.{join, none, widen}
+use Rattle.imap_client.specs.LinkLife.{ClientState}
 use Rattle.set_jobs.specs.declared.done.Done.{Done}
 use Rattle.set_order.specs.Ordered as spec
 use Rattle.set_order.specs.declared.item.Item.{Item}
@@ -67,6 +67,7 @@ loop-item-init g c =
       items = ap (λ (done : List (Item × Done)). items_of (map done_data done)) c.in_ok-done.ensures.items;
       counts = counts_same c.args.mirror.now;
       next = next_same c.args.mirror.now.mail c.each_is_mail.ensures;
+      idle = λ dead. (refl, refl);
       alone = search rules;
       hidden = refl;
     }
@@ -128,6 +129,10 @@ loop-item-preserved g c =
           ∙ done_more l.done.items items i c.item-item.result c.in_ok-came.came within c.item-item.is l.invariant.items;
       counts = counts_join l.invariant.counts c.take_item.ensures.counts;
       next = c.next_mail_joins.ensures _ _ _ l.invariant.next c.take_item.ensures.next;
+      idle = λ dead.
+          let was = l.invariant.idle dead in
+          let now = c.take_item.ensures.idle (ap (λ (s : ClientState). s.alive) was.0 ∙ dead) in
+          (now.0 ∙ was.0, now.1 ∙ was.1);
       alone = search rules;
       hidden = search rules;
     }

@@ -1,4 +1,4 @@
-use Rattle.std.proofs.Common.{◌≡◌, map, take}
+use Rattle.std.proofs.Common.{◌≡◌, false, map, take}
 use Rattle.gate_world.specs.Causes.{LinkAlone}
 use Rattle.gate_world.specs.Tape.{Adds}
 use Rattle.told_mail.specs.Mail.{IsNextMail}
@@ -18,6 +18,7 @@ invariant-loop-item g l =
       items : items_of (map done_data l.done.items) ≡ map item_data (take l.item-index l.items);
       counts : CountsOn l.fn.mirror l.mirror;
       next : IsNextMail l.fn.mirror.mail l.mirror.mail;
+      idle : l.fn.client.alive ≡ false → (l.client ≡ l.fn.client) × (l.link ≡ l.fn.link);
       alone : LinkAlone (g.L.Taped.faults l.fn.link) (g.L.Taped.faults l.link);
       hidden : g.L.Taped.hidden l.link ≡ g.L.Taped.hidden l.fn.link;
     }

@@ -1,7 +1,6 @@
-use Rattle.std.proofs.Common.{◌≡◌, ◌∙◌, sym, ap, Err, Result}
+use Rattle.std.proofs.Common.{◌≡◌, ◌∙◌, sym, ap, Err}
 use Rattle.std.proofs.lemmas.Result.{err_from_is_err_and}
 use Rattle.gate_world.proofs.Joins.{none, widen}
-use Rattle.set_jobs.specs.declared.done.Done.{Done}
 use Rattle.set_order.specs.reading.Items.{item_data}
 use Rattle.set_calls.specs.declared.call.CallEnd.{CallEnd}
 use Rattle.set_calls.specs.declared.call.CallEnd.TheVariants as ends
