@@ -2,3 +2,4 @@ mod AnswerLemmas
 mod ListLemmas
 mod RowLemmas
 mod StateLemmas
+mod WholeLemmas

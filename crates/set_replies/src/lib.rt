@@ -18,6 +18,6 @@ mod replies;
 mod laws;
 
 pub use created::put_created;
-pub use laws::items_are_answered;
+pub use laws::{items_are_answered, replies_are_whole};
 pub use replies::set_reply;
 pub use states::is_at_state;
