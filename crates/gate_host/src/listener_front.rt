@@ -72,7 +72,7 @@ impl<L: ClientListener + Drop, C: Ticks + Drop> Clients for ListenerFront<L, C> 
 
     ghost receives_nothing = { λ old room new. NoneOrBothSo (λ before after. NoneOrBothSo (ReceivesNothing L.Stream.receives C.reads room before.acceptor.clock after.acceptor.clock) before.current after.current × (after.acceptor ≡ record before.acceptor { clock = after.acceptor.clock })) old.clients new.clients };
 
-    ghost sends_nothing = { λ old from new. NoneOrBothSo (λ before after. NoneOrBothSo (AcceptsNothingAt L.Stream.takes L.Stream.sends C.reads from (state before.acceptor) (state after.acceptor)) before.current after.current × (state after.acceptor ≡ with_kept (state after.acceptor).clock (state after.acceptor).leaving.kept (state before.acceptor))) old.clients new.clients };
+    ghost sends_nothing = { λ old from new. NoneOrBothSo (λ before after. NoneOrBothSo (AcceptsNothingAt L.Stream.takes L.Stream.sends C.reads from (state before.acceptor) (state after.acceptor)) before.current after.current × (state after.acceptor ≡ with_kept (state after.acceptor).clock (state after.acceptor).leaving.kept (state before.acceptor)) × (IsNone before.current → state after.acceptor ≡ state before.acceptor)) old.clients new.clients };
 
     // Who waits, the listener and the next key stay as they are, and nobody is served.
     ghost finishes = { λ old new. NoneOrBothSo (λ before after. Finishes L.Stream.ends L.Stream.closes L.Stream.gives C.reads before.current (state before.acceptor) (state after.acceptor) × IsNone after.current) old.clients new.clients };
