@@ -1,2 +1,5 @@
 mod PlainSteps
 mod PlainJobs
+mod SentFlags
+mod SentSteps
+mod SentJobs

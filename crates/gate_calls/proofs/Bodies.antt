@@ -7,7 +7,6 @@ use Rattle.email_bodies.specs.declared.source.MessagePlace.{MessagePlace}
 use Rattle.mail_state.specs.History.{MailHistory}
 use Rattle.gate_machine.specs.Fetching.{AsksBody, IsKept, IsTold, Ends, HasEnded, AsksBodies, NoBodies, MoreBodies, CallsAsk, AllAsked, RunsShort}
 use Rattle.gate_machine.specs.History.{KnownMail}
-use Rattle.gate_machine.specs.Obeying.{AreAsksObeyed}
 use Rattle.gate_machine.specs.Progress.{Progress}
 use Rattle.gate_machine.specs.declared.mail_status.MailStatus.{MailStatus}
 use Rattle.gate_machine.specs.declared.mail_status.MailStatus.TheVariants as standing
@@ -61,20 +60,6 @@ join_calls {xs = xs} {es = es} one (RunsShort short) =
       lacks = short.lacks;
       whole = ap (λ (l : List Event). es ++ l) short.whole ∙ sym (append_assoc es short.asking short.lacking);
     })
-
--- bodies that are asked of a store that obeys
-abbrev pub AskedObeyed : Progress → List BodyAsk → List Event → Progress → Type 0
-AskedObeyed p asks events q = (bodies : AsksBodies p asks events q) × AreAsksObeyed bodies
-
-pub join_obeyed : {p q r : Progress} {xs ys : List BodyAsk} {es fs : List Event} → AskedObeyed p xs es q → (bodies : AsksBodies q ys fs r) → AreAsksObeyed bodies
-    → AskedObeyed p (xs ++ ys) (es ++ fs) r
-join_obeyed {p} {q} {xs = xs} {es = es} one NoBodies obeyed =
-    subst (λ (l : List BodyAsk). AskedObeyed p l (es ++ []) q) (sym (append-nil xs)) (subst (λ (l : List Event). AskedObeyed p xs l q) (sym (append-nil es)) one)
-join_obeyed {p} {xs = xs} {es = es} one (MoreBodies {asks = ys} {events = fs} next bodies) obeyed =
-    let before = join_obeyed one bodies obeyed.0 in
-    subst (λ (l : List BodyAsk). AskedObeyed p l (es ++ (fs ++ next.events)) next.after) (append_assoc xs ys (next.ask ∷ []))
-    (subst (λ (l : List Event). AskedObeyed p ((xs ++ ys) ++ next.ask ∷ []) l next.after) (append_assoc es fs next.events)
-    (MoreBodies next before.0, (before.1, obeyed.1)))
 
 -- ---- split
 

@@ -17,10 +17,10 @@ use Rattle.read_methods.specs.Replies.{mailbox_get_reply, thread_get_reply, Repl
 use Rattle.served_types.specs.States.{type_state}
 use Rattle.gate_calls.specs.Calls.{AnswersCall, NoMethod, Unresolved, Resolved, AnswersCalls, NoCalls, MoreCalls, FirstCallsAsk, answered_call}
 use Rattle.gate_calls.specs.Mailings.{Mailing, MailAndUploads}
-use Rattle.gate_calls.specs.Methods.{AtOnce, OverMail, RepliesTo}
+use Rattle.gate_calls.specs.Methods.{AtOnce, OverMail, RepliesTo, set_refused}
 use Rattle.gate_calls.specs.declared.method.Method.{Method}
 use Rattle.gate_calls.specs.declared.method.Method.TheVariants.{CoreEcho, MailboxGet, MailboxChanges, MailboxQuery, MailboxQueryChanges, ThreadGet}
-use Rattle.gate_calls.specs.declared.method.Method.TheVariants.{ThreadChanges, EmailGet, EmailChanges, EmailQuery, EmailQueryChanges, EmailParse}
+use Rattle.gate_calls.specs.declared.method.Method.TheVariants.{ThreadChanges, EmailGet, EmailChanges, EmailQuery, EmailQueryChanges, EmailParse, Set}
 
 -- ---- one call
 
@@ -53,6 +53,8 @@ due_reply EmailQuery over d asks r replies = at_once_due (λ h s. RepliesEmailQu
 due_reply EmailQueryChanges over d asks r replies = at_once_due (λ h s. RepliesEmailQueryChanges h d s) over.mail _ asks r replies
 due_reply EmailParse over d asks r replies =
     over_mail_due over.mail _ (λ h. RepliesEmailParse h over.uploads d) (λ h. due_parse h.numbered.rows over.uploads d) asks r replies
+due_reply (Set k) over d asks r replies =
+    over_mail_due over.mail (set_refused k d) (λ h also s. ⊥) (λ h also s never. absurd never) asks r replies
 
 pub due_call : {uses : Using} {over : MailAndUploads} {earlier : List CallData} {call : CallData} {asks : List BodyAsk} {r : Result Data MethodError}
     → AnswersCall uses over earlier call asks r → AreDue (FailsAfter (AnswersCall uses over earlier call)) asks

@@ -2,11 +2,14 @@ pub mod Meaning
 pub mod Due
 pub mod Calling
 pub mod Sources
-pub mod Serving
+pub mod Working
+pub mod Reading
+pub mod ChangingMail
 pub mod OneAnswer
 pub mod Bodies
 pub mod Threading
 pub mod Needless
+pub mod OneChange
 pub mod OneCourse
 pub mod Through
 pub mod Orders

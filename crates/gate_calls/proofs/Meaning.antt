@@ -61,7 +61,7 @@ without m asked over d result is meets = subst (λ (k : Method). Meets Memory vi
 pub once : (P : Result Data MethodError → Type 0) (result : Result Value MethodError) → Meets Memory view result P → Meets Memory view result (AtOnce P [])
 once P result meets = meant_more P (AtOnce P []) result (λ r is. (refl, is)) meets
 
-is_memory : (e : MethodError) → (e ≡ Memory) ⊎ (e ≢ Memory)
+pub is_memory : (e : MethodError) → (e ≡ Memory) ⊎ (e ≢ Memory)
 is_memory error.Memory = inl refl
 is_memory error.ServerUnavailable = inr (λ is. cc)
 is_memory error.ServerFail = inr (λ is. cc)

@@ -11,9 +11,10 @@ use Rattle.gate_calls.specs.Calls.{AnswersCall, NoMethod, Unresolved, Resolved, 
 use Rattle.gate_calls.specs.Mailings.{MailAndUploads}
 use Rattle.gate_calls.specs.MethodNames.{method_asked, method_of, name_of, needs_mail_by, where_used}
 use Rattle.gate_calls.specs.Methods.{RepliesTo}
+use Rattle.set_arguments.specs.declared.set_method.SetMethod.TheVariants.{EmailSet, MailboxSet}
 use Rattle.gate_calls.specs.declared.method.Method.{Method}
 use Rattle.gate_calls.specs.declared.method.Method.TheVariants.{CoreEcho, MailboxGet, MailboxChanges, MailboxQuery, MailboxQueryChanges, ThreadGet}
-use Rattle.gate_calls.specs.declared.method.Method.TheVariants.{ThreadChanges, EmailGet, EmailChanges, EmailQuery, EmailQueryChanges, EmailParse}
+use Rattle.gate_calls.specs.declared.method.Method.TheVariants.{ThreadChanges, EmailGet, EmailChanges, EmailQuery, EmailQueryChanges, EmailParse, Set}
 
 left_false : (a b : Bool) → (a || b) ≡ false → a ≡ false
 left_false true b is = is
@@ -32,7 +33,8 @@ abbrev by_first : List ℕ → Bool → Option Method
 by_first name first =
     if first then Some CoreEcho else
     find (λ m. bytes_eq name (name_of m))
-    (MailboxGet ∷ MailboxChanges ∷ MailboxQuery ∷ MailboxQueryChanges ∷ ThreadGet ∷ ThreadChanges ∷ EmailGet ∷ EmailChanges ∷ EmailQuery ∷ EmailQueryChanges ∷ EmailParse ∷ [])
+    (MailboxGet ∷ MailboxChanges ∷ MailboxQuery ∷ MailboxQueryChanges ∷ ThreadGet ∷ ThreadChanges ∷ EmailGet ∷ EmailChanges ∷ EmailQuery ∷ EmailQueryChanges ∷ EmailParse ∷ Set MailboxSet
+    ∷ Set EmailSet ∷ [])
 
 first_by : (name : List ℕ) (test : Bool) → bytes_eq name (name_of CoreEcho) ≡ test → method_of name ≡ by_first name test
 first_by name test is = ap (λ (b : Bool). by_first name b) is
@@ -42,7 +44,7 @@ echo_is true uses m core is = cc
 echo_is false uses m core is = cc
 
 -- a call that needs no mail asks for no other method
-asks_echo : (uses : Using) (name : List ℕ) (m : Method) → needs_mail_by name ≡ false → method_asked uses name ≡ Ok m → m ≡ CoreEcho
+pub asks_echo : (uses : Using) (name : List ℕ) (m : Method) → needs_mail_by name ≡ false → method_asked uses name ≡ Ok m → m ≡ CoreEcho
 asks_echo uses name m needless asked =
     let named : method_of name ≡ Some CoreEcho = first_by name true (not_false (bytes_eq name (name_of CoreEcho)) needless) in
     echo_is uses.core uses m refl (sym (ap (λ (o : Option Method). where_used uses o) named) ∙ asked)
@@ -95,6 +97,7 @@ reply_asks EmailChanges e uploads d asks r replies = replies.0
 reply_asks EmailQuery e uploads d asks r replies = replies.0
 reply_asks EmailQueryChanges e uploads d asks r replies = replies.0
 reply_asks EmailParse e uploads d asks r replies = replies.0
+reply_asks (Set k) e uploads d asks r replies = replies.0
 
 call_asks : {uses : Using} {e : MethodError} {uploads : List (List ℕ)} {earlier : List CallData} {call : CallData} {asks : List BodyAsk} {r : Result Data MethodError}
     → AnswersCall uses (record { mail = Err e; uploads = uploads }) earlier call asks r → asks ≡ []

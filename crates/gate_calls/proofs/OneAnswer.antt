@@ -14,7 +14,7 @@ use Rattle.email_get.specs.EmailParse.{RepliesEmailParse}
 use Rattle.mail_state.specs.History.{MailHistory}
 use Rattle.gate_calls.specs.declared.method.Method.{Method}
 use Rattle.gate_calls.specs.declared.method.Method.TheVariants.{CoreEcho, MailboxGet, MailboxChanges, MailboxQuery, MailboxQueryChanges, ThreadGet}
-use Rattle.gate_calls.specs.declared.method.Method.TheVariants.{ThreadChanges, EmailGet, EmailChanges, EmailQuery, EmailQueryChanges, EmailParse}
+use Rattle.gate_calls.specs.declared.method.Method.TheVariants.{ThreadChanges, EmailGet, EmailChanges, EmailQuery, EmailQueryChanges, EmailParse, Set}
 use Rattle.jmap_arguments.specs.declared.using.Using.{Using}
 use Rattle.jmap_arguments.specs.declared.method_error.MethodError.{MethodError}
 use Rattle.result_references.specs.Call.{CallData}
@@ -43,10 +43,6 @@ err_is X e f is = ap (λ (r : Result X MethodError). elim r as (λ r. MethodErro
 
 never_both : (X : Type 0) (e : MethodError) (a : X) → (let x : Result X MethodError = Err e in x) ≡ Ok a → ⊥
 never_both X e a is = subst (λ (r : Result X MethodError). IfOk r (λ x. ⊥)) is tt
-
--- one error, as two results have it
-both_err : (e f : MethodError) (r s : Result Data MethodError) → r ≡ Err e → s ≡ Err f → e ≡ f → r ≡ s
-both_err e f r s is js same = is ∙ ap (λ (g : MethodError). let x : Result Data MethodError = Err g in x) same ∙ sym js
 
 -- the touches of a place are fewer than 2^64
 few : {V : Type 0} (p : Past V) → place_now p ≤ MAX_PLACE → length (entries_of p.touches) < 2 ^ 64
@@ -121,6 +117,8 @@ module _ (law : ChangesLaw) (gets : IsOneGet) (parses : IsOneParse) (emails : Is
       by EmailQueryChanges (Err e) room a b = at_once a.0 b.0 (a.1 ∙ sym b.1)
       by EmailParse (Ok h) room a b = parses h o.uploads d asks more also later r s a b same
       by EmailParse (Err e) room a b = at_once a.0 b.0 (a.1 ∙ sym b.1)
+      by (Set k) (Ok h) room a b = absurd a
+      by (Set k) (Err e) room a b = at_once a.0 b.0 (a.1 ∙ sym b.1)
 
   -- of the same method over the same arguments
   one_resolved : (m n : Method) (o : MailAndUploads) (d c : Data) (asks more also later : List BodyAsk) (r s : Result Data MethodError) → HasPlaces o.mail → n ≡ m → c ≡ d

@@ -1,7 +1,9 @@
 -- Calls that read, one after another, are as they are over one mail.
 use Rattle.std.proofs.Common.{◌≡◌, ◌∙◌, ◌++◌, ℕ, List, [], ◌∷◌, map, append-nil, append_assoc, Result}
 use Rattle.std.proofs.Common.{refl, sym, ap, subst, inl, inr}
+use Rattle.std.specs.List.{All}
 use Rattle.std.proofs.lemmas.List.{map-append, same_from_push}
+use Rattle.std.proofs.lemmas.List.Elements.{All-cons, All-head, All-nil, All-tail}
 use Rattle.gate_world.specs.declared.event.Event.{Event}
 use Rattle.serde_json.specs.Data.{Data}
 use Rattle.email_bodies.specs.Asking.{BodyAsk, AreDue, unanswered}
@@ -12,13 +14,14 @@ use Rattle.jmap_core.specs.CreatedIds.{Ids}
 use Rattle.result_references.specs.Call.{CallData}
 use Rattle.gate_machine.specs.Fetching.{AsksBodies, NoBodies, CallsAsk, AllAsked}
 use Rattle.gate_machine.specs.Progress.{Progress}
-use Rattle.gate_calls.specs.Calling.{Asked, Body, CallsState, over_at, DoesCall, Reads, AreAllAsked, ReadsInVain, NextCall, DoesCalls, NoCalls, MoreCalls, AfterLast, InCall}
-use Rattle.gate_calls.specs.Calling.{LacksNext, LacksCalls, AreDoneObeyed, IsCallObeyed}
+use Rattle.gate_calls.specs.Calling.{Asked, Body, CallsState, over_at, DoesCall, Reads, Changes, AreAllAsked, ReadsInVain, ChangesInVain, NextCall, DoesCalls, NoCalls, MoreCalls, AfterLast, InCall}
+use Rattle.gate_calls.specs.Calling.{LacksNext, LacksCalls}
 use Rattle.gate_calls.specs.Calls.{AnswersCall, AnswersCalls, FirstCallsAsk, answered_call}
 use Rattle.gate_calls.specs.Calls as over_one
 use Rattle.gate_calls.specs.Mailings.{Mailing, MailAndUploads, mail_at}
+use Rattle.gate_calls.specs.MethodNames.{ChangesNoMail}
 use Rattle.gate_calls.specs.OneMail.{AnsweredOverOne, LacksOverOne}
-use Rattle.gate_calls.proofs.Bodies.{nothing_pushed, ending, nothing_asked, nothing_tried, join_bodies, join_calls, join_obeyed, AskedObeyed}
+use Rattle.gate_calls.proofs.Bodies.{nothing_pushed, ending, nothing_asked, nothing_tried, join_bodies, join_calls}
 use Rattle.gate_calls.proofs.Bodies.{split_bodies, split_calls, bodies_keep_mail}
 use Rattle.gate_calls.proofs.Due.{due_calls, first_of_more}
 
@@ -26,12 +29,6 @@ use Rattle.gate_calls.proofs.Due.{due_calls, first_of_more}
 same_over : (uploads : List (List ℕ)) {p q : Progress} {asks : List BodyAsk} {events : List Event} → AsksBodies p asks events q
     → (let o : MailAndUploads = record { mail = mail_at q; uploads = uploads } in o) ≡ record { mail = mail_at p; uploads = uploads }
 same_over uploads asked = ap (λ (m : Mailing). let o : MailAndUploads = record { mail = m; uploads = uploads } in o) (bodies_keep_mail asked)
-
--- bodies that were asked of a store that obeys
-pub record BodiesObeyed (p : Progress) (asks : List Asked) (events : List Event) (q : Progress) : Type 0 where
-  pub bodies : List BodyAsk
-  pub asks_are : asks ≡ map Body bodies
-  pub asked : AskedObeyed p bodies events q
 
 -- calls, and then what one more asks
 asks_after : {uses : Using} {o : MailAndUploads} {calls responses : List CallData} {call : CallData} {asks more : List BodyAsk} → AnswersCalls uses o calls asks responses
@@ -45,13 +42,27 @@ asks_after {calls = calls} {responses = responses} {call = call} {more = more} a
       answers = over_one.MoreCalls (record { call = call; asks = more; result = all.0; answers = all.1 }) answers;
     }
 
+all_apart : {X : Type 0} (P : X → Type 0) (xs ys : List X) → All P (xs ++ ys) → All P xs × All P ys
+all_apart P [] ys all = (All-nil P, all)
+all_apart P (x ∷ xs) ys all =
+    let rest = all_apart P xs ys (All-tail P x (xs ++ ys) all) in (All-cons P x xs (All-head P x (xs ++ ys) all) rest.0, rest.1)
+
+-- the call reads
+abbrev ReadsCall : Using → CallData → Type 0
+ReadsCall uses call = ChangesNoMail uses call.name
+
+-- all of them do
+abbrev pub AllRead : Using → List CallData → Type 0
+AllRead uses calls = All (λ (call : CallData). ChangesNoMail uses call.name) calls
+
 module _ {uses : Using} {uploads : List (List ℕ)} where
   -- ---- from one after another to one mail
 
   one_joined : {s mid t : CallsState} {calls responses : List CallData} {asks more : List Asked} {es fs : List Event} {call : CallData} {result : Result Data MethodError}
-      → AnsweredOverOne uses uploads s calls asks responses es mid → DoesCall uses uploads responses call mid more result fs t
+      → ChangesNoMail uses call.name → AnsweredOverOne uses uploads s calls asks responses es mid → DoesCall uses uploads responses call mid more result fs t
       → AnsweredOverOne uses uploads s (calls ++ call ∷ []) (asks ++ more) (responses ++ answered_call call result ∷ []) (es ++ fs) t
-  one_joined {responses = responses} {call = call} {result = result} before (Reads bodies answers asked is created) =
+  one_joined reads before (Changes m d h named resolved told does asks_are) = absurd (reads m named)
+  one_joined {responses = responses} {call = call} {result = result} reads before (Reads bodies answers asked is created) =
       record {
         bodies = before.bodies ++ bodies;
         asks_are = (λ i. before.asks_are i ++ is i) ∙ sym (map-append Body before.bodies bodies);
@@ -66,32 +77,19 @@ module _ {uses : Using} {uploads : List (List ℕ)} where
         created = created ∙ before.created;
       }
 
-  pub joined : {s t : CallsState} {calls responses : List CallData} {asks : List Asked} {events : List Event} → DoesCalls uses uploads s calls asks responses events t
+  pub joined : {s : CallsState} {calls : List CallData} {asks : List Asked} {responses : List CallData} {events : List Event} {t : CallsState} → AllRead uses calls
+      → DoesCalls uses uploads s calls asks responses events t
       → AnsweredOverOne uses uploads s calls asks responses events t
-  joined NoCalls = record { bodies = []; asks_are = refl; answers = over_one.NoCalls; asked = NoBodies; created = refl }
-  joined (MoreCalls next rest) = one_joined (joined rest) next.does
-
-  -- the same of a store that obeys
-  one_obeyed : {p : Progress} {mid t : CallsState} {responses : List CallData} {asks more : List Asked} {es fs : List Event} {call : CallData} {result : Result Data MethodError}
-      → BodiesObeyed p asks es mid.progress → (does : DoesCall uses uploads responses call mid more result fs t) → IsCallObeyed does
-      → BodiesObeyed p (asks ++ more) (es ++ fs) t.progress
-  one_obeyed before (Reads bodies answers asked is created) obeyed =
-      record {
-        bodies = before.bodies ++ bodies;
-        asks_are = (λ i. before.asks_are i ++ is i) ∙ sym (map-append Body before.bodies bodies);
-        asked = join_obeyed before.asked asked obeyed;
-      }
-
-  pub joined_obeyed : {s t : CallsState} {calls responses : List CallData} {asks : List Asked} {events : List Event} (does : DoesCalls uses uploads s calls asks responses events t)
-      → AreDoneObeyed does → BodiesObeyed s.progress asks events t.progress
-  joined_obeyed NoCalls obeyed = record { bodies = []; asks_are = refl; asked = (NoBodies, tt) }
-  joined_obeyed (MoreCalls next rest) obeyed = one_obeyed (joined_obeyed rest obeyed.0) next.does obeyed.1
+  joined read NoCalls = record { bodies = []; asks_are = refl; answers = over_one.NoCalls; asked = NoBodies; created = refl }
+  joined read (MoreCalls {calls = calls} next rest) =
+      let both = all_apart (ReadsCall uses) calls (next.call ∷ []) read in
+      one_joined (All-head (ReadsCall uses) next.call [] both.1) (joined both.0 rest) next.does
 
   -- what is lacked in the next call
   next_lacks : {s mid : CallsState} {firsts responses later : List CallData} {asks : List Asked} {answering lacking : List Event} {q : Progress}
-      → AnsweredOverOne uses uploads s firsts asks responses answering mid → LacksNext uses uploads responses mid lacking q later
+      → AllRead uses later → AnsweredOverOne uses uploads s firsts asks responses answering mid → LacksNext uses uploads responses mid lacking q later
       → LacksOverOne uses uploads s (firsts ++ later) (answering ++ lacking) q
-  next_lacks {s} {mid} {firsts = firsts} {lacking = lacking} {q = q} before (AfterLast none is) =
+  next_lacks {s} {mid} {firsts = firsts} {lacking = lacking} {q = q} read before (AfterLast none is) =
       let asked : CallsAsk mid.progress [] lacking q =
       subst (λ (l : List Event). CallsAsk mid.progress [] l q) (sym none) (subst (λ (x : Progress). CallsAsk mid.progress [] [] x) (sym is) (AllAsked NoBodies)) in
       record {
@@ -101,7 +99,8 @@ module _ {uses : Using} {uploads : List (List ℕ)} where
             (due_more (FirstCallsAsk uses (over_at uploads s) firsts) (FirstCallsAsk uses (over_at uploads s) (firsts ++ [])) before.bodies
             (λ l first. first_of_more [] refl first) (due_calls before.answers));
       }
-  next_lacks {s} {mid} {firsts = firsts} {responses = responses} before (InCall {call = call} {later = later} (ReadsInVain tried asked due)) =
+  next_lacks read before (InCall {call = call} {later = later} (ChangesInVain m d h named resolved told lacks)) = absurd (All-head (ReadsCall uses) call later read m named)
+  next_lacks {s} {mid} {firsts = firsts} {responses = responses} read before (InCall {call = call} {later = later} (ReadsInVain tried asked due)) =
       record {
         tried = before.bodies ++ tried;
         asked = join_calls before.asked asked;
@@ -113,11 +112,12 @@ module _ {uses : Using} {uploads : List (List ℕ)} where
             (λ l all. subst (λ (o : MailAndUploads). AreAllAsked uses o responses call l) (same_over uploads before.asked) all) due);
       }
 
-  pub lacks_over_one : {s : CallsState} {calls : List CallData} {events : List Event} {q : Progress} → LacksCalls uses uploads s calls events q
+  pub lacks_over_one : {s : CallsState} {calls : List CallData} {events : List Event} {q : Progress} → AllRead uses calls → LacksCalls uses uploads s calls events q
       → LacksOverOne uses uploads s calls events q
-  lacks_over_one {s} {events = events} {q = q} lacks =
+  lacks_over_one {s} {events = events} {q = q} read lacks =
+      let both = all_apart (ReadsCall uses) lacks.firsts lacks.later (subst (λ (cs : List CallData). AllRead uses cs) lacks.calls_are read) in
       subst (λ (cs : List CallData). LacksOverOne uses uploads s cs events q) (sym lacks.calls_are)
-      (subst (λ (l : List Event). LacksOverOne uses uploads s (lacks.firsts ++ lacks.later) l q) (sym lacks.whole) (next_lacks (joined lacks.does) lacks.lacks))
+      (subst (λ (l : List Event). LacksOverOne uses uploads s (lacks.firsts ++ lacks.later) l q) (sym lacks.whole) (next_lacks both.1 (joined both.0 lacks.does) lacks.lacks))
 
   -- ---- from one mail to one after another
 

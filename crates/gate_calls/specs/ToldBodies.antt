@@ -7,13 +7,14 @@ use Rattle.jmap_arguments.specs.declared.using.Using.{Using}
 use Rattle.result_references.specs.Call.{CallData}
 use Rattle.gate_machine.specs.KeptBodies.{CallsTell, TellBody}
 use Rattle.gate_machine.specs.Progress.{Progress}
-use Rattle.gate_calls.specs.Calling.{Asked, CallsState, DoesCall, Reads, DoesCalls, NoCalls, MoreCalls, ReadsInVain, LacksNext, AfterLast, InCall}
+use Rattle.gate_calls.specs.Calling.{Asked, CallsState, DoesCall, Reads, Changes, DoesCalls, NoCalls, MoreCalls, ReadsInVain, ChangesInVain, LacksNext, AfterLast, InCall}
 
 -- a fetch for the call told these octets as the body of this Email
 abbrev pub CallTells : {uses : Using} {uploads : List (List ℕ)} {earlier : List CallData} {call : CallData} {before : CallsState} {asks : List Asked}
     {result : Result Data MethodError} {events : List Event} {after : CallsState} → DoesCall uses uploads earlier call before asks result events after
     → ℕ × List ℕ → Type 0
 CallTells (Reads bodies answers asked a c) b = TellBody asked b
+CallTells (Changes m d h named is told does asks_are) b = ⊥
 
 -- one for one of these did
 abbrev pub DoneTell : {uses : Using} {uploads : List (List ℕ)} {before : CallsState} {calls : List CallData} {asks : List Asked}
@@ -27,3 +28,4 @@ abbrev pub LacksTells : {uses : Using} {uploads : List (List ℕ)} {earlier late
     {after : Progress} → LacksNext uses uploads earlier before events after later → ℕ × List ℕ → Type 0
 LacksTells (AfterLast a c) b = ⊥
 LacksTells (InCall (ReadsInVain tried asks due)) b = CallsTell asks b
+LacksTells (InCall (ChangesInVain m d h named is told lacks)) b = ⊥

@@ -14,6 +14,7 @@ use crate::method::{Method, method_named};
 use crate::source::CallSource;
 use blob_store::BlobStore;
 use jmap_arguments::{MethodError, Using, error_arguments};
+use jmap_core::CreatedIds;
 use octets::Text;
 use result_references::{Call, resolve};
 use serde_json::Value;
@@ -25,17 +26,18 @@ fn method_result<W, C: CallSource<W>>(
     source: &mut C,
     world: &mut W,
     uploads: &BlobStore,
+    created: &mut CreatedIds,
     method: Method,
     earlier: &[Call],
     call: &Call,
 ) -> Result<Value, MethodError>
     ensures meant { (uses : using_type) → method_asked uses call.now.name ≡ Ok method
-        → Gives (λ r. CallGives (C.answers uploads.now) uses (map call_data earlier.now) (call_data call.now) (source.old, world.old) r (source.new, world.new))
-        (CallLacks (C.answers uploads.now) (C.lacks uploads.now) uses (map call_data earlier.now) (call_data call.now) (source.old, world.old) (source.new, world.new)) result }
+        → Gives (λ r. CallGives (C.answers uploads.now) uses (map call_data earlier.now) (call_data call.now) ((source.old, world.old), created.old) r ((source.new, world.new), created.new))
+        (CallLacks (C.answers uploads.now) (C.lacks uploads.now) uses (map call_data earlier.now) (call_data call.now) ((source.old, world.old), created.old) ((source.new, world.new), created.new)) result }
     ensures whole { IfOk result (λ value. has_float (view value) ≡ false) }
 {
     match resolve(alloc, &call.arguments, earlier) {
-        Ok(arguments) => source.reply(alloc, world, uploads, method, arguments),
+        Ok(arguments) => source.reply(alloc, world, uploads, created, method, arguments),
         Err(error) => Err(error),
     }
 }
@@ -46,16 +48,19 @@ fn call_result<W, C: CallSource<W>>(
     source: &mut C,
     world: &mut W,
     uploads: &BlobStore,
+    created: &mut CreatedIds,
     uses: Using,
     earlier: &[Call],
     call: &Call,
 ) -> Result<Value, MethodError>
-    ensures meant { Gives (λ r. CallGives (C.answers uploads.now) uses (map call_data earlier.now) (call_data call.now) (source.old, world.old) r (source.new, world.new))
-        (CallLacks (C.answers uploads.now) (C.lacks uploads.now) uses (map call_data earlier.now) (call_data call.now) (source.old, world.old) (source.new, world.new)) result }
+    ensures meant { Gives (λ r. CallGives (C.answers uploads.now) uses (map call_data earlier.now) (call_data call.now) ((source.old, world.old), created.old) r ((source.new, world.new), created.new))
+        (CallLacks (C.answers uploads.now) (C.lacks uploads.now) uses (map call_data earlier.now) (call_data call.now) ((source.old, world.old), created.old) ((source.new, world.new), created.new)) result }
     ensures whole { IfOk result (λ value. has_float (view value) ≡ false) }
 {
     match method_named(uses, call.name.as_str()) {
-        Ok(method) => method_result(alloc, source, world, uploads, method, earlier, call),
+        Ok(method) => method_result(
+            alloc, source, world, uploads, created, method, earlier, call,
+        ),
         Err(error) => Err(error),
     }
 }
@@ -103,27 +108,30 @@ fn response_to<W, C: CallSource<W>>(
     source: &mut C,
     world: &mut W,
     uploads: &BlobStore,
+    created: &mut CreatedIds,
     uses: Using,
     earlier: &[Call],
     call: &Call,
 ) -> Result<Call, AllocError>
-    ensures meant { Responds (C.answers uploads.now) (C.lacks uploads.now) uses (map call_data earlier.now) (call_data call.now) (source.old, world.old) (source.new, world.new) result }
+    ensures meant { Responds (C.answers uploads.now) (C.lacks uploads.now) uses (map call_data earlier.now) (call_data call.now) ((source.old, world.old), created.old) ((source.new, world.new), created.new) result }
     ensures whole { IfOk result IsWhole }
 {
-    let came = call_result(alloc, source, world, uploads, uses, earlier, call);
+    let came = call_result(alloc, source, world, uploads, created, uses, earlier, call);
     response_of(alloc, call, came)
 }
 
-/// The responses to calls, in order. The source answers each at its moment, beside the uploads that are kept.
+/// The responses to calls, in order. The source answers each at its moment, beside the uploads that are kept, and with the ids that were
+/// created by then.
 pub fn responses_to<W, C: CallSource<W>>(
     alloc: Global,
     source: &mut C,
     world: &mut W,
     uploads: &BlobStore,
+    created: &mut CreatedIds,
     uses: Using,
     calls: &[Call],
 ) -> Result<Vec<Call>, AllocError>
-    ensures meant { CallsMake (C.answers uploads.now) (C.lacks uploads.now) uses (source.old, world.old) (source.new, world.new) (map call_data calls.now) result
+    ensures meant { CallsMake (C.answers uploads.now) (C.lacks uploads.now) uses ((source.old, world.old), created.old) ((source.new, world.new), created.new) (map call_data calls.now) result
         (λ v responses. map call_data v.items ≡ responses) }
     ensures whole { IfOk result (λ v. All IsWhole v.items) }
 {
@@ -134,6 +142,7 @@ pub fn responses_to<W, C: CallSource<W>>(
             source,
             world,
             uploads,
+            created,
             uses,
             responses.as_slice(),
             call,

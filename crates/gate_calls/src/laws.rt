@@ -1,5 +1,5 @@
 //! Laws of answers to calls, as clauses of functions that do nothing.
-ghost use Rattle.std.specs.Prelude.{◌≡◌, ◌++◌, ◌↔◌, ℕ, List, true};
+ghost use Rattle.std.specs.Prelude.{◌≡◌, ◌++◌, ◌↔◌, ℕ, List, All, true};
 ghost use Rattle.gate_world.specs.declared.event.Event.{Event};
 ghost use Rattle.jmap_arguments.specs.Arguments.{is_among};
 ghost use Rattle.jmap_arguments.specs.declared.using.Using.{Using};
@@ -8,6 +8,7 @@ ghost use Rattle.result_references.specs.Call.{CallData};
 ghost use Rattle.gate_machine.specs.Progress.{Progress};
 ghost use Rattle.gate_calls.specs.Calling.{Asked, CallsState, DoesCalls, LacksCalls};
 ghost use Rattle.gate_calls.specs.Mailings.{mail_at};
+ghost use Rattle.gate_calls.specs.MethodNames.{ChangesNoMail};
 ghost use Rattle.gate_calls.specs.OneMail.{AnsweredOverOne, LacksOverOne};
 ghost use Rattle.gate_calls.specs.Places.{HasPlaces};
 ghost use Rattle.gate_calls.specs.SortOptions.{IsTakenOrder};
@@ -16,6 +17,7 @@ use email_get::laws::{one_get_answer, one_parse_answer};
 use query_changes::laws::one_query_changes_answer;
 use query_core::laws::one_query_answer;
 use read_methods::laws::one_changes_answer;
+use set_order::items_have_one_order;
 
 /// From two moments at which the same mail is served and the same ids were created, the calls of a request come to one thing: as long as what
 /// they ask is answered as before, the same is asked; once all is, they have the same responses, and leave the same ids and the same mail.
@@ -30,19 +32,20 @@ pub fn calls_have_one_course()
     one_parse_answer();
     one_query_answer();
     one_query_changes_answer();
+    items_have_one_order();
 }
 
 /// Calls that read, each over the mail of its moment, come to what they come to over the one mail that is served before the first of them, and
 /// ask the same bodies in all; also where memory runs out.
 pub fn reading_calls_have_one_mail()
     ensures joined { (uses : Using) (uploads : List (List ℕ)) (before after : CallsState) (calls responses : List CallData) (asks : List Asked)
-        (events : List Event) → DoesCalls uses uploads before calls asks responses events after
+        (events : List Event) → All (λ call. ChangesNoMail uses call.name) calls → DoesCalls uses uploads before calls asks responses events after
         → AnsweredOverOne uses uploads before calls asks responses events after }
     ensures apart { (uses : Using) (uploads : List (List ℕ)) (before after : CallsState) (calls responses : List CallData) (asks : List Asked)
         (events : List Event) → AnsweredOverOne uses uploads before calls asks responses events after
         → DoesCalls uses uploads before calls asks responses events after }
     ensures lacks { (uses : Using) (uploads : List (List ℕ)) (before : CallsState) (calls : List CallData) (events : List Event) (after : Progress)
-        → LacksCalls uses uploads before calls events after → LacksOverOne uses uploads before calls events after }
+        → All (λ call. ChangesNoMail uses call.name) calls → LacksCalls uses uploads before calls events after → LacksOverOne uses uploads before calls events after }
     ensures lacks_apart { (uses : Using) (uploads : List (List ℕ)) (before : CallsState) (calls : List CallData) (events : List Event) (after : Progress)
         → LacksOverOne uses uploads before calls events after → LacksCalls uses uploads before calls events after }
 {}

@@ -2,10 +2,10 @@
 #![tactic(auto)]
 
 // Methods, and what answers them.
-mod lent_mail;
 mod method;
 mod methods;
 mod no_mail;
+mod request_mail;
 mod source;
 
 // Calls, one after another.
@@ -17,8 +17,8 @@ mod laws;
 
 pub use calls::responses_to;
 pub use laws::{calls_have_one_course, orders_offered_are_taken, reading_calls_have_one_mail};
-pub use lent_mail::LentMail;
 pub use method::{Method, method_named, name_needs_mail};
 pub use needs::needs_mail;
 pub use no_mail::NoMail;
+pub use request_mail::{RequestMail, error_of};
 pub use source::CallSource;

@@ -3,9 +3,10 @@ ghost use Rattle.std.specs.Prelude.{◌≡◌};
 ghost use Rattle.gate_calls.specs.MethodNames.{is_used, method_of, method_asked, needs_mail_by};
 
 use jmap_arguments::{MethodError, Using};
+use set_arguments::SetMethod;
 
 /// A method that a call can ask.
-#[derive(Clone, Copy, Debug, PartialEq, Eq)]
+#[derive(Clone, Copy, Debug, PartialEq)]
 pub enum Method {
     /// RFC 8620 section 4
     CoreEcho,
@@ -31,6 +32,8 @@ pub enum Method {
     EmailQueryChanges,
     /// RFC 8621 section 4.9
     EmailParse,
+    /// RFC 8621 sections 2.5 and 4.6
+    Set(SetMethod),
 }
 
 fn method_of(name: &str) -> Option<Method>
@@ -49,6 +52,8 @@ fn method_of(name: &str) -> Option<Method>
         "Email/query" => Some(Method::EmailQuery),
         "Email/queryChanges" => Some(Method::EmailQueryChanges),
         "Email/parse" => Some(Method::EmailParse),
+        "Mailbox/set" => Some(Method::Set(SetMethod::MailboxSet)),
+        "Email/set" => Some(Method::Set(SetMethod::EmailSet)),
         _ => None,
     }
 }

@@ -1,5 +1,5 @@
 // What methods answer over the mail that is served.
-ghost use Rattle.std.specs.Prelude.{◌≡◌, ℕ, List, [], Err, Ok, IfOk, OnOk, Result as result_type, false};
+ghost use Rattle.std.specs.Prelude.{◌≡◌, ◌≢◌, ℕ, List, [], Err, Ok, IfOk, OnOk, Result as result_type, false};
 ghost use Rattle.serde_json.specs.View.{view};
 ghost use Rattle.serde_json.specs.Written.{has_float};
 ghost use Rattle.email_get.specs.Asked.{AsksAndMeets};
@@ -8,7 +8,9 @@ ghost use Rattle.jmap_arguments.specs.declared.method_error.MethodError.{MethodE
 ghost use Rattle.jmap_arguments.specs.declared.method_error.MethodError.TheVariants.{Memory};
 ghost use Rattle.mail_state.specs.History.{MailHistory};
 ghost use Rattle.mail_state.specs.State.{IsStateOf};
-ghost use Rattle.gate_calls.specs.Methods.{AtOnce, RepliesTo, unless_refused};
+ghost use Rattle.set_arguments.specs.declared.set_method.SetMethod.{SetMethod as set_type};
+ghost use Rattle.gate_calls.specs.Methods.{RepliesTo, set_refused, unless_refused};
+ghost use Rattle.gate_calls.specs.declared.method.Method.TheVariants.{Set};
 
 use crate::method::Method;
 use blob_store::BlobStore;
@@ -26,6 +28,7 @@ use read_methods::{
     mailbox_get, thread_changes, thread_get,
 };
 use serde_json::Value;
+use set_arguments::{SetMethod, set_asked};
 use std::alloc::Global;
 
 // The refusal, or the error.
@@ -35,6 +38,16 @@ fn refusal_or(refused: Result<(), MethodError>, error: MethodError) -> Result<Va
 {
     match refused {
         Ok(_) => Err(error),
+        Err(refusal) => Err(refusal),
+    }
+}
+
+// The refusal of a call that changes mail by its arguments alone.
+fn check_set(alloc: Global, method: SetMethod, arguments: &Value) -> Result<(), MethodError>
+    ensures { Agrees Memory (λ u. u) result (set_refused method (view arguments.now)) }
+{
+    match set_asked(alloc, method, arguments) {
+        Ok(_) => Ok(()),
         Err(refusal) => Err(refusal),
     }
 }
@@ -66,6 +79,7 @@ pub(crate) fn reply_without(
             refusal_or(check_email_query_changes(alloc, &arguments), error)
         }
         Method::EmailParse => refusal_or(check_email_parse(alloc, &arguments), error),
+        Method::Set(method) => refusal_or(check_set(alloc, method, &arguments), error),
     }
 }
 
@@ -79,6 +93,7 @@ pub(crate) fn reply_over<W, B: BodySource<W>>(
     method: Method,
     arguments: Value,
 ) -> Result<Value, MethodError>
+    requires { (m : set_type) → method ≢ Set m }
     ensures meant { AsksAndMeets B.answers B.lacks (bodies.old, world.old) (bodies.new, world.new) Memory view result
         (λ asks r. (h : MailHistory) → IsStateOf h state.now → RepliesTo method (record { mail = Ok h; uploads = uploads.now }) (view arguments) asks r) }
     ensures whole { IfOk result (λ value. has_float (view value) ≡ false) }
@@ -96,5 +111,6 @@ pub(crate) fn reply_over<W, B: BodySource<W>>(
         Method::EmailQuery => email_query(alloc, state, &arguments),
         Method::EmailQueryChanges => email_query_changes(alloc, state, &arguments),
         Method::EmailParse => email_parse(alloc, state, uploads, bodies, world, &arguments),
+        Method::Set(_) => unreachable!(),
     }
 }

@@ -5,6 +5,7 @@ use crate::methods::reply_without;
 use crate::source::CallSource;
 use blob_store::BlobStore;
 use jmap_arguments::MethodError;
+use jmap_core::CreatedIds;
 use serde_json::Value;
 use std::alloc::Global;
 
@@ -20,7 +21,7 @@ impl<W> CallSource<W> for NoMail {
     ghost use Rattle.gate_calls.specs.Methods.{RepliesTo};
 
     ghost answers = { λ uploads before m d r after. (after ≡ before)
-        × RepliesTo m (record { mail = Err before.0.error; uploads = uploads }) d [] r };
+        × RepliesTo m (record { mail = Err before.0.0.error; uploads = uploads }) d [] r };
 
     ghost lacks = { λ uploads before m d after. after ≡ before };
 
@@ -29,6 +30,7 @@ impl<W> CallSource<W> for NoMail {
         alloc: Global,
         _world: &mut W,
         _uploads: &BlobStore,
+        _created: &mut CreatedIds,
         method: Method,
         arguments: Value,
     ) -> Result<Value, MethodError> {

@@ -1,8 +1,8 @@
 -- The items of a call over what the machine lends.
-use Rattle.std.proofs.Common.{◌≡◌, ◌≢◌, ◌∙◌, ℕ, ◌+◌, ◌<◌, ◌≤◌, ◌-◌, ◌^◌, List, Option, Some, Err, arith, refl, sym, ap, subst}
+use Rattle.std.proofs.Common.{◌≡◌, ◌≢◌, ◌∙◌, ℕ, ◌+◌, List, Option, Some, Err, arith, refl, sym, ap, subst}
 use Rattle.gate_world.specs.Causes.{Faults, LinkAlone, RoseBy}
 use Rattle.gate_world.specs.declared.event.Event.{Event}
-use Rattle.told_mail.specs.Mail.{Mail, IsNextMail, SameMail}
+use Rattle.told_mail.specs.Mail.{Mail, IsNextMail}
 use Rattle.told_mail.specs.Told.{Told}
 use Rattle.imap_client.specs.LinkLife.{LinkLife, ClientState, Stands}
 use Rattle.imap_client.specs.Rounds.{CountsOn}
@@ -10,7 +10,7 @@ use Rattle.mail_state.specs.History.{MailHistory}
 use Rattle.mail_state.specs.State.{ServedState, IsStateOf}
 use Rattle.gate_machine.specs.History.{KnownMail}
 use Rattle.gate_machine.specs.Holding.{HoldsMachine}
-use Rattle.gate_machine.specs.Kept.{IsSameSince, ServedMail}
+use Rattle.gate_machine.specs.Kept.{ServedMail}
 use Rattle.gate_machine.specs.Lending.{HoldsSource, IsLentOf, SourceState}
 use Rattle.gate_machine.specs.Machine.{hearing}
 use Rattle.gate_machine.specs.Progress.{Bears, CameTo, Progress, StandsInLife, blame_link}
@@ -42,20 +42,6 @@ bears_more lost b was mid now bears alone rose = record {
   front = stays b.front was.front mid.front now.front bears.front alone.front;
   say = stays b.say was.say mid.say now.say bears.say alone.say;
 }
-
--- where the count of the told mail stands, that is the same mail still
-pub same_since : (m : ServedMail) (old new : Told) → IsSameSince m old → CountsOn old new → IsSameSince m new
-same_since m old new same on =
-    let a : m.same_at ≤ old.changes = same.later in
-    let b : old.changes ≤ new.changes = on.rises in
-    record {
-      later = omega (arith, a, b);
-      same = λ is less.
-          let old_is : old.changes ≡ m.same_at = omega (arith, a, b, is) in
-          let still : new.changes ≡ old.changes = omega (arith, a, b, is) in
-          let short : old.changes < 2 ^ 64 - 1 = omega (arith, still, less) in
-          subst (λ (x : Mail). SameMail m.served x) (sym (on.stands still less)) (same.same old_is short);
-    }
 
 -- ---- what is lent
 

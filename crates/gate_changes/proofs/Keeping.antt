@@ -26,7 +26,7 @@ use Rattle.gate_changes.proofs.Doing.{one_known}
 use Rattle.gate_changes.proofs.Telling.{runs_tell}
 
 -- what goes to the commit isn't a call for which there was no memory
-goes_well : (came : ItemsCame) → GoesToCommit came → came ≢ Err OutOfMemory
+pub goes_well : (came : ItemsCame) → GoesToCommit came → came ≢ Err OutOfMemory
 goes_well (Ok done) goes = λ is. cc
 goes_well (Err (Comes done)) goes = λ is. cc
 goes_well (Err (Ends e)) goes = λ is. cc

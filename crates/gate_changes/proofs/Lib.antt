@@ -2,5 +2,7 @@ mod Doing
 mod Settling
 mod Ends
 mod Telling
-mod Keeping
+pub mod Keeping
 mod Replying
+pub mod Epochs
+pub mod Blaming

@@ -1,9 +1,10 @@
 // A call of a changing method is answered over the history after its commit.
-ghost use Rattle.std.specs.Prelude.{◌≡◌, IfErr, IfOk, IsSome, List, OnOk, Some, map, true};
+ghost use Rattle.std.specs.Prelude.{◌≡◌, IfErr, IfOk, IsSome, List, OnOk, Some, false, map, true};
 ghost use Rattle.gate_world.specs.Causes.{Faults, LinkAlone};
 ghost use Rattle.gate_world.specs.Tape.{Adds};
 ghost use Rattle.gate_world.specs.declared.event.Event.{Event};
 ghost use Rattle.serde_json.specs.View.{view};
+ghost use Rattle.serde_json.specs.Written.{has_float};
 ghost use Rattle.mail_state.specs.History.{MailHistory};
 ghost use Rattle.mail_state.specs.State.{IsStateOf};
 ghost use Rattle.gate_machine.specs.History.{KnownMail};
@@ -72,8 +73,9 @@ fn reply_over(
     done: &[(Item<'_>, Done)],
     created: &mut CreatedIds,
 ) -> Result<Value, AllocError>
-    ensures { (h : MailHistory) → IsStateOf h state.now → OnOk result (created.new ≡ created_with h created.old (map done_data done.now))
+    ensures reply { (h : MailHistory) → IsStateOf h state.now → OnOk result (created.new ≡ created_with h created.old (map done_data done.now))
         × IfOk result (λ value. view value ≡ replies.set_reply method before h (map done_data done.now)) }
+    ensures whole { IfOk result (λ value. has_float (view value) ≡ false) }
 {
     let reply = set_reply(alloc, method, before, state, done)?;
     put_created(alloc, state, done, created)?;
@@ -114,6 +116,7 @@ fn reply_after(
     ensures reply { (m : MachineState) (k : KnownMail) → HoldsMachine m machine.now → m.known ≡ Some k → OnOk result (created.new ≡ created_with k.history created.old (map done_data done.now))
         × IfOk result (λ value. view value ≡ replies.set_reply method before k.history (map done_data done.now)) }
     ensures memory { IfErr result (λ e. e ≡ MethodError.Memory) }
+    ensures whole { IfOk result (λ value. has_float (view value) ≡ false) }
 {
     match reply_over(alloc, method, before, state_of(machine), done, created) {
         Ok(reply) => Ok(reply),
@@ -146,6 +149,7 @@ fn answered_by(
         → ChangesTo (call_of checks method a h start.created) items start.progress changed.entry.came machine.now changed.entry.client changed.entry.status was now es
         → AnswersTo checks method a h start result.answer created.new machine.now result.client result.status was now es }
     ensures status { result.status ≡ changed.entry.status }
+    ensures whole { IfOk result.answer (λ value. has_float (view value) ≡ false) }
 {
     let Changed {
         came,
@@ -206,6 +210,7 @@ fn answer_items<'k, L: Link, C: Checks>(
         → CameTo machine.old client MailStatus.Stands was (L.faults link.old) start.progress
         → AnswersTo all method a h start result.answer created.new machine.new result.client result.status was (L.faults link.new) es) }
     ensures ready { result.status ≡ MailStatus.Stands → IsSome machine.new.known }
+    ensures whole { IfOk result.answer (λ value. has_float (view value) ≡ false) }
     ensures alone { LinkAlone (L.faults link.old) (L.faults link.new) }
     ensures hidden { L.hidden link.new ≡ L.hidden link.old }
 {
@@ -230,6 +235,7 @@ fn answer_current<L: Link, C: Checks>(
         → IsServed h start.progress → CameTo machine.old client MailStatus.Stands was (L.faults link.old) start.progress
         → AnswersTo all method (asked_data asked.now) h start result.answer created.new machine.new result.client result.status was (L.faults link.new) es) }
     ensures ready { result.status ≡ MailStatus.Stands → IsSome machine.new.known }
+    ensures whole { IfOk result.answer (λ value. has_float (view value) ≡ false) }
     ensures alone { LinkAlone (L.faults link.old) (L.faults link.new) }
     ensures hidden { L.hidden link.new ≡ L.hidden link.old }
 {
@@ -274,6 +280,7 @@ pub fn answer_change<L: Link, C: Checks>(
         → CameTo machine.old client MailStatus.Stands was (L.faults link.old) start.progress
         → AnswersTo all method (asked_data asked.now) h start result.answer created.new machine.new result.client result.status was (L.faults link.new) es) }
     ensures ready { result.status ≡ MailStatus.Stands → IsSome machine.new.known }
+    ensures whole { IfOk result.answer (λ value. has_float (view value) ≡ false) }
     ensures alone { LinkAlone (L.faults link.old) (L.faults link.new) }
     ensures hidden { L.hidden link.new ≡ L.hidden link.old }
 {

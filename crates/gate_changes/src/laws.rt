@@ -1,14 +1,15 @@
 //! What the definitions of changing calls over a machine promise, as clauses of functions that do nothing.
-ghost use Rattle.std.specs.Prelude.{◌≡◌, ◌≢◌, ℕ, List, Result, false};
+ghost use Rattle.std.specs.Prelude.{◌≡◌, ◌≢◌, ℕ, List, None, Result, Some, false};
 ghost use Rattle.gate_world.specs.declared.event.Event.{Event};
 ghost use Rattle.jmap_arguments.specs.declared.method_error.MethodError.{MethodError};
-ghost use Rattle.gate_machine.specs.Going.{MachineGoesOn};
+ghost use Rattle.gate_machine.specs.Going.{HasGoneOn, MachineGoesOn};
+ghost use Rattle.gate_machine.specs.History.{KnownMail};
 ghost use Rattle.gate_machine.specs.KeptBodies.{KeepsBody};
-ghost use Rattle.gate_machine.specs.Progress.{Progress, is_up};
+ghost use Rattle.gate_machine.specs.Progress.{Progress, blame_link, is_up};
 ghost use Rattle.gate_machine.specs.ServedFolders.{TellsServedFolders};
 ghost use Rattle.gate_machine.specs.Sources.{KnowsExchanges};
 ghost use Rattle.gate_machine.specs.declared.mail_status.MailFailure.TheVariants.{Broken};
-ghost use Rattle.gate_machine.specs.declared.mail_status.MailStatus.TheVariants.{Stands, Unserved};
+ghost use Rattle.gate_machine.specs.declared.mail_status.MailStatus.TheVariants.{OutOfMemory, Stands, Unserved};
 ghost use Rattle.set_jobs.specs.declared.done.Done.{Done};
 ghost use Rattle.set_order.specs.Ordered.{Item};
 ghost use Rattle.set_calls.specs.Calls.{SetCall};
@@ -52,4 +53,34 @@ pub fn changes_keep_bodies()
 pub fn broken_calls_hang_up()
     ensures { (call : SetCall) (items : List Item) (before : Progress) (result : Result (List (Item × Done)) MethodError) (events : List Event) (after : Progress)
         → ChangesMail call items before result events after → after.standing ≢ Stands → (after.standing ≡ Unserved Broken) × (is_up after.left ≡ false) }
+{}
+
+/// No epoch is drawn in such a call: where the machine is ready after it, it was before, and the history that was served then has gone on. Where
+/// memory ran out it isn't ready.
+pub fn changes_draw_no_epoch()
+    ensures changes { (call : SetCall) (items : List Item) (before : Progress) (result : Result (List (Item × Done)) MethodError) (events : List Event) (after : Progress)
+        → ChangesMail call items before result events after → (k : KnownMail) → after.machine.known ≡ Some k
+        → (j : KnownMail) × (before.machine.known ≡ Some j) × HasGoneOn j.history k.history }
+    ensures lacks { (call : SetCall) (items : List Item) (before : Progress) (events : List Event) (after : Progress)
+        → LacksChange call items before events after → after.machine.known ≡ None }
+{}
+
+/// The link alone is blamed for such a call, and no blame is taken back.
+pub fn changes_blame_the_link()
+    ensures changes { (call : SetCall) (items : List Item) (before : Progress) (result : Result (List (Item × Done)) MethodError) (events : List Event) (after : Progress)
+        → ChangesMail call items before result events after → (lost : ℕ) × (after.blamed ≡ blame_link lost before.blamed) }
+    ensures lacks { (call : SetCall) (items : List Item) (before : Progress) (events : List Event) (after : Progress)
+        → LacksChange call items before events after → (lost : ℕ) × (after.blamed ≡ blame_link lost before.blamed) }
+{}
+
+/// Such a call begins where the mail is served. It says that memory ran out exactly where there is no answer.
+pub fn changes_begin_over_mail()
+    ensures begun { (call : SetCall) (items : List Item) (before : Progress) (result : Result (List (Item × Done)) MethodError) (events : List Event) (after : Progress)
+        → ChangesMail call items before result events after → before.standing ≡ Stands }
+    ensures ended { (call : SetCall) (items : List Item) (before : Progress) (result : Result (List (Item × Done)) MethodError) (events : List Event) (after : Progress)
+        → ChangesMail call items before result events after → after.standing ≢ OutOfMemory }
+    ensures lacks_begun { (call : SetCall) (items : List Item) (before : Progress) (events : List Event) (after : Progress)
+        → LacksChange call items before events after → before.standing ≡ Stands }
+    ensures lacks_ended { (call : SetCall) (items : List Item) (before : Progress) (events : List Event) (after : Progress)
+        → LacksChange call items before events after → after.standing ≡ OutOfMemory }
 {}

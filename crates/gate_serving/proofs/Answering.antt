@@ -1,7 +1,7 @@
 -- One client is answered, part by part.
 use Rattle.std.proofs.Common.{arith, ◌≡◌, ◌≢◌, ◌⊎◌, ◌++◌, ◌∷◌, ◌≤◌, ◌+◌, ℕ, Bool, true, false, List, [], Option, Some, None, Result, Ok, Err}
 use Rattle.std.proofs.Common.{refl, sym, ◌∙◌, ap, subst, inl, inr}
-use Rattle.std.specs.Prelude.{IfOk, OnErr, OnOk}
+use Rattle.std.specs.Prelude.{IfOk, IsSome, OnErr, OnOk}
 use Rattle.std.specs.declared.alloc.AllocError.{AllocError}
 use Rattle.std.proofs.lemmas.List.{append-nil}
 use Rattle.gate_world.specs.Causes.{Faults, Hidden, RoseBy, Rose, FrontAlone, NoFault, Later, no_faults}
@@ -20,7 +20,7 @@ use Rattle.gate_machine.specs.Holding.{HoldsMachine, unready}
 use Rattle.gate_machine.specs.Machine.{MachineState, forgotten}
 use Rattle.gate_machine.specs.declared.machine.Machine.{Machine}
 use Rattle.gate_machine.specs.declared.mail_status.MailStatus.{MailStatus}
-use Rattle.gate_machine.specs.declared.mail_status.MailStatus.TheVariants.{Unserved, OutOfMemory}
+use Rattle.gate_machine.specs.declared.mail_status.MailStatus.TheVariants.{Stands, Unserved, OutOfMemory}
 use Rattle.gate_machine.specs.declared.mail_status.MailFailure.{MailFailure}
 use Rattle.gate_machine.proofs.Stages.{holds_none, stays_borne, up_is}
 use Rattle.gate_calls.specs.Mailings.{Mailing, error_of, mail_at, mailing_by}
@@ -40,6 +40,7 @@ use Rattle.gate_serving.specs.RequestWork.{RequestWork, NoMail, WithMail}
 use Rattle.gate_serving.specs.reading.Replying.{Finishes, IsMade, AnswersTo, MakesAtOnce, machine_left, RepliesToAsking, IsUnread, RepliesBy, SendsReply, Serves}
 use Rattle.gate_serving.specs.Gates.{GateHolds, RestStays, account_by}
 use Rattle.gate_serving.specs.reading.Texts.{text_sent}
+use Rattle.gate_serving.proofs.Begun.{has_life}
 use Rattle.gate_serving.proofs.Doing.{lacks_nothing}
 use Rattle.gate_serving.proofs.Gates.{same_account}
 
@@ -199,14 +200,15 @@ finishes_nothing {uploads = uploads} {asking = asking} {client = client} {p = p}
 pub answers_on : {machine : Machine} {client : ClientState} {how : MailStatus} {was then now : Faults} {xs ys : List Event} {user : List ℕ} {h : Hidden} (gate before : Gate)
     (secrets : Hidden) (asking : Asking) (result : Result Response AllocError) (s : GateState) → user ≡ before.account.user → h ≡ secrets → asks_for_mail asking ≡ true
     → gate.uploads ≡ before.uploads → BeginsTo user secrets.password s.machine machine client how was then xs
-    → ((p : Progress) → CameTo machine client how was then p → Finishes before.door (account_by before h) before.uploads asking p gate.machine was now result ys)
+    → ((p : Progress) → CameTo machine client how was then p → (how ≡ Stands → IsSome p.left)
+    → Finishes before.door (account_by before h) before.uploads asking p gate.machine was now result ys)
     → GateHolds s before → (t : GateState) × GateHolds t gate × AnswersTo before.door (account_by before secrets) asking s t was now result (xs ++ ys)
 answers_on {machine} {client} {how} {was} {then} {now} {xs} {ys} gate before secrets asking result s user_is h_is needs same begins finishes holds =
     let begun : BeginsTo before.account.user secrets.password s.machine machine client how was then xs =
     subst (λ (u : List ℕ). BeginsTo u secrets.password s.machine machine client how was then xs) user_is begins in
     answers_over gate before secrets asking result s begun
     (subst (λ (x : Hidden). Finishes before.door (account_by before x) before.uploads asking begun.after gate.machine was now result ys) h_is
-    (finishes begun.after begun.came)) holds needs same
+    (finishes begun.after begun.came (λ stands. has_life begun.begins (begun.came.standing_is ∙ stands)))) holds needs same
 
 -- the same where the answer is known to be none
 pub finishes_lacking : {door : Door} {account : Account} {uploads : List (List ℕ)} {asking : Asking} {machine : Machine} {client : ClientState} {how : MailStatus}

@@ -6,7 +6,16 @@ use Rattle.serde_json.specs.Data.{Data}
 use Rattle.result_references.specs.Call.{CallData}
 use Rattle.jmap_arguments.specs.declared.method_error.MethodError.{MethodError}
 use Rattle.jmap_arguments.specs.declared.using.Using.{Using}
-use Rattle.gate_calls.specs.Calling.{Asked, CallsState, DoesCall, Reads, DoesCalls, NoCalls, MoreCalls, ReadsInVain, LacksNext, AfterLast, InCall, LacksCalls}
+use Rattle.set_arguments.specs.declared.set_method.SetMethod.{SetMethod}
+use Rattle.set_calls.specs.Calls.{SetCall}
+use Rattle.set_jobs.specs.declared.done.Done.{Done}
+use Rattle.set_order.specs.Ordered.{Item}
+use Rattle.gate_changes.specs.Answering as answering
+use Rattle.gate_changes.specs.Answering.{DoesChange, LacksAnswer}
+use Rattle.gate_changes.specs.Changing.{ChangesMail, LacksChange}
+use Rattle.gate_calls.specs.Calling.{Asked, CallsState, DoesCall, Reads, Changes, DoesCalls, NoCalls, MoreCalls, ReadsInVain, ChangesInVain, LacksNext, AfterLast, InCall, LacksCalls}
+use Rattle.gate_calls.specs.ItemChecks.{item_checks}
+use Rattle.gate_calls.specs.Mailings.{Mailing}
 use Rattle.gate_calls.specs.ToldBodies.{CallTells, DoneTell, LacksTells}
 use Rattle.gate_machine.specs.Beginning.{PreparesMail}
 use Rattle.gate_machine.specs.Fetching.{AllAsked, CallsAsk}
@@ -34,22 +43,53 @@ abbrev pub CallsLaw : Type 0
 CallsLaw = (before : Progress) (asks : List BodyAsk) (events : List Event) (after : Progress) (calls : CallsAsk before asks events after)
     → (b : ℕ × List ℕ) → KeepsBody after.machine b → KeepsBody before.machine b ⊎ CallsTell calls b
 
+-- of calls that change mail: they keep no body anew
+pub record ChangesLaw : Type 0 where
+  pub changes : (call : SetCall) (items : List Item) (before : Progress) (result : Result (List (Item × Done)) MethodError) (events : List Event) (after : Progress)
+      → ChangesMail call items before result events after → (b : ℕ × List ℕ) → KeepsBody after.machine b → KeepsBody before.machine b
+  pub lacks : (call : SetCall) (items : List Item) (before : Progress) (events : List Event) (after : Progress) → LacksChange call items before events after
+      → (b : ℕ × List ℕ) → KeepsBody after.machine b → KeepsBody before.machine b
+
 none_known : (k : KnownMail) → None ≡ Some k → ⊥
 none_known k is = cc
 
-module _ (law : PreparedLaw) (calls : CallsLaw) (b : ℕ × List ℕ) where
+module _ (law : PreparedLaw) (calls : CallsLaw) (changing : ChangesLaw) (b : ℕ × List ℕ) where
   keeps_same : (m n : MachineState) → n ≡ m → KeepsBody n b → KeepsBody m b
   keeps_same m n is keeps = subst (λ (l : MachineState). KeepsBody l b) is keeps
 
   keeps_none : (m : MachineState) → m.known ≡ None → KeepsBody m b → ⊥
   keeps_none m none (k, known, among) = none_known k (sym none ∙ known)
 
+  nothing_keeps : (p q : Progress) → q ≡ p → KeepsBody q.machine b → KeepsBody p.machine b
+  nothing_keeps p q is keeps = keeps_same p.machine q.machine (ap (λ (x : Progress). x.machine) is) keeps
+
   -- ---- calls
+
+  change_keeps : {m : SetMethod} {d : Data} {mail : Mailing} {s t : CallsState} {result : Result Data MethodError} {events : List Event}
+      → DoesChange item_checks m d mail s result events t → KeepsBody t.progress.machine b → KeepsBody s.progress.machine b
+  change_keeps {s = s} {t = t} (answering.Refused e is result_is none same) keeps =
+      nothing_keeps s.progress t.progress (ap (λ (x : CallsState). x.progress) same) keeps
+  change_keeps {s = s} {t = t} (answering.Untold a e is mail_is result_is none same) keeps =
+      nothing_keeps s.progress t.progress (ap (λ (x : CallsState). x.progress) same) keeps
+  change_keeps {s = s} {t = t} (answering.Asked a h is mail_is (answering.Mismatch current result_is none same)) keeps =
+      nothing_keeps s.progress t.progress (ap (λ (x : CallsState). x.progress) same) keeps
+  change_keeps {s = s} {t = t} {events = events} (answering.Asked a h is mail_is (answering.Changes items came current items_are does answers)) keeps =
+      changing.changes _ items s.progress came events t.progress does b keeps
+
+  lacking_keeps : {m : SetMethod} {d : Data} {mail : Mailing} {s : CallsState} {events : List Event} {q : Progress} → LacksAnswer item_checks m d mail s events q
+      → KeepsBody q.machine b → KeepsBody s.progress.machine b
+  lacking_keeps {s = s} {q = q} (answering.Unread none same) keeps = nothing_keeps s.progress q same keeps
+  lacking_keeps {s = s} {q = q} (answering.LacksIn a h is mail_is (answering.BeforeItems none same)) keeps = nothing_keeps s.progress q same keeps
+  lacking_keeps {s = s} {events = events} {q = q} (answering.LacksIn a h is mail_is (answering.Meanwhile items current items_are lacks)) keeps =
+      changing.lacks _ items s.progress events q lacks b keeps
+  lacking_keeps {s = s} {events = events} {q = q} (answering.LacksIn a h is mail_is (answering.Unanswered items came current items_are does)) keeps =
+      changing.changes _ items s.progress came events q does b keeps
 
   call_keeps : {uses : Using} {uploads : List (List ℕ)} {earlier : List CallData} {call : CallData} {s t : CallsState} {asks : List Asked} {result : Result Data MethodError}
       {events : List Event} (does : DoesCall uses uploads earlier call s asks result events t) → KeepsBody t.progress.machine b
       → KeepsBody s.progress.machine b ⊎ CallTells does b
   call_keeps {s = s} {t = t} {events = events} (Reads bodies answers asked is created) keeps = calls s.progress bodies events t.progress (AllAsked asked) b keeps
+  call_keeps (Changes m d h named resolved told does asks_are) keeps = inl (change_keeps does keeps)
 
   done_keep : {uses : Using} {uploads : List (List ℕ)} {s t : CallsState} {cs responses : List CallData} {asks : List Asked} {events : List Event}
       (does : DoesCalls uses uploads s cs asks responses events t) → KeepsBody t.progress.machine b → KeepsBody s.progress.machine b ⊎ DoneTell does b
@@ -63,6 +103,7 @@ module _ (law : PreparedLaw) (calls : CallsLaw) (b : ℕ × List ℕ) where
       (lacks : LacksNext uses uploads earlier mid events q later) → KeepsBody q.machine b → KeepsBody mid.progress.machine b ⊎ LacksTells lacks b
   next_keeps {mid = mid} {q = q} (AfterLast none is) keeps = inl (keeps_same mid.progress.machine q.machine (ap (λ (p : Progress). p.machine) is) keeps)
   next_keeps {mid = mid} {events = events} {q = q} (InCall (ReadsInVain tried asked due)) keeps = calls mid.progress tried events q asked b keeps
+  next_keeps (InCall (ChangesInVain m d h named resolved told lacks)) keeps = inl (lacking_keeps lacks keeps)
 
   lacks_keep : {uses : Using} {uploads : List (List ℕ)} {cs : List CallData} {s : CallsState} {events : List Event} {q : Progress}
       (lacks : LacksCalls uses uploads s cs events q) → KeepsBody q.machine b
@@ -73,9 +114,6 @@ module _ (law : PreparedLaw) (calls : CallsLaw) (b : ℕ × List ℕ) where
   ]
 
   -- ---- the work
-
-  nothing_keeps : (p q : Progress) → q ≡ p → KeepsBody q.machine b → KeepsBody p.machine b
-  nothing_keeps p q is keeps = keeps_same p.machine q.machine (ap (λ (x : Progress). x.machine) is) keeps
 
   does_keep : (account : Account) (uploads : List (List ℕ)) (asking : Asking) (p : Progress) (events : List Event) (q : Progress) (came : Option Answer)
       (does : Does account uploads asking p events q came) → KeepsBody q.machine b → KeepsBody p.machine b ⊎ DoesTell asking does b
@@ -131,6 +169,6 @@ module _ (law : PreparedLaw) (calls : CallsLaw) (b : ℕ × List ℕ) where
   ]
 
 -- a body that is kept after a run was kept before it, or a fetch in it told it
-pub bodies_told : PreparedLaw → CallsLaw → (door : Door) (account : Account) (before after : GateState) (events : List Event) (went : List ClientOutcome)
+pub bodies_told : PreparedLaw → CallsLaw → ChangesLaw → (door : Door) (account : Account) (before after : GateState) (events : List Event) (went : List ClientOutcome)
     (run : Run door account before events went after) (b : ℕ × List ℕ) → KeepsBody after.machine b → KeepsBody before.machine b ⊎ RunTells run b
-bodies_told law calls door account before after events went run b keeps = run_keeps law calls b run keeps
+bodies_told law calls changing door account before after events went run b keeps = run_keeps law calls changing b run keeps

@@ -6,6 +6,7 @@ mod Gates
 mod Ids
 mod Running
 mod Doing
+mod Obeyed
 mod Needs
 mod Going
 mod OneAnswer
@@ -15,3 +16,4 @@ mod ServedAnswers
 pub mod Told
 mod Made
 mod Lent
+mod Begun

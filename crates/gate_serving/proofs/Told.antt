@@ -40,7 +40,7 @@ blamed_once f is = never f.front (ap (λ (g : Faults). g.front) is)
 
 takes : (door : Door) (account : Account) (events replied heard : List Event) (text : List ℕ) (how : ClientOutcome) (before after : GateState)
     → events ≡ Accepted ∷ ((replied ++ heard) ++ ClientDone ∷ []) → (a : AnswersAsking door account before replied text after) → Hears text heard → how ≡ served.Whole
-    → IsAnsweredFrom account after.uploads a.asking a.answer a.done ⊎ (a.done.standing ≡ OutOfMemory) → IsClientTold door account events how after
+    → IsAnsweredFrom account after.uploads a.asking a.answer a.worked a.done ⊎ (a.done.standing ≡ OutOfMemory) → IsClientTold door account events how after
 takes door account events replied heard text how before after is a hears whole (inl from) =
     IsAnswered record {
       asked = a.asked;

@@ -1,15 +1,17 @@
 -- What a client is owed of whom nothing fails.
-use Rattle.std.specs.Prelude.{◌≡◌, ◌⊎◌, ◌++◌, ℕ, false, List, [], ◌∷◌, Option, Some, Ok, Err}
+use Rattle.std.specs.Prelude.{◌≡◌, ◌⊎◌, ◌++◌, ℕ, false, List, [], ◌∷◌, fold, Option, Some, Ok, Err}
 use Rattle.gate_world.specs.Causes.{no_faults}
 use Rattle.gate_world.specs.Octets.{Hears}
 use Rattle.gate_world.specs.declared.event.Event.{Event}
 use Rattle.gate_world.specs.declared.event.Event.TheVariants.{Accepted, NoMore, ClientDone}
 use Rattle.http_requests.specs.declared.asking.AskError.TheVariants as unread
+use Rattle.mail_state.specs.History.{MailHistory}
+use Rattle.gate_machine.specs.Beginning.{PreparesMail}
 use Rattle.gate_machine.specs.History.{KnownMail}
 use Rattle.gate_machine.specs.Obeying.{AreAsksObeyed, IsObeyedBeginning}
 use Rattle.gate_machine.specs.Progress.{Progress}
 use Rattle.gate_machine.specs.Machine.{MachineState}
-use Rattle.gate_calls.specs.Calling.{AllAskedCome, AreDoneObeyed, Asked}
+use Rattle.gate_calls.specs.Calling.{AllAskedCome, AreDoneObeyed, Asked, Committed}
 use Rattle.gate_calls.specs.Mailings.{mail_at}
 use Rattle.gate_serving.specs.declared.door.Door.{Door}
 use Rattle.gate_serving.specs.declared.outcomes.ClientOutcome.{ClientOutcome}
@@ -37,17 +39,39 @@ abbrev pub IsWorkObeyed : {account : Account} {uploads : List (List ℕ)} {befor
 IsWorkObeyed (NoMail a does b c) = Unit {0}
 IsWorkObeyed {asking = asking} (WithMail a work) = IsObeyedBeginning work.prepares × IsDoneObeyed asking work.does
 
--- What is asked is answered from the mail: it begins over what is served then, which is the history that is served after it too, and all that is
--- asked for it comes; or it needs no mail.
-pub record IsAnsweredFrom (account : Account) (uploads : List (List ℕ)) (asking : Asking) (answer : Answer) (after : Progress) : Type 0 where
+-- the history that is served after something that was asked: the one that a commit moved on to
+abbrev pub served_by : MailHistory → Asked → MailHistory
+served_by h (Committed (Some next)) = next
+served_by h _ = h
+
+-- after all of these, in order
+abbrev pub served_last : MailHistory → List Asked → MailHistory
+served_last h asks = fold served_by h asks
+
+-- The answer begins over the mail that is served once it is prepared; all comes that is asked for it, and what its commits moved on to is served after it.
+pub record IsFromMail (account : Account) (beginning : List Event) (begun : Progress) (asks : List Asked) (after : Progress) : Type 0 where
+  pub before : MachineState
+  pub history : MailHistory
+  pub known : KnownMail
+  pub prepares : PreparesMail account.user account.password before beginning begun
+  pub served : mail_at begun ≡ Ok history
+  pub come : AllAskedCome asks
+  pub ready : after.machine.known ≡ Some known
+  pub moved_on : known.history ≡ served_last history asks
+
+-- What is asked is answered from the mail, in this work; or it needs no mail.
+pub record IsAnsweredFrom (account : Account) (uploads : List (List ℕ)) (asking : Asking) (answer : Answer) (worked : List Event) (after : Progress)
+    : Type 0 where
   pub begun : Progress
   pub answered : Progress
   pub asks : List Asked
-  pub events : List Event
-  pub answers : Answers account uploads asking begun asks events answer answered
+  pub beginning : List Event
+  pub doing : List Event
+  pub ending : List Event
+  pub whole : worked ≡ beginning ++ (doing ++ ending)
+  pub answers : Answers account uploads asking begun asks doing answer answered
   pub machine_is : after.machine ≡ answered.machine
-  pub from : ((asks_for_mail asking ≡ false) × (asks ≡ []))
-      ⊎ ((k : KnownMail) × (after.machine.known ≡ Some k) × (mail_at begun ≡ Ok k.history) × AllAskedCome asks)
+  pub from : ((asks_for_mail asking ≡ false) × (asks ≡ [])) ⊎ IsFromMail account beginning begun asks after
 
 -- ---- a client
 
@@ -66,7 +90,7 @@ IsSegmentObeyed (Left asked a b c d) = Unit {0}
 IsSegmentObeyed (Unasked asked a b c d) = Unit {0}
 IsSegmentObeyed (Replied a) = IsReplyObeyed a.replies
 
--- The client takes the whole answer to what it asked, from the mail that is served from then on.
+-- The client takes the whole answer to what it asked, from the mail that is served as its first call begins, and from what its calls change.
 pub record TakesResponse (door : Door) (account : Account) (events : List Event) (after : GateState) : Type 0 where
   pub asked : List Event
   pub worked : List Event
@@ -76,7 +100,7 @@ pub record TakesResponse (door : Door) (account : Account) (events : List Event)
   pub done : Progress
   pub whole : events ≡ Accepted ∷ (((asked ++ worked) ++ heard) ++ ClientDone ∷ [])
   pub reads : ReadsAsking door account.token (Ok asking) asked
-  pub answered : IsAnsweredFrom account after.uploads asking answer done
+  pub answered : IsAnsweredFrom account after.uploads asking answer worked done
   pub machine_is : after.machine ≡ done.machine
   pub hears : Hears (spelled door answer) heard
 

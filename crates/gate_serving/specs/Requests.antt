@@ -1,5 +1,5 @@
 -- What clients ask (RFC 8620 sections 2, 3.3, 6.1 and 6.2), and how it is read.
-use Rattle.std.specs.Prelude.{◌≡◌, ◌⊎◌, ℕ, Bool, true, false, nat_le, List, length, if◌then◌else◌, Option, Result, Ok, Err}
+use Rattle.std.specs.Prelude.{◌≡◌, ◌⊎◌, ℕ, Bool, true, false, nat_le, All, List, length, if◌then◌else◌, Option, Result, Ok, Err}
 use Rattle.gate_world.specs.declared.event.Event.{Event}
 use Rattle.blob_store.specs.declared.store.TheConstants.{MAX_UPLOAD_OCTETS}
 use Rattle.http_requests.specs.Asking.{AsksOverHttp}
@@ -18,6 +18,7 @@ use Rattle.gate_serving.specs.declared.door.Door.TheVariants.{Bare, Http}
 use Rattle.gate_serving.specs.declared.front.FrontError.TheVariants as front
 use Rattle.gate_serving.specs.declared.front.Input.TheVariants.{Whole, Cut}
 use Rattle.gate_calls.specs.Calls.{needs_mail}
+use Rattle.gate_calls.specs.MethodNames.{ChangesNoMail}
 use Rattle.gate_serving.specs.Front.{GivesRequest}
 
 -- Who is served: the store's user and password, the token that clients show, and the URL that they come by.
@@ -47,6 +48,11 @@ abbrev pub asks_for_mail : Asking → Bool
 asks_for_mail (Calls request) = needs_mail request.calls
 asks_for_mail (Download blob media) = true
 asks_for_mail _ = false
+
+-- No call of it changes mail.
+abbrev pub ReadsAlone : Asking → Type 0
+ReadsAlone (Calls request) = All (λ call. ChangesNoMail request.uses call.name) request.calls
+ReadsAlone _ = Unit {0}
 
 -- ---- what is read
 

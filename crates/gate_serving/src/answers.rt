@@ -1,5 +1,5 @@
 // The answers to what clients ask.
-ghost use Rattle.std.specs.Prelude.{◌≡◌, ℕ, IfOk, All, List, map, string_bytes, Ok};
+ghost use Rattle.std.specs.Prelude.{◌≡◌, ℕ, IfOk, All, List, map, string_bytes, Ok, Some, None, if◌then◌else◌};
 ghost use Rattle.std.specs.Option.{option_copied};
 ghost use Rattle.serde_json.specs.View.{view};
 ghost use Rattle.serde_json.specs.Written.{compact_text};
@@ -13,6 +13,8 @@ ghost use Rattle.email_get.specs.Asked.{FailsAfter};
 ghost use Rattle.email_get.specs.Blobs.{FindsBlob, OctetsFound};
 ghost use Rattle.gate_calls.specs.Sources.{CallsMake};
 ghost use Rattle.gate_serving.specs.Answers.{calls_text as text_of_calls, found_answer, json_answer, problem_answer, spelled, untold_problem, upload_data};
+ghost use Rattle.jmap_core.specs.CreatedIds.{Ids};
+ghost use Rattle.gate_serving.specs.Doing.{ids_given, ids_told};
 ghost use Rattle.gate_serving.specs.reading.Making.{AsksAndMakes};
 ghost use Rattle.gate_serving.specs.reading.Texts.{text_sent};
 
@@ -29,7 +31,7 @@ use http_requests::{MAX_REQUEST_OCTETS, download_media, json_media, problem_medi
 use http_service::Refusal;
 use jmap_arguments::ACCOUNT_ID;
 use jmap_core::{
-    LimitName, MAX_SIZE_REQUEST, MAX_SIZE_UPLOAD, Request, RequestError, problem_text,
+    CreatedIds, LimitName, MAX_SIZE_REQUEST, MAX_SIZE_UPLOAD, Request, RequestError, problem_text,
     response_text, session_object, session_state,
 };
 use mail_state::MailState;
@@ -47,13 +49,14 @@ fn calls_text(
     alloc: Global,
     account: &Account,
     responses: &[Call],
-    request: &Request,
+    created: Option<&CreatedIds>,
 ) -> Result<String, AllocError>
     requires { All IsWhole responses.now }
-    ensures { IfOk result (λ text. string_bytes text ≡ text_of_calls account.now.user account.now.base (map call_data responses.now) (request_data request.now).created) }
+    ensures { IfOk result (λ text. string_bytes text
+        ≡ text_of_calls account.now.user account.now.base (map call_data responses.now) (option_copied created.entry)) }
 {
     let session = session_state(alloc, account.user.as_str(), account.base.as_str())?;
-    response_text(alloc, responses, request.created.as_ref(), session.as_str())
+    response_text(alloc, responses, created, session.as_str())
 }
 
 // JSON, of this status.
@@ -69,23 +72,41 @@ fn json_response(
     Response::new(alloc, door, status, &json_media(), body)
 }
 
-// The answer that has these responses.
+// The answer that has these responses, and these ids where some are told.
 fn responses_answer(
     alloc: Global,
     door: Door,
     account: &Account,
     responses: &[Call],
-    request: &Request,
+    created: Option<&CreatedIds>,
 ) -> Result<Response, AllocError>
     requires { All IsWhole responses.now }
     ensures { IfOk result (λ r. text_sent r
-        ≡ spelled door (json_answer 200 (text_of_calls account.now.user account.now.base (map call_data responses.now) (request_data request.now).created))) }
+        ≡ spelled door (json_answer 200 (text_of_calls account.now.user account.now.base (map call_data responses.now) (option_copied created.entry)))) }
 {
-    let text = calls_text(alloc, account, responses, request)?;
+    let text = calls_text(alloc, account, responses, created)?;
     json_response(alloc, door, StatusCode::OK, text)
 }
 
-/// The answer to method calls. The source answers each at its moment, beside the uploads that are kept.
+// The ids that are there before the first call.
+fn ids_begun(alloc: Global, given: Option<CreatedIds>) -> CreatedIds
+    ensures { result ≡ ids_given given }
+{
+    match given {
+        Some(ids) => ids,
+        None => CreatedIds::new(alloc),
+    }
+}
+
+// All that were created by then, where the request gives some.
+fn ids_to_tell(gives: bool, created: &CreatedIds) -> Option<&CreatedIds>
+    ensures { option_copied result ≡ if gives then Some created.now else None }
+{
+    if gives { Some(created) } else { None }
+}
+
+/// The answer to method calls. The source answers each at its moment, beside the uploads that are kept. The ids that were created by then
+/// are told where the request gives some.
 pub fn calls_response<W, C: CallSource<W>>(
     alloc: Global,
     door: Door,
@@ -93,21 +114,31 @@ pub fn calls_response<W, C: CallSource<W>>(
     source: &mut C,
     world: &mut W,
     uploads: &BlobStore,
-    request: &Request,
+    request: Request,
 ) -> Result<Response, AllocError>
-    ensures { CallsMake (C.answers uploads.now) (C.lacks uploads.now) (request_data request.now).uses (source.old, world.old) (source.new, world.new)
-        (request_data request.now).calls result
-        (λ r responses. text_sent r ≡ spelled door (json_answer 200 (text_of_calls account.now.user account.now.base responses (request_data request.now).created))) }
+    ensures { (ids : Ids) × CallsMake (C.answers uploads.now) (C.lacks uploads.now) (request_data request).uses
+        ((source.old, world.old), ids_given (request_data request).created) ((source.new, world.new), ids) (request_data request).calls result
+        (λ r responses. text_sent r
+        ≡ spelled door (json_answer 200 (text_of_calls account.now.user account.now.base responses (ids_told (request_data request).created ids)))) }
 {
+    let Request {
+        using,
+        calls,
+        created,
+    } = request;
+    let gives = created.is_some();
+    let mut ids = ids_begun(alloc, created);
     let responses = responses_to(
         alloc,
         source,
         world,
         uploads,
-        request.using,
-        request.calls.as_slice(),
+        &mut ids,
+        using,
+        calls.as_slice(),
     )?;
-    responses_answer(alloc, door, account, responses.as_slice(), request)
+    let told = ids_to_tell(gives, &ids);
+    responses_answer(alloc, door, account, responses.as_slice(), told)
 }
 
 fn status_of(error: RequestError) -> StatusCode

@@ -7,6 +7,7 @@ ghost use Rattle.jmap_core.specs.Request.{request_data};
 ghost use Rattle.result_references.specs.Call.{CallData};
 ghost use Rattle.gate_machine.specs.Holding.{unready};
 ghost use Rattle.gate_machine.specs.Progress.{CameTo, Progress};
+ghost use Rattle.gate_machine.specs.declared.mail_status.MailFailure.{MailFailure};
 ghost use Rattle.gate_machine.specs.declared.mail_status.MailStatus.TheVariants.{Unserved, Stands};
 ghost use Rattle.gate_calls.specs.Calls.{AnswersCalls};
 ghost use Rattle.gate_calls.specs.Mailings.{error_of as error_meant, mail_at};
@@ -34,8 +35,8 @@ use crate::reading::read_asking;
 use crate::response::Response;
 use crate::upload::Upload;
 use blob_store::BlobStore;
-use gate_calls::{LentMail, NoMail};
-use gate_machine::{Machine, MailFailure, MailStatus, begin};
+use gate_calls::{NoMail, RequestMail, error_of};
+use gate_machine::{Machine, MailStatus, begin};
 use gate_words::Place;
 use gate_world::{Failed, Front, World};
 use http_requests::AskError;
@@ -46,6 +47,7 @@ use jmap_arguments::MethodError;
 use jmap_core::Request;
 use octets::Bytes;
 use std::alloc::{AllocError, Global};
+use std::mem;
 
 /// Answers one client after another.
 #[derive(Drop)]
@@ -101,8 +103,8 @@ impl Gate {
         }
     }
 
-    // A client that came: what it asks is read, the mail is begun over where that needs it, its calls are answered in order, what was lent
-    // to them is settled, and the answer is sent.
+    // A client that came: what it asks is read, the mail is begun over where that needs it, its calls are answered in order, the link life
+    // ends, and the answer is sent.
     fn answer_client<W: World>(&mut self, alloc: Global, world: &mut W) -> ClientOutcome
         ensures run { Adds (W.tape world.old) (W.tape world.new)
             (Comes self.old self.new (λ s t. Serves self.old.door (account_by self.old (W.hidden world.old)) s t (W.faults world.old) (W.faults world.new) result)) }
@@ -128,7 +130,7 @@ impl Gate {
         ensures hidden { W.hidden world.new ≡ W.hidden world.old }
     {
         match read_asking(alloc, world, self.door, &self.routes) {
-            Ok(asking) => Some(self.answer(alloc, world, &asking)),
+            Ok(asking) => Some(self.answer(alloc, world, asking)),
             Err(AskError::Memory) => Some(self.lack()),
             Err(AskError::Ended) => None,
             Err(AskError::Failed) => None,
@@ -136,9 +138,9 @@ impl Gate {
     }
 
     // The response to what is asked.
-    fn answer<W: World>(&mut self, alloc: Global, world: &mut W, asking: &Asking) -> Response
+    fn answer<W: World>(&mut self, alloc: Global, world: &mut W, asking: Asking) -> Response
         ensures run { Adds (W.tape world.old) (W.tape world.new)
-            (Comes self.old self.new (λ s t. RepliesToAsking self.old.door (account_by self.old (W.hidden world.old)) (asking_data asking.now) s t
+            (Comes self.old self.new (λ s t. RepliesToAsking self.old.door (account_by self.old (W.hidden world.old)) (asking_data asking) s t
             (W.faults world.old) (W.faults world.new) (text_sent result))) }
         ensures rest { RestStays self.old self.new }
         ensures alone { LinkAlone (W.faults world.old) (W.faults world.new) }
@@ -155,10 +157,10 @@ impl Gate {
         &mut self,
         alloc: Global,
         world: &mut W,
-        asking: &Asking,
+        asking: Asking,
     ) -> Result<Response, AllocError>
         ensures run { Adds (W.tape world.old) (W.tape world.new)
-            (Comes self.old self.new (λ s t. AnswersTo self.old.door (account_by self.old (W.hidden world.old)) (asking_data asking.now) s t
+            (Comes self.old self.new (λ s t. AnswersTo self.old.door (account_by self.old (W.hidden world.old)) (asking_data asking) s t
             (W.faults world.old) (W.faults world.new) result)) }
         ensures rest { RestStays self.old self.new }
         ensures alone { LinkAlone (W.faults world.old) (W.faults world.new) }
@@ -175,10 +177,10 @@ impl Gate {
         &mut self,
         alloc: Global,
         world: &mut W,
-        asking: &AskingOverMail,
+        asking: AskingOverMail,
     ) -> Result<Response, AllocError>
         ensures run { Adds (W.tape world.old) (W.tape world.new)
-            (Comes self.old self.new (λ s t. AnswersTo self.old.door (account_by self.old (W.hidden world.old)) (over_mail_data asking.now) s t
+            (Comes self.old self.new (λ s t. AnswersTo self.old.door (account_by self.old (W.hidden world.old)) (over_mail_data asking) s t
             (W.faults world.old) (W.faults world.new) result)) }
         ensures rest { RestStays self.old self.new }
         ensures alone { LinkAlone (W.faults world.old) (W.faults world.new) }
@@ -204,12 +206,12 @@ impl Gate {
         alloc: Global,
         client: Client,
         world: &mut W,
-        asking: &AskingOverMail,
+        asking: AskingOverMail,
     ) -> Result<Response, AllocError>
         requires { IsSome self.old.machine.known }
         ensures run { Adds (W.tape world.old) (W.tape world.new) (λ es. (p : Progress) (was : Faults)
-            → CameTo self.old.machine client Stands was (W.faults world.old) p
-            → Finishes self.old.door (account_by self.old (W.hidden world.old)) self.old.uploads (over_mail_data asking.now) p self.new.machine was
+            → CameTo self.old.machine client Stands was (W.faults world.old) p → IsSome p.left
+            → Finishes self.old.door (account_by self.old (W.hidden world.old)) self.old.uploads (over_mail_data asking) p self.new.machine was
             (W.faults world.new) result es) }
         ensures rest { RestStays self.old self.new }
         ensures uploads { self.new.uploads ≡ self.old.uploads }
@@ -217,33 +219,36 @@ impl Gate {
         ensures hidden { W.hidden world.new ≡ W.hidden world.old }
     {
         match asking {
-            AskingOverMail::Calls(calls) => self.answer_calls(alloc, client, world, &calls.request),
+            AskingOverMail::Calls(calls) => self.answer_calls(alloc, client, world, calls.request),
             AskingOverMail::Download { blob, media } => {
-                self.answer_download(alloc, client, world, blob.as_slice(), media_of(media))
+                self.answer_download(alloc, client, world, blob.as_slice(), media_of(&media))
             }
         }
     }
 
-    // The same for method calls, to which what is known of the mail is lent.
+    // The same for method calls, which have the machine until they are answered.
     fn answer_calls<W: World>(
         &mut self,
         alloc: Global,
         client: Client,
         world: &mut W,
-        request: &Request,
+        request: Request,
     ) -> Result<Response, AllocError>
-        requires { IsSome self.old.machine.known }
         ensures run { Adds (W.tape world.old) (W.tape world.new) (λ es. (p : Progress) (was : Faults)
-            → CameTo self.old.machine client Stands was (W.faults world.old) p
-            → Finishes self.old.door (account_by self.old (W.hidden world.old)) self.old.uploads (spec.Calls (request_data request.now)) p self.new.machine was
+            → CameTo self.old.machine client Stands was (W.faults world.old) p → IsSome p.left
+            → Finishes self.old.door (account_by self.old (W.hidden world.old)) self.old.uploads (spec.Calls (request_data request)) p self.new.machine was
             (W.faults world.new) result es) }
         ensures rest { RestStays self.old self.new }
         ensures uploads { self.new.uploads ≡ self.old.uploads }
         ensures alone { LinkAlone (W.faults world.old) (W.faults world.new) }
         ensures hidden { W.hidden world.new ≡ W.hidden world.old }
     {
-        let (served, fetching) = self.machine.lend(client);
-        let mut mail = LentMail { served, fetching };
+        let machine = mem::replace(&mut self.machine, Machine { known: None });
+        let mut mail = RequestMail {
+            machine,
+            client,
+            status: MailStatus::Stands,
+        };
         let made = calls_response(
             alloc,
             self.door,
@@ -253,8 +258,12 @@ impl Gate {
             &self.uploads,
             request,
         );
-        let LentMail { served, fetching } = mail;
-        let mut client = self.machine.take_back(served, fetching);
+        let RequestMail {
+            machine,
+            mut client,
+            ..
+        } = mail;
+        self.machine = machine;
         client.leave(world);
         self.unless_lacking(made)
     }
@@ -300,12 +309,12 @@ impl Gate {
         alloc: Global,
         client: Client,
         world: &mut W,
-        asking: &AskingOverMail,
+        asking: AskingOverMail,
         error: MethodError,
     ) -> Result<Response, AllocError>
         ensures run { Adds (W.tape world.old) (W.tape world.new) (λ es. (p : Progress) (was : Faults) (how : MailFailure)
             → CameTo self.old.machine client (Unserved how) was (W.faults world.old) p → error ≡ error_meant how
-            → Finishes self.old.door (account_by self.old (W.hidden world.old)) self.old.uploads (over_mail_data asking.now) p self.new.machine was
+            → Finishes self.old.door (account_by self.old (W.hidden world.old)) self.old.uploads (over_mail_data asking) p self.new.machine was
             (W.faults world.new) result es) }
         ensures rest { RestStays self.old self.new }
         ensures uploads { self.new.uploads ≡ self.old.uploads }
@@ -323,15 +332,15 @@ impl Gate {
         &self,
         alloc: Global,
         world: &mut W,
-        asking: &AskingOverMail,
+        asking: AskingOverMail,
         error: MethodError,
     ) -> Result<Response, AllocError>
         ensures made { IfOk result (λ r. (secrets : Hidden) (p : Progress) → mail_at p ≡ Err error → (answer : Answer)
-            × Does (account_by self.now secrets) self.now.uploads (over_mail_data asking.now) p [] p (Some answer) × (text_sent r ≡ spelled self.now.door answer)) }
+            × Does (account_by self.now secrets) self.now.uploads (over_mail_data asking) p [] p (Some answer) × (text_sent r ≡ spelled self.now.door answer)) }
         ensures world { world.new ≡ world.old }
     {
         match asking {
-            AskingOverMail::Calls(calls) => self.calls_without(alloc, world, &calls.request, error),
+            AskingOverMail::Calls(calls) => self.calls_without(alloc, world, calls.request, error),
             AskingOverMail::Download { .. } => untold_response(alloc, self.door),
         }
     }
@@ -353,10 +362,10 @@ impl Gate {
         &mut self,
         alloc: Global,
         world: &mut W,
-        asking: &AskingAtOnce,
+        asking: AskingAtOnce,
     ) -> Result<Response, AllocError>
         ensures run { (s : GateState) → GateHolds s self.old → (t : GateState) × GateHolds t self.new
-            × AnswersTo self.old.door (account_by self.old (W.hidden world.old)) (at_once_data asking.now) s t (W.faults world.old) (W.faults world.old) result [] }
+            × AnswersTo self.old.door (account_by self.old (W.hidden world.old)) (at_once_data asking) s t (W.faults world.old) (W.faults world.old) result [] }
         ensures rest { RestStays self.old self.new }
         ensures world { world.new ≡ world.old }
     {
@@ -369,11 +378,11 @@ impl Gate {
         &mut self,
         alloc: Global,
         world: &mut W,
-        asking: &AskingAtOnce,
+        asking: AskingAtOnce,
     ) -> Result<Response, AllocError>
-        ensures made { IfOk result (MakesAtOnce (at_once_data asking.now) self.old self.new) }
-        ensures may { MayKeepUpload (at_once_data asking.now) self.old.uploads self.new.uploads }
-        ensures takes { OnErr result (TakesMemory (at_once_data asking.now)) }
+        ensures made { IfOk result (MakesAtOnce (at_once_data asking) self.old self.new) }
+        ensures may { MayKeepUpload (at_once_data asking) self.old.uploads self.new.uploads }
+        ensures takes { OnErr result (TakesMemory (at_once_data asking)) }
         ensures rest { RestStays self.old self.new }
         ensures machine { self.new.machine ≡ self.old.machine }
         ensures world { world.new ≡ world.old }
@@ -381,12 +390,12 @@ impl Gate {
         match asking {
             AskingAtOnce::Calls(calls) => {
                 let error = MethodError::ServerUnavailable;
-                self.calls_without(alloc, world, &calls.request, error)
+                self.calls_without(alloc, world, calls.request, error)
             }
-            AskingAtOnce::Problem(error) => problem_response(alloc, self.door, *error),
+            AskingAtOnce::Problem(error) => problem_response(alloc, self.door, error),
             AskingAtOnce::Session => session_response(alloc, self.door, &self.account),
-            AskingAtOnce::Upload(upload) => self.keep(alloc, upload),
-            AskingAtOnce::Refused(refusal) => Ok(Response::empty(self.door, *refusal)),
+            AskingAtOnce::Upload(upload) => self.keep(alloc, &upload),
+            AskingAtOnce::Refused(refusal) => Ok(Response::empty(self.door, refusal)),
         }
     }
 
@@ -408,13 +417,13 @@ impl Gate {
         &self,
         alloc: Global,
         world: &mut W,
-        request: &Request,
+        request: Request,
         error: MethodError,
     ) -> Result<Response, AllocError>
         ensures made { IfOk result (λ r. (responses : List CallData)
-            × AnswersCalls (request_data request.now).uses (record { mail = Err error; uploads = self.now.uploads }) (request_data request.now).calls [] responses
+            × AnswersCalls (request_data request).uses (record { mail = Err error; uploads = self.now.uploads }) (request_data request).calls [] responses
             × ((secrets : Hidden) → text_sent r ≡ spelled self.now.door (json_answer 200 (calls_text (account_by self.now secrets).user (account_by self.now secrets).base
-            responses (request_data request.now).created)))) }
+            responses (request_data request).created)))) }
         ensures world { world.new ≡ world.old }
     {
         calls_response(
@@ -436,17 +445,6 @@ impl Gate {
     {
         self.machine.forget();
         Response::empty(self.door, Refusal::Unavailable)
-    }
-}
-
-// The error of calls that need the mail, where it can't be told.
-fn error_of(why: MailFailure) -> MethodError
-    ensures { result ≡ error_meant why }
-{
-    match why {
-        MailFailure::Linked(_) => MethodError::ServerUnavailable,
-        MailFailure::Spent => MethodError::ServerFail,
-        MailFailure::Broken => MethodError::ServerUnavailable,
     }
 }
 

@@ -4,6 +4,8 @@ ghost use Rattle.gate_world.specs.Causes.{Faults, no_faults};
 ghost use Rattle.gate_world.specs.declared.event.Event.{Event};
 ghost use Rattle.gate_machine.specs.Progress.{Bears, Progress};
 ghost use Rattle.gate_machine.specs.Machine.{MachineState};
+ghost use Rattle.gate_machine.specs.Going.{HasGoneOn};
+ghost use Rattle.gate_machine.specs.History.{KnownMail};
 ghost use Rattle.gate_machine.specs.KeptBodies.{KeepsBody};
 ghost use Rattle.gate_machine.specs.ServedFolders.{Serves};
 ghost use Rattle.gate_machine.specs.Sources.{KnowsExchanges};
@@ -19,7 +21,7 @@ ghost use Rattle.gate_serving.specs.Histories.{KeepsHistories};
 ghost use Rattle.gate_serving.specs.KeptBodies.{RunTells};
 ghost use Rattle.gate_serving.specs.declared.door.Door.{Door};
 ghost use Rattle.gate_serving.specs.GateState.{GateState};
-ghost use Rattle.gate_serving.specs.Requests.{Account, Asking, asks_for_mail};
+ghost use Rattle.gate_serving.specs.Requests.{Account, Asking, ReadsAlone, asks_for_mail};
 ghost use Rattle.gate_serving.specs.Run.{Run, Stood, run_blamed};
 ghost use Rattle.gate_serving.specs.Segment.{AnswersAsking, Segment, blamed};
 ghost use Rattle.gate_serving.specs.RequestWork.{RequestWork, begun_in};
@@ -27,10 +29,15 @@ ghost use Rattle.gate_serving.specs.declared.outcomes.ClientOutcome.{ClientOutco
 
 use email_get::laws::one_blob_found;
 use gate_calls::calls_have_one_course;
-use gate_machine::{
-    calls_keep_history, calls_leave_the_history, kept_bodies_were_told,
-    machines_know_what_was_told, obeyed_bodies_come, obeyed_rounds_stand, requests_keep_history,
+use gate_changes::{
+    changes_begin_over_mail, changes_blame_the_link, changes_come_of_exchanges,
+    changes_draw_no_epoch, changes_keep_bodies, changes_keep_history,
 };
+use gate_machine::{
+    calls_keep_history, kept_bodies_were_told, machines_know_what_was_told, obeyed_bodies_come,
+    obeyed_rounds_stand, requests_keep_history,
+};
+use imap_client::{finished_lives_go_on, obeyed_plans_end_ok};
 
 /// Where no count rose, nothing is blamed.
 pub fn no_fault_no_blame()
@@ -43,19 +50,23 @@ pub fn no_life_without_need()
         → RequestWork account uploads before asking events came after → asks_for_mail asking ≡ false → (events ≡ []) × (after.machine ≡ before) }
 {}
 
-/// Where the store obeys, a place is left and no fault is blamed, what is asked is answered from the mail that is served then, and all
-/// comes that it asks of the outside; or memory ran out.
+/// Where the store obeys, a place is left and no fault is blamed, what is asked is answered from the mail that is served as its first call
+/// begins and from what its calls change, and all comes that it asks for; or memory ran out.
 pub fn obeyed_requests_answered()
     ensures { (account : Account) (uploads : List (List ℕ)) (before : MachineState) (asking : Asking) (events : List Event) (answer : Answer) (after : Progress)
         (work : RequestWork account uploads before asking events (Some answer) after) → IsWorkObeyed work → after.blamed ≡ no_faults
-        → IsAnsweredFrom account uploads asking answer after ⊎ (after.standing ≡ OutOfMemory) }
+        → IsAnsweredFrom account uploads asking answer events after ⊎ (after.standing ≡ OutOfMemory) }
 {
     obeyed_rounds_stand();
     obeyed_bodies_come();
+    obeyed_plans_end_ok();
+    finished_lives_go_on();
+    changes_blame_the_link();
+    changes_begin_over_mail();
 }
 
-/// Where the store obeys, a place is left and no fault is blamed, whoever comes takes the whole response that is due over
-/// the mail that is served then; or memory ran out.
+/// Where the store obeys, a place is left and no fault is blamed, whoever comes takes the whole response that is due, from the mail that
+/// is served as its first call begins and from what its calls change; or memory ran out.
 pub fn obeyed_clients_are_told()
     ensures { (door : Door) (account : Account) (before : GateState) (events : List Event) (how : ClientOutcome) (after : GateState)
         (segment : Segment door account before events how after) → IsSegmentObeyed segment → blamed segment ≡ no_faults
@@ -86,15 +97,21 @@ pub fn histories_go_on()
 {
     requests_keep_history();
     calls_keep_history();
+    changes_keep_history();
 }
 
-/// The mail from which on a request is answered is the history that the machine serves after it. So what `histories_go_on` says of the
-/// histories of a run's machines it says of the mail over which clients are answered.
+/// The history that the machine serves after a request has gone on from the mail from which on the request is answered; after one whose
+/// calls read it is that mail. So what `histories_go_on` says of the histories of a run's machines it says of the mail over which clients
+/// are answered.
 pub fn answers_are_of_the_served_history()
-    ensures { (door : Door) (account : Account) (before : GateState) (events : List Event) (text : List ℕ) (after : GateState)
-        (a : AnswersAsking door account before events text after) (h : MailHistory) → mail_at (begun_in a.work) ≡ Ok h → Serves after.machine h }
+    ensures goes { (door : Door) (account : Account) (before : GateState) (events : List Event) (text : List ℕ) (after : GateState)
+        (a : AnswersAsking door account before events text after) (h : MailHistory) (k : KnownMail) → mail_at (begun_in a.work) ≡ Ok h
+        → after.machine.known ≡ Some k → HasGoneOn h k.history }
+    ensures reads { (door : Door) (account : Account) (before : GateState) (events : List Event) (text : List ℕ) (after : GateState)
+        (a : AnswersAsking door account before events text after) (h : MailHistory) → ReadsAlone a.asking → mail_at (begun_in a.work) ≡ Ok h
+        → Serves after.machine h }
 {
-    calls_leave_the_history();
+    changes_draw_no_epoch();
 }
 
 /// From two moments at which the same mail is served, what is asked comes to one answer: as long as what it asks of the outside is answered as
@@ -117,6 +134,7 @@ pub fn runs_know_what_was_told()
         (work : RequestWork account uploads before asking events came after) → KnowsExchanges before → HasPlaces (mail_at (begun_in work)) }
 {
     machines_know_what_was_told();
+    changes_come_of_exchanges();
 }
 
 /// A body that is kept after a run was kept before it, or is what a fetch of that Email's message told in it.
@@ -125,4 +143,5 @@ pub fn runs_keep_told_bodies()
         (run : Run door account before events went after) (b : ℕ × List ℕ) → KeepsBody after.machine b → KeepsBody before.machine b ⊎ RunTells run b }
 {
     kept_bodies_were_told();
+    changes_keep_bodies();
 }

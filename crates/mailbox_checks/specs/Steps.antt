@@ -15,6 +15,11 @@ subscribes name true true = []
 subscribes name false false = []
 subscribes name was asked = step.Change (command.Subscribe name asked) ∷ []
 
+-- It is said anew of a folder that was renamed: no store need carry it along with the name (RFC 9051 section 6.3.6).
+abbrev pub subscribes_anew : List ℕ → Bool → Bool → List Step
+subscribes_anew name false false = []
+subscribes_anew name was asked = step.Change (command.Subscribe name asked) ∷ []
+
 abbrev pub creates : List ℕ → Bool → Bool → List Step
 creates name subscribed special_use =
     step.Change (command.Create name) ∷ [] ++ subscribes name false subscribed ++ step.List name special_use ∷ [] ++ step.SelectMade name ∷ []

@@ -1,5 +1,5 @@
 -- The updates of Mailbox/set: their checks in order, and their steps (RFC 8621 section 2.5, RFC 9051 sections 6.3.6 to 6.3.8).
-use Rattle.std.specs.Prelude.{ℕ, ◌&&◌, ◌||◌, Bool, not, List, [], ◌++◌, drop, bytes_eq, codes, if◌then◌else◌, Option, Some, None, Result, Ok, Err}
+use Rattle.std.specs.Prelude.{ℕ, ◌&&◌, ◌||◌, Bool, not, List, ◌++◌, drop, bytes_eq, codes, if◌then◌else◌, Option, Some, None, Result, Ok, Err}
 use Rattle.serde_json.specs.Data.{Data, Members}
 use Rattle.serde_json.specs.Find.{get_member}
 use Rattle.told_folder.specs.declared.message.Folder.{Folder}
@@ -17,7 +17,7 @@ use Rattle.set_jobs.specs.declared.step.Step.{Step}
 use Rattle.set_given.specs.Given.{Given, folders_now, folder_named}
 use Rattle.set_patches.specs.Patches.{patch_in, is_invalid_patch, wrong_properties}
 use Rattle.mailbox_checks.specs.Properties.{is_right_change, mailbox_objects, wrong_name, wrong_parent, unless_wrong, ParentAsked, Top, Under, Nowhere, parent_as, name_in, subscription_in}
-use Rattle.mailbox_checks.specs.Steps.{renames, subscribes}
+use Rattle.mailbox_checks.specs.Steps.{renames, subscribes, subscribes_anew}
 use Rattle.mailbox_checks.specs.Create.{is_name_wrong, lacks_child_right}
 
 -- ---- where a folder is to be
@@ -51,12 +51,16 @@ is_renamed now asked = is_moved now asked || not (bytes_eq now.name asked.name)
 abbrev pub is_subscribed : Folder → Bool
 is_subscribed f = has_attribute (codes "\\subscribed") f
 
--- the folder has this name then
-abbrev pub update_job : Folder → Members → List Step → List ℕ → Job
-update_job f ms renaming to = record {
-  steps = renaming ++ subscribes to (is_subscribed f) (subscription_in ms (is_subscribed f));
-  done = Changed f.number None;
-}
+abbrev pub update_job : Folder → List Step → Job
+update_job f steps = record { steps = steps; done = Changed f.number None }
+
+-- it has this name then, and the subscription that is asked, or else the one that it had
+abbrev pub rename_job : Option (List ℕ) → Folder → Members → List ℕ → Job
+rename_job selected f ms to = update_job f (renames selected f.name to ++ subscribes_anew to (is_subscribed f) (subscription_in ms (is_subscribed f)))
+
+-- its name stays
+abbrev pub subscription_job : Folder → Members → Job
+subscription_job f ms = update_job f (subscribes f.name (is_subscribed f) (subscription_in ms (is_subscribed f)))
 
 -- ---- checks
 
@@ -73,11 +77,11 @@ rename_to g ms f now asked =
     if is_within f asked.parent then Err wrong_parent
     else if cannot_be_renamed g f asked then Err wrong_name
     else if lacks_rename_right f now asked then Err why.Forbidden
-    else Ok (update_job f ms (renames g.selected f.name (name_at asked)) (name_at asked))
+    else Ok (rename_job g.selected f ms (name_at asked))
 
 -- where name and parent are as they are nothing is renamed, and no right is asked
 abbrev pub update_to : Given → Members → Folder → Place → Place → Result Job SetError
-update_to g ms f now asked = if is_renamed now asked then rename_to g ms f now asked else Ok (update_job f ms [] f.name)
+update_to g ms f now asked = if is_renamed now asked then rename_to g ms f now asked else Ok (subscription_job f ms)
 
 abbrev pub update_under : Given → Members → Folder → Place → Option Folder → Result Job SetError
 update_under g ms f now parent = update_to g ms f now (record { parent = parent; name = name_or now.name (name_in ms) })

@@ -34,6 +34,21 @@ pub(crate) fn put_subscribe(
     steps.push(Step::Change(Command::Subscribe { name, on: asked }))
 }
 
+/// The subscription of a folder that was renamed is said anew: no store need carry it along with the name (RFC 9051 section 6.3.6).
+pub(crate) fn put_subscribe_anew(
+    steps: &mut Listed<Step>,
+    name: Bytes,
+    was: bool,
+    asked: bool,
+) -> Result<(), AllocError>
+    ensures { OnOk result (steps.new ≡ steps.old ++ spec.subscribes_anew name was asked) }
+{
+    if !was && !asked {
+        return Ok(());
+    }
+    steps.push(Step::Change(Command::Subscribe { name, on: asked }))
+}
+
 /// A CREATE of this name, after which the folder is subscribed where that is asked, listed and selected.
 pub(crate) fn creates(
     alloc: Global,

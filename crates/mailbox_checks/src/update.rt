@@ -14,7 +14,7 @@ use crate::properties::{
     ChangeTest, MAILBOX_OBJECTS, ParentAsked, member, name_in, parent_as, served_value,
     subscription_in, wrong_name, wrong_parent,
 };
-use crate::steps::{put_subscribe, renames};
+use crate::steps::{put_subscribe, put_subscribe_anew, renames};
 use mail_maps::hierarchy::{after, name_lengths, parent_in, parent_len};
 use mail_maps::keywords::has_name;
 use mail_maps::rights::rights_of;
@@ -75,24 +75,53 @@ fn is_renamed(now: &Place<'_>, asked: &Place<'_>) -> bool
 
 // ---- what is sent
 
-/// What remains once the folder has this name: its subscription.
-fn update_job(
-    folder: &Folder,
-    patch: &Map<String, Value>,
-    mut steps: Listed<Step>,
-    name: Bytes,
-) -> Result<Job, AllocError>
-    ensures { IfOk result (λ job. job ≡ spec.update_job folder.now (members_view patch.now.entries) steps name) }
+fn is_subscribed(folder: &Folder) -> bool
+    ensures { result ≡ spec.is_subscribed folder.now }
 {
-    let was = has_name(b"\\subscribed", &folder.attributes);
-    put_subscribe(&mut steps, name, was, subscription_in(patch, was))?;
-    Ok(Job {
+    has_name(b"\\subscribed", &folder.attributes)
+}
+
+fn update_job(folder: &Folder, steps: Listed<Step>) -> Job
+    ensures { result ≡ spec.update_job folder.now steps }
+{
+    Job {
         steps,
         done: Done::Changed {
             number: folder.number,
             asked: None,
         },
-    })
+    }
+}
+
+/// The folder has this name then, and the subscription that is asked, or else the one that it had.
+fn rename_job(
+    alloc: Global,
+    selected: Option<&[u8]>,
+    folder: &Folder,
+    patch: &Map<String, Value>,
+    to: Bytes,
+) -> Result<Job, AllocError>
+    ensures { IfOk result (λ job. job ≡ spec.rename_job (option_copied selected.entry) folder.now (members_view patch.now.entries) to) }
+{
+    let mut steps = renames(alloc, selected, folder.name.share()?, to.share()?)?;
+    let was = is_subscribed(folder);
+    put_subscribe_anew(&mut steps, to, was, subscription_in(patch, was))?;
+    Ok(update_job(folder, steps))
+}
+
+/// The folder's name stays.
+fn subscription_job(
+    alloc: Global,
+    folder: &Folder,
+    patch: &Map<String, Value>,
+) -> Result<Job, AllocError>
+    ensures { IfOk result (λ job. job ≡ spec.subscription_job folder.now (members_view patch.now.entries)) }
+{
+    let mut steps = Listed::from_vec(Vec::new(alloc));
+    let was = is_subscribed(folder);
+    let name = folder.name.share()?;
+    put_subscribe(&mut steps, name, was, subscription_in(patch, was))?;
+    Ok(update_job(folder, steps))
 }
 
 // ---- checks
@@ -145,9 +174,7 @@ fn rename_to(
     if lacks_rename_right(folder, now, asked) {
         return Ok(Err(SetError::Forbidden));
     }
-    let from = folder.name.share()?;
-    let steps = renames(alloc, given.selected, from, to.share()?)?;
-    Ok(Ok(update_job(folder, patch, steps, to)?))
+    Ok(Ok(rename_job(alloc, given.selected, folder, patch, to)?))
 }
 
 /// Where name and parent are as they are nothing is renamed, and no right is asked.
@@ -168,8 +195,7 @@ fn update_under(
     if is_renamed(now, &asked) {
         return rename_to(alloc, given, lengths, patch, folder, now, &asked);
     }
-    let steps = Listed::from_vec(Vec::new(alloc));
-    Ok(Ok(update_job(folder, patch, steps, folder.name.share()?)?))
+    Ok(Ok(subscription_job(alloc, folder, patch)?))
 }
 
 /// The parent that is asked, or this one where none is.

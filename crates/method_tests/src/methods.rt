@@ -30,7 +30,7 @@ pub(crate) fn put_answer(
     }
 }
 
-/// What a method answers that asks for no body.
+/// What a method answers that reads and asks for no body.
 fn answer_of(
     alloc: Global,
     state: &MailState,
@@ -47,11 +47,14 @@ fn answer_of(
         Method::EmailChanges => email_changes(alloc, state, arguments),
         Method::EmailQuery => email_query(alloc, state, arguments),
         Method::EmailQueryChanges => email_query_changes(alloc, state, arguments),
-        Method::CoreEcho | Method::EmailGet | Method::EmailParse => echo(arguments.clone()?),
+        Method::CoreEcho | Method::EmailGet | Method::EmailParse | Method::Set(_) => {
+            echo(arguments.clone()?)
+        }
     }
 }
 
-/// Adds what a method answers; of those that ask for bodies, what they ask of each Email.
+/// Adds what a method answers; of those that ask for bodies, what they ask of each Email. Those that change mail have rows of
+/// their own in set_tests.
 fn put_method(
     alloc: Global,
     state: &MailState,
@@ -62,6 +65,7 @@ fn put_method(
     match method {
         Method::EmailGet => put_wanted(email_wanted(alloc, arguments, Defaults::Get), out),
         Method::EmailParse => put_wanted(email_wanted(alloc, arguments, Defaults::Parse), out),
+        Method::Set(_) => out.push_str("changes mail"),
         _ => put_answer(alloc, out, answer_of(alloc, state, method, arguments)),
     }
 }

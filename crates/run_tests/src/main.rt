@@ -4,6 +4,7 @@
 #![tactic(auto)]
 
 // What stores and clients give.
+mod cut_world;
 mod written;
 
 // What is done over it, and what comes of it.
@@ -62,11 +63,15 @@ impl Rows {
     /// Does a command, and adds what comes of it where that is something else than before.
     fn play_again(
         &mut self,
+        kind: &str,
         number: u64,
         command: &str,
         out: &mut String,
     ) -> Result<(), AllocError> {
-        let seen = self.played(command)?;
+        let mut seen = self.played(command)?;
+        if kind == "taking" {
+            seen.forget_store();
+        }
         if seen != self.seen {
             write!(out, "{number}: ")?;
             seen.put(self.alloc, out)?;
@@ -78,11 +83,12 @@ impl Rows {
     /// Does a command for each number that is set.
     fn each(&mut self, text: &str, out: &mut String) -> Result<(), AllocError> {
         let (kind, text) = first_word(text);
+        let (first, text) = first_number(text);
         let (last, command) = first_number(text);
-        writeln!(out, "{kind} 1 to {last}:")?;
-        for number in 1..=last {
+        writeln!(out, "{kind} {first} to {last}:")?;
+        for number in first..=last {
             self.written.set(kind, number);
-            self.play_again(number, command, out)?;
+            self.play_again(kind, number, command, out)?;
         }
         Ok(())
     }
@@ -106,7 +112,7 @@ impl Rows {
     fn answer(&mut self, word: &str, text: &str, out: &mut String) -> Result<(), AllocError> {
         match word {
             "gave" => writeln!(out, "clients gave {} octets", self.seen.gave),
-            "store" => self.seen.put_store(self.alloc, out),
+            "store" => self.seen.put_store(self.alloc, text, out),
             "count" => self.seen.put_counts(text, out),
             "events" => self.put_events(text, out),
             "object" => put_object(self.alloc, text, out),

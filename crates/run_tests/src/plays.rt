@@ -1,4 +1,5 @@
 // What is done over a world, and how that ends.
+use crate::cut_world::CutWorld;
 use gate_machine::{Machine, MailStatus, begin};
 use gate_serving::{Door, Gate};
 use gate_world::Watcher;
@@ -6,7 +7,6 @@ use gateway::{Place, run};
 use imap_client::Client;
 use mail_state::MailType;
 use octets::Text;
-use scripted_world::ScriptWorld;
 use std::alloc::{AllocError, Global};
 use test_rows::{first_number, first_word, octets_of};
 
@@ -27,19 +27,19 @@ pub(crate) fn words_of(alloc: Global, text: &str) -> Result<Vec<String>, AllocEr
 }
 
 /// The status with which the program ends that has these words, and no watcher.
-fn status_of(alloc: Global, words: &[String], world: &mut ScriptWorld) -> u8 {
+fn status_of(alloc: Global, words: &[String], world: &mut CutWorld) -> u8 {
     let mut watchers: Vec<Box<dyn Watcher>> = Vec::new(alloc);
     run(words, world, &mut watchers)
 }
 
 /// Runs the program with these words.
-fn ran(alloc: Global, text: &str, world: &mut ScriptWorld) -> Result<String, AllocError> {
+fn ran(alloc: Global, text: &str, world: &mut CutWorld) -> Result<String, AllocError> {
     let words = words_of(alloc, text)?;
     let status = status_of(alloc, &words, world);
     format!(in alloc; "status {status}")
 }
 
-fn gate(alloc: Global, world: &mut ScriptWorld) -> Result<Gate, AllocError> {
+fn gate(alloc: Global, world: &mut CutWorld) -> Result<Gate, AllocError> {
     let place = Place {
         store: Text::copy_of(alloc, "127.0.0.1:1")?,
         user: Text::copy_of(alloc, "alice")?,
@@ -52,7 +52,7 @@ fn gate(alloc: Global, world: &mut ScriptWorld) -> Result<Gate, AllocError> {
 fn put_answered(
     alloc: Global,
     gate: &mut Gate,
-    world: &mut ScriptWorld,
+    world: &mut CutWorld,
     ended: &mut String,
 ) -> Result<(), AllocError> {
     let answered = gate.answer_one(alloc, world);
@@ -60,7 +60,7 @@ fn put_answered(
 }
 
 /// A gate answers this many clients.
-fn served(alloc: Global, count: u64, world: &mut ScriptWorld) -> Result<String, AllocError> {
+fn served(alloc: Global, count: u64, world: &mut CutWorld) -> Result<String, AllocError> {
     let mut ended = String::from_str(alloc, "served")?;
     let mut gate = gate(alloc, world)?;
     for _ in 0..count {
@@ -70,7 +70,7 @@ fn served(alloc: Global, count: u64, world: &mut ScriptWorld) -> Result<String, 
 }
 
 /// How the mail stands once a machine began, in a link life of its own.
-fn standing_of(alloc: Global, machine: &mut Machine, world: &mut ScriptWorld) -> MailStatus {
+fn standing_of(alloc: Global, machine: &mut Machine, world: &mut CutWorld) -> MailStatus {
     let mut client = Client::new(alloc);
     let standing = begin(alloc, machine, &mut client, world, b"alice");
     client.leave(world);
@@ -81,7 +81,7 @@ fn standing_of(alloc: Global, machine: &mut Machine, world: &mut ScriptWorld) ->
 fn put_begun(
     alloc: Global,
     machine: &mut Machine,
-    world: &mut ScriptWorld,
+    world: &mut CutWorld,
     ended: &mut String,
 ) -> Result<(), AllocError> {
     let standing = standing_of(alloc, machine, world);
@@ -94,7 +94,7 @@ fn put_begun(
 }
 
 /// A machine begins, and is forgotten, this often.
-fn begun(alloc: Global, count: u64, world: &mut ScriptWorld) -> Result<String, AllocError> {
+fn begun(alloc: Global, count: u64, world: &mut CutWorld) -> Result<String, AllocError> {
     let mut ended = String::from_str(alloc, "begun")?;
     let mut machine = Machine::opened(alloc, EPOCH)?;
     for _ in 0..count {
@@ -108,7 +108,7 @@ fn begun(alloc: Global, count: u64, world: &mut ScriptWorld) -> Result<String, A
 pub(crate) fn play(
     alloc: Global,
     command: &str,
-    world: &mut ScriptWorld,
+    world: &mut CutWorld,
 ) -> Result<String, AllocError> {
     let (word, text) = first_word(command);
     let (count, _) = first_number(text);

@@ -1,6 +1,6 @@
 // What is told of a world.
+use crate::cut_world::CutWorld;
 use gate_world::Event;
-use scripted_world::ScriptWorld;
 use std::alloc::{AllocError, Global};
 use test_rows::put_octets;
 
@@ -22,7 +22,7 @@ pub(crate) struct Seen {
 /// Adds the name of each event.
 pub(crate) fn put_names(
     alloc: Global,
-    world: &ScriptWorld,
+    world: &CutWorld,
     out: &mut String,
 ) -> Result<(), AllocError> {
     out.push_str("events:")?;
@@ -54,11 +54,7 @@ impl Seen {
     }
 
     /// What is told of a command that ended so.
-    pub(crate) fn new(
-        alloc: Global,
-        ended: String,
-        world: &ScriptWorld,
-    ) -> Result<Seen, AllocError> {
+    pub(crate) fn new(alloc: Global, ended: String, world: &CutWorld) -> Result<Seen, AllocError> {
         let mut seen = Seen::nothing(alloc);
         seen.ended = ended;
         for event in world.events().unwrap_or(&[]) {
@@ -109,6 +105,11 @@ impl Seen {
         }
     }
 
+    /// What the store took counts no more.
+    pub(crate) fn forget_store(&mut self) {
+        self.store.clear();
+    }
+
     /// Adds how it ended, and what clients took.
     pub(crate) fn put(&self, alloc: Global, out: &mut String) -> Result<(), AllocError> {
         let took = self.took.replace(alloc, "%0D%0A", "\n")?;
@@ -117,10 +118,18 @@ impl Seen {
         writeln!(out, "{ended}, dials {dials}{notes}{left}|{took}")
     }
 
-    /// Adds what the store took.
-    pub(crate) fn put_store(&self, alloc: Global, out: &mut String) -> Result<(), AllocError> {
-        let store = self.store.replace(alloc, "%0D%0A", "\n")?;
-        writeln!(out, "the store took: {store}")
+    /// Adds what the store took, from the first place of the text on.
+    pub(crate) fn put_store(
+        &self,
+        alloc: Global,
+        text: &str,
+        out: &mut String,
+    ) -> Result<(), AllocError> {
+        let Some((_, rest)) = self.store.split_once(text) else {
+            return writeln!(out, "the store took no {text}");
+        };
+        let rest = rest.replace(alloc, "%0D%0A", "\n")?;
+        writeln!(out, "the store took: {text}{rest}")
     }
 
     /// Adds how often this stands in what clients and the store took.

@@ -1,4 +1,5 @@
 // What stores and clients give, as it is written down.
+use crate::cut_world::CutWorld;
 use scripted_world::{Script, ScriptWorld};
 use std::alloc::{AllocError, Global};
 use std::mem;
@@ -21,6 +22,8 @@ pub(crate) struct Written {
     stopping: u64,
     /// How many octets are cut from the end of the first link life.
     cut: usize,
+    /// The most octets that the store takes in it.
+    taking: usize,
     alloc: Global,
 }
 
@@ -36,6 +39,7 @@ impl Written {
             failing: 0,
             stopping: 0,
             cut: 0,
+            taking: usize::MAX,
             alloc,
         }
     }
@@ -49,6 +53,7 @@ impl Written {
         self.failing = 0;
         self.stopping = 0;
         self.cut = 0;
+        self.taking = usize::MAX;
     }
 
     /// The text, with what each name in it stands for.
@@ -114,6 +119,7 @@ impl Written {
         match kind {
             "piece" => self.piece = size,
             "cut" => self.cut = size,
+            "taking" => self.taking = size,
             "failing" => self.failing = number,
             "stopping" => self.stopping = number,
             _ => return false,
@@ -155,11 +161,12 @@ impl Written {
     }
 
     /// A world that follows the script.
-    pub(crate) fn world(&self) -> Result<ScriptWorld, AllocError> {
+    pub(crate) fn world(&self) -> Result<CutWorld, AllocError> {
         let mut script = self.linked()?;
         for client in self.clients.iter() {
             script = script.with_client(client)?;
         }
-        Ok(ScriptWorld::new(self.alloc, script))
+        let world = ScriptWorld::new(self.alloc, script);
+        Ok(CutWorld::new(world, self.taking))
     }
 }

@@ -1,5 +1,5 @@
 -- No number of a reply has a fraction.
-use Rattle.std.proofs.Common.{◌≡◌, ◌∙◌, ℕ, Bool, true, false, ◌||◌, List, [], ◌∷◌, ◌++◌, map, is_some, if◌then◌else◌, Option, Some, None, refl, ap, sym}
+use Rattle.std.proofs.Common.{◌≡◌, ℕ, Bool, true, false, ◌||◌, List, [], ◌∷◌, ◌++◌, map, is_some, if◌then◌else◌, Option, Some, None, refl, sym, subst}
 use Rattle.std.specs.Str.Lossy.{utf8_lossy}
 use Rattle.serde_json.specs.Data.{Data, boolean, null, string, Members, no_members, member, put}
 use Rattle.serde_json.specs.Find.{get_member}
@@ -25,7 +25,9 @@ use Rattle.set_order.specs.Ordered.{Item, Create, Circle, Update, Destroy, item_
 use Rattle.set_replies.specs.Emails.{came_out, row_of_mark}
 use Rattle.set_replies.specs.Lists.{Lists, Served, id_of, keywords_told, listed, lists_of, lists_with, made_in, mailbox_made, message_made, no_lists, put_updated, refused_in}
 use Rattle.set_replies.specs.Refusals.{refusal_data}
-use Rattle.set_replies.specs.Replies.{list_or_null, object_or_null, set_reply}
+use Rattle.set_replies.specs.Replies.{list_or_null, object_or_null, served_after, set_data, set_reply}
+use Rattle.set_replies.specs.States.{state_at, state_of}
+use Rattle.set_replies.specs.reading.Whole.{AreWhole}
 
 -- ---- values
 
@@ -86,19 +88,28 @@ whole_properties e (p ∷ ps) ms whole =
 
 -- ---- lists
 
-record AreWhole (l : Lists) : Type 0 where
-  created : members_have_float l.created ≡ false
-  not_created : members_have_float l.not_created ≡ false
-  updated : members_have_float l.updated ≡ false
-  not_updated : members_have_float l.not_updated ≡ false
-  destroyed : items_have_float (items_of l.destroyed) ≡ false
-  not_destroyed : members_have_float l.not_destroyed ≡ false
+-- so are lists that are equal to such
+pub whole_as : (l n : Lists) → l ≡ n → AreWhole n → AreWhole l
+whole_as l n is whole = subst AreWhole (sym is) whole
 
-whole_refused : (item : Item) (d : Data) (l : Lists) → has_float d ≡ false → AreWhole l → AreWhole (refused_in item d l)
+pub none_whole : AreWhole no_lists
+none_whole = record { created = refl; not_created = refl; updated = refl; not_updated = refl; destroyed = refl; not_destroyed = refl }
+
+pub whole_refused : (item : Item) (d : Data) (l : Lists) → has_float d ≡ false → AreWhole l → AreWhole (refused_in item d l)
 whole_refused (Create key ms) d l whole w = record { created = w.created; not_created = put_whole key d l.not_created whole w.not_created; updated = w.updated; not_updated = w.not_updated; destroyed = w.destroyed; not_destroyed = w.not_destroyed }
 whole_refused (Circle key) d l whole w = record { created = w.created; not_created = put_whole key d l.not_created whole w.not_created; updated = w.updated; not_updated = w.not_updated; destroyed = w.destroyed; not_destroyed = w.not_destroyed }
 whole_refused (Update key ms) d l whole w = record { created = w.created; not_created = w.not_created; updated = w.updated; not_updated = put_whole key d l.not_updated whole w.not_updated; destroyed = w.destroyed; not_destroyed = w.not_destroyed }
 whole_refused (Destroy key) d l whole w = record { created = w.created; not_created = w.not_created; updated = w.updated; not_updated = w.not_updated; destroyed = w.destroyed; not_destroyed = put_whole key d l.not_destroyed whole w.not_destroyed }
+
+pub created_whole : (l : Lists) (ms : Members) → members_have_float ms ≡ false → AreWhole l → AreWhole (record l { created = ms })
+created_whole l ms whole w = record {
+  created = whole;
+  not_created = w.not_created;
+  updated = w.updated;
+  not_updated = w.not_updated;
+  destroyed = w.destroyed;
+  not_destroyed = w.not_destroyed;
+}
 
 -- a value that is there has no fraction
 abbrev IsWhole : Option Data → Type 0
@@ -107,7 +118,7 @@ IsWhole (Some d) = has_float d ≡ false
 
 whole_made : (item : Item) (o : Option Data) (l : Lists) → IsWhole o → AreWhole l → AreWhole (made_in item o l)
 whole_made item None l whole w = whole_refused item (refusal_data NotFound) l refl w
-whole_made item (Some d) l whole w = record { created = put_whole (item_key item) d l.created whole w.created; not_created = w.not_created; updated = w.updated; not_updated = w.not_updated; destroyed = w.destroyed; not_destroyed = w.not_destroyed }
+whole_made item (Some d) l whole w = created_whole l (put (item_key item) d l.created) (put_whole (item_key item) d l.created whole w.created) w
 
 message_whole : (size : ℕ) (row : Option (ℕ × EmailRow)) → IsWhole (message_made size row)
 message_whole size None = tt
@@ -137,7 +148,7 @@ one_more (d ∷ ds) t whole = let p = both (has_float d) (items_have_float (item
     both true b is = absurd cc
     both false b is = (refl, is)
 
-whole_listed : (m : SetMethod) (s : Served) (item : Item) (done : Done) (l : Lists) → AreWhole l → AreWhole (listed m s item done l)
+pub whole_listed : (m : SetMethod) (s : Served) (item : Item) (done : Done) (l : Lists) → AreWhole l → AreWhole (listed m s item done l)
 whole_listed m s item (Made mark size) l w = whole_made item _ l (message_whole size (row_of_mark s.emails mark)) w
 whole_listed m s item (MadeMailbox n) l w = whole_made item _ l (mailbox_whole n (Rattle.change_list.specs.Advance.row_at s.mailboxes n)) w
 whole_listed m s item (Changed n asked) l w =
@@ -159,15 +170,16 @@ whole_list : (ds : List Data) → items_have_float (items_of ds) ≡ false → h
 whole_list [] whole = refl
 whole_list (d ∷ ds) whole = whole
 
+pub data_whole : (old new : List ℕ) (l : Lists) → AreWhole l → has_float (set_data old new l) ≡ false
+data_whole old new l w = rw (
+  whole_object l.created w.created,
+  whole_list l.destroyed w.destroyed,
+  whole_object l.not_created w.not_created,
+  whole_object l.not_destroyed w.not_destroyed,
+  whole_object l.not_updated w.not_updated,
+  whole_object l.updated w.updated,
+) refl
+
 pub reply_whole : (m : SetMethod) (before : ℕ) (h : MailHistory) (done : List (Item × Done)) → has_float (set_reply m before h done) ≡ false
 reply_whole m before h done =
-    let s : Served = record { emails = h.numbered.rows; mailboxes = h.mailboxes.now } in
-    let w : AreWhole (lists_of m s done) = whole_lists m s no_lists done (record { created = refl; not_created = refl; updated = refl; not_updated = refl; destroyed = refl; not_destroyed = refl }) in
-    rw (
-      whole_object (lists_of m s done).created w.created,
-      whole_list (lists_of m s done).destroyed w.destroyed,
-      whole_object (lists_of m s done).not_created w.not_created,
-      whole_object (lists_of m s done).not_destroyed w.not_destroyed,
-      whole_object (lists_of m s done).not_updated w.not_updated,
-      whole_object (lists_of m s done).updated w.updated,
-    ) refl
+    data_whole (state_at h.epoch before) (state_of m h) (lists_of m (served_after h) done) (whole_lists m (served_after h) no_lists done none_whole)

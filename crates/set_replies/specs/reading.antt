@@ -2,3 +2,4 @@
 pub mod Items
 pub mod Types
 pub mod Listing
+pub mod Whole

@@ -11,6 +11,7 @@ ghost use Rattle.set_replies.specs.Refusals.{refusal_data};
 ghost use Rattle.set_replies.specs.reading.Items.{done_data};
 ghost use Rattle.set_replies.specs.reading.Listing.{lists_data};
 ghost use Rattle.set_replies.specs.reading.Types.{AreApart, served_in};
+ghost use Rattle.set_replies.specs.reading.Whole.{AreWhole};
 
 use crate::emails::{keywords_if_other, made_value};
 use crate::refusals::refusal_value;
@@ -86,8 +87,9 @@ impl ReplyLists {
         mark: u64,
         size: u64,
     ) -> Result<(), AllocError>
-        ensures { AreApart state.now.rows.numbered.rows → OnOk result (lists_data self.new
+        ensures listed { AreApart state.now.rows.numbered.rows → OnOk result (lists_data self.new
             ≡ spec.made_in (item_data item.now) (spec.message_made size (row_of_mark state.now.rows.numbered.rows mark)) (lists_data self.old)) }
+        ensures whole { AreWhole (lists_data self.old) → OnOk result (AreWhole (lists_data self.new)) }
     {
         match state.email_by_mark(mark) {
             None => self.put_refusal(alloc, item, &SetError::NotFound),
@@ -167,8 +169,9 @@ impl ReplyLists {
         item: &Item<'_>,
         done: &Done,
     ) -> Result<(), AllocError>
-        ensures { AreApart state.now.rows.numbered.rows → OnOk result (lists_data self.new
+        ensures listed { AreApart state.now.rows.numbered.rows → OnOk result (lists_data self.new
             ≡ spec.listed method (served_in state.now) (item_data item.now) done.now (lists_data self.old)) }
+        ensures whole { AreWhole (lists_data self.old) → OnOk result (AreWhole (lists_data self.new)) }
     {
         match done {
             Done::Made { mark, size } => self.put_message(alloc, state, item, *mark, *size),
@@ -189,7 +192,8 @@ pub(crate) fn lists_of(
     state: &MailState,
     done: &[(Item<'_>, Done)],
 ) -> Result<ReplyLists, AllocError>
-    ensures { AreApart state.now.rows.numbered.rows → IfOk result (λ lists. lists_data lists ≡ spec.lists_of method (served_in state.now) (map done_data done.now)) }
+    ensures listed { AreApart state.now.rows.numbered.rows → IfOk result (λ lists. lists_data lists ≡ spec.lists_of method (served_in state.now) (map done_data done.now)) }
+    ensures whole { IfOk result (λ lists. AreWhole (lists_data lists)) }
 {
     let mut lists = ReplyLists::new(alloc);
     for entry in done {

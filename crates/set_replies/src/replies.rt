@@ -1,6 +1,7 @@
 // The reply of a call (RFC 8620 section 5.3).
-ghost use Rattle.std.specs.Prelude.{◌≡◌, IfOk, map};
+ghost use Rattle.std.specs.Prelude.{◌≡◌, IfOk, false, map};
 ghost use Rattle.serde_json.specs.View.{view, members_view};
+ghost use Rattle.serde_json.specs.Written.{has_float};
 ghost use Rattle.mail_state.specs.History.{MailHistory};
 ghost use Rattle.mail_state.specs.LookUps.{touches_kept};
 ghost use Rattle.mail_state.specs.State.{IsStateOf};
@@ -66,8 +67,9 @@ fn reply_over(
     state: &MailState,
     done: &[(Item<'_>, Done)],
 ) -> Result<Value, AllocError>
-    ensures { AreApart state.now.rows.numbered.rows → IfOk result (λ value. view value ≡ set_data (state_at state.now.epoch before)
+    ensures exact { AreApart state.now.rows.numbered.rows → IfOk result (λ value. view value ≡ set_data (state_at state.now.epoch before)
         (state_at state.now.epoch (touches_kept state.now (type_of method)).place) (lists_of method (served_in state.now) (map done_data done.now))) }
+    ensures whole { IfOk result (λ value. has_float (view value) ≡ false) }
 {
     let lists = lists_of(alloc, method, state, done)?;
     let old = State {
@@ -88,7 +90,8 @@ pub fn set_reply(
     state: &MailState,
     done: &[(Item<'_>, Done)],
 ) -> Result<Value, AllocError>
-    ensures { (h : MailHistory) → IsStateOf h state.now → IfOk result (λ value. view value ≡ set_reply method before h (map done_data done.now)) }
+    ensures exact { (h : MailHistory) → IsStateOf h state.now → IfOk result (λ value. view value ≡ set_reply method before h (map done_data done.now)) }
+    ensures whole { IfOk result (λ value. has_float (view value) ≡ false) }
 {
     reply_over(alloc, method, before, state, done)
 }

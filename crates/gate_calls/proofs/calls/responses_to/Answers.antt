@@ -19,14 +19,14 @@ returns-in_err-responses-clause-meant g c =
     let A = g.C.CallSource.answers c.args.uploads.now in
     let L = g.C.CallSource.lacks c.args.uploads.now in
     let ends = err_from_is_err_and c.from_residual.result c.from_residual.ensures.1 in
-    makes_none A L c.args.uses _ (c.args.source.now, c.args.world.now) (c.args.source.now, c.args.world.now) _ c.from_residual.result ends.0 ends.1
-    (lacks_after A L c.args.uses (c.args.source.now, c.args.world.now) (c.args.source.now, c.args.world.now) [] c.args.calls.now c.args.calls.now [] refl
-    (none_yet A L c.args.uses (c.args.source.now, c.args.world.now) [] refl))
+    makes_none A L c.args.uses _ ((c.args.source.now, c.args.world.now), c.args.created.now) ((c.args.source.now, c.args.world.now), c.args.created.now) _ c.from_residual.result ends.0 ends.1
+    (lacks_after A L c.args.uses ((c.args.source.now, c.args.world.now), c.args.created.now) ((c.args.source.now, c.args.world.now), c.args.created.now) [] c.args.calls.now c.args.calls.now [] refl
+    (none_yet A L c.args.uses ((c.args.source.now, c.args.world.now), c.args.created.now) [] refl))
 
 pub loop-call-init : goal.loop-call-init
 loop-call-init g c =
     record {
-      meant = none_yet (g.C.CallSource.answers c.args.uploads.now) (g.C.CallSource.lacks c.args.uploads.now) c.args.uses (c.args.source.now, c.args.world.now) _
+      meant = none_yet (g.C.CallSource.answers c.args.uploads.now) (g.C.CallSource.lacks c.args.uploads.now) c.args.uses ((c.args.source.now, c.args.world.now), c.args.created.now) _
           c.in_ok-responses.ensures.items;
       whole = search rules;
     }
@@ -41,11 +41,11 @@ returns-in_err-response-clause-meant g c =
     let i : ℕ = l.call-index in
     let call : Call = c.call-item.result in
     let within : i < length calls = omega (arith, c.loop-call-test.true) in
-    let lacks : CallLacks A L c.args.uses (map call_data l.responses.items) (call_data call) (l.source, l.world) (c.response_to.new.source, c.response_to.new.world) =
-    subst (λ (rs : List Call). CallLacks A L c.args.uses (map call_data rs) (call_data call) (l.source, l.world) (c.response_to.new.source, c.response_to.new.world)) c.as_slice.ensures.value
+    let lacks : CallLacks A L c.args.uses (map call_data l.responses.items) (call_data call) ((l.source, l.world), l.created) ((c.response_to.new.source, c.response_to.new.world), c.response_to.new.created) =
+    subst (λ (rs : List Call). CallLacks A L c.args.uses (map call_data rs) (call_data call) ((l.source, l.world), l.created) ((c.response_to.new.source, c.response_to.new.world), c.response_to.new.created)) c.as_slice.ensures.value
     c.in_err-response.ensures.meant in
-    makes_none A L c.args.uses _ (c.args.source.now, c.args.world.now) (c.response_to.new.source, c.response_to.new.world) _ c.from_residual-in_err-response.result ends.0 ends.1
-    (lacks_in A L c.args.uses (c.args.source.now, c.args.world.now) (l.source, l.world) (c.response_to.new.source, c.response_to.new.world) (take i calls) (drop (i + 1) calls) calls l.responses.items call
+    makes_none A L c.args.uses _ ((c.args.source.now, c.args.world.now), c.args.created.now) ((c.response_to.new.source, c.response_to.new.world), c.response_to.new.created) _ c.from_residual-in_err-response.result ends.0 ends.1
+    (lacks_in A L c.args.uses ((c.args.source.now, c.args.world.now), c.args.created.now) ((l.source, l.world), l.created) ((c.response_to.new.source, c.response_to.new.world), c.response_to.new.created) (take i calls) (drop (i + 1) calls) calls l.responses.items call
     (around calls i call within c.call-item.is) l.invariant.meant lacks)
 
 pub returns-in_err-push-clause-meant : goal.returns-in_err-push-clause-meant
@@ -59,13 +59,13 @@ returns-in_err-push-clause-meant g c =
     let call : Call = c.call-item.result in
     let response = c.in_ok-response.response in
     let within : i < length calls = omega (arith, c.loop-call-test.true) in
-    let next : Responds A L c.args.uses (map call_data l.responses.items) (call_data call) (l.source, l.world) (c.response_to.new.source, c.response_to.new.world) (Ok response) =
-    subst (λ (rs : List Call). Responds A L c.args.uses (map call_data rs) (call_data call) (l.source, l.world) (c.response_to.new.source, c.response_to.new.world) (Ok response)) c.as_slice.ensures.value
+    let next : Responds A L c.args.uses (map call_data l.responses.items) (call_data call) ((l.source, l.world), l.created) ((c.response_to.new.source, c.response_to.new.world), c.response_to.new.created) (Ok response) =
+    subst (λ (rs : List Call). Responds A L c.args.uses (map call_data rs) (call_data call) ((l.source, l.world), l.created) ((c.response_to.new.source, c.response_to.new.world), c.response_to.new.created) (Ok response)) c.as_slice.ensures.value
     c.in_ok-response.ensures.meant in
-    makes_none A L c.args.uses _ (c.args.source.now, c.args.world.now) (c.response_to.new.source, c.response_to.new.world) _ c.from_residual-in_err-push.result ends.0 ends.1
-    (lacks_after A L c.args.uses (c.args.source.now, c.args.world.now) (c.response_to.new.source, c.response_to.new.world) (take i calls ++ call ∷ []) (drop (i + 1) calls) calls (l.responses.items ++ response ∷ [])
+    makes_none A L c.args.uses _ ((c.args.source.now, c.args.world.now), c.args.created.now) ((c.response_to.new.source, c.response_to.new.world), c.response_to.new.created) _ c.from_residual-in_err-push.result ends.0 ends.1
+    (lacks_after A L c.args.uses ((c.args.source.now, c.args.world.now), c.args.created.now) ((c.response_to.new.source, c.response_to.new.world), c.response_to.new.created) (take i calls ++ call ∷ []) (drop (i + 1) calls) calls (l.responses.items ++ response ∷ [])
     (around calls i call within c.call-item.is)
-    (one_answered A L c.args.uses (c.args.source.now, c.args.world.now) (l.source, l.world) (c.response_to.new.source, c.response_to.new.world) (take i calls) (take i calls ++ call ∷ []) l.responses.items
+    (one_answered A L c.args.uses ((c.args.source.now, c.args.world.now), c.args.created.now) ((l.source, l.world), l.created) ((c.response_to.new.source, c.response_to.new.world), c.response_to.new.created) (take i calls) (take i calls ++ call ∷ []) l.responses.items
     (l.responses.items ++ response ∷ []) call response l.invariant.meant next refl refl))
 
 pub loop-call-preserved : goal.loop-call-preserved
@@ -78,11 +78,11 @@ loop-call-preserved g c =
     let call : Call = c.call-item.result in
     let within : i < length calls = omega (arith, c.loop-call-test.true) in
     let now_is : take (i + 1) calls ≡ take i calls ++ call ∷ [] = take_more calls i call within ∙ ap (λ (x : Call). take i calls ++ x ∷ []) (sym c.call-item.is) in
-    let next : Responds A L c.args.uses (map call_data l.responses.items) (call_data call) (l.source, l.world) (c.response_to.new.source, c.response_to.new.world) (Ok c.in_ok-response.response) =
-    subst (λ (rs : List Call). Responds A L c.args.uses (map call_data rs) (call_data call) (l.source, l.world) (c.response_to.new.source, c.response_to.new.world) (Ok c.in_ok-response.response)) c.as_slice.ensures.value
+    let next : Responds A L c.args.uses (map call_data l.responses.items) (call_data call) ((l.source, l.world), l.created) ((c.response_to.new.source, c.response_to.new.world), c.response_to.new.created) (Ok c.in_ok-response.response) =
+    subst (λ (rs : List Call). Responds A L c.args.uses (map call_data rs) (call_data call) ((l.source, l.world), l.created) ((c.response_to.new.source, c.response_to.new.world), c.response_to.new.created) (Ok c.in_ok-response.response)) c.as_slice.ensures.value
     c.in_ok-response.ensures.meant in
     record {
-      meant = one_answered A L c.args.uses (c.args.source.now, c.args.world.now) (l.source, l.world) (c.response_to.new.source, c.response_to.new.world) (take i calls) (take (i + 1) calls) l.responses.items
+      meant = one_answered A L c.args.uses ((c.args.source.now, c.args.world.now), c.args.created.now) ((l.source, l.world), l.created) ((c.response_to.new.source, c.response_to.new.world), c.response_to.new.created) (take i calls) (take (i + 1) calls) l.responses.items
           c.push.new.self.items call c.in_ok-response.response l.invariant.meant next now_is c.in_ok-push.ensures.items;
       whole = all_more l.responses.items c.push.new.self.items c.in_ok-response.response c.in_ok-push.ensures.items l.invariant.whole c.in_ok-response.ensures.whole;
     }

@@ -1,4 +1,4 @@
-use Rattle.std.proofs.Common.{◌≡◌, ◌∙◌, List, ℕ, Option, map}
+use Rattle.std.proofs.Common.{◌≡◌, ◌∙◌, List, ℕ, Option, map, refl}
 use Rattle.std.specs.Prelude.{string_bytes}
 use Rattle.serde_json.specs.Written.{compact_text}
 use Rattle.jmap_core.specs.CreatedIds.{Ids}
@@ -17,4 +17,4 @@ pub returns : goal.returns
 unfolding calls_text
 returns c =
     let session_is = c.as_str-3.ensures.value ∙ c.in_ok-session.ensures ∙ (λ i. session_state_text (c.as_str.ensures i) (c.as_str-2.ensures i)) in
-    meant_as string_bytes c.response_text.result c.response_text.ensures (same_text (map call_data c.args.responses.now) c.as_ref.ensures.value session_is)
+    meant_as string_bytes c.response_text.result c.response_text.ensures (same_text (map call_data c.args.responses.now) refl session_is)

@@ -10,8 +10,8 @@ use Rattle.set_replies.specs.reading.Types.{served_in, type_of}
 use Rattle.set_replies.proofs.StateLemmas.{apart, place_is, served_is}
 use Rattle.set_replies.proofs.replies.set_reply.Goals as goal
 
-pub returns : goal.returns
-returns c = λ h of.
+pub returns-clause-exact : goal.returns-clause-exact
+returns-clause-exact c = λ h of.
     let s = c.args.state.now in
     let reply : ℕ → ℕ → Served → Data = λ epoch place served.
     set_data (state_at epoch c.args.before) (state_at epoch place) (lists_of c.args.method served (map done_data c.args.done.now)) in
@@ -19,4 +19,4 @@ returns c = λ h of.
     (λ value is. is ∙ ap (λ (e : ℕ). reply e (touches_kept s (type_of c.args.method)).place (served_in s)) of.epoch
     ∙ ap (λ (p : ℕ). reply h.epoch p (served_in s)) (place_is c.args.method h s of)
     ∙ ap (reply h.epoch (place_of c.args.method h)) (served_is h s of))
-    (c.reply_over.ensures (apart h s of))
+    (c.reply_over.ensures.exact (apart h s of))

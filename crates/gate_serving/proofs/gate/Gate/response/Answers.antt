@@ -31,13 +31,13 @@ returns-in-Calls-clause-made g c =
 
 pub returns-in-Problem-clause-made : goal.returns-in-Problem-clause-made
 returns-in-Problem-clause-made g c =
-    made_for c.args.self.now c.args.self.now (Problem c.in-Problem.error) (at_once_data c.args.asking.now)
+    made_for c.args.self.now c.args.self.now (Problem c.in-Problem.error) (at_once_data c.args.asking)
     (problem_answer (problem_status c.in-Problem.error) (text_of_problem c.in-Problem.error)) c.problem_response.result (ap at_once_data c.in-Problem.is) refl
     (λ s m. Comes [] _ asks_nothing) c.problem_response.ensures
 
 pub returns-in-Session-clause-made : goal.returns-in-Session-clause-made
 returns-in-Session-clause-made g c =
-    made_for c.args.self.now c.args.self.now Session (at_once_data c.args.asking.now)
+    made_for c.args.self.now c.args.self.now Session (at_once_data c.args.asking)
     (json_answer 200 (compact_text (session_data c.args.self.now.account.user c.args.self.now.account.base))) c.session_response.result (ap at_once_data c.in-Session.is) refl
     (λ s m. Comes [] _ asks_nothing) c.session_response.ensures
 
@@ -52,5 +52,5 @@ returns-in-Upload-clause-may g c =
 
 pub returns-in-Refused-clause-made : goal.returns-in-Refused-clause-made
 returns-in-Refused-clause-made g c =
-    made_for c.args.self.now c.args.self.now (Refused c.in-Refused.refusal) (at_once_data c.args.asking.now) (empty_answer (refusal_status c.in-Refused.refusal))
+    made_for c.args.self.now c.args.self.now (Refused c.in-Refused.refusal) (at_once_data c.args.asking) (empty_answer (refusal_status c.in-Refused.refusal))
     (Ok c.empty.result) (ap at_once_data c.in-Refused.is) refl (λ s m. Comes [] _ asks_nothing) c.empty.ensures

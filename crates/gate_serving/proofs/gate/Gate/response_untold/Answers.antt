@@ -21,8 +21,8 @@ returns-in-Calls-clause-made g c =
       made.2 secrets,
     )) c.calls_without.ensures.made
 
-pub returns-in-Download-clause-made : goal.returns-in-Download-clause-made
-returns-in-Download-clause-made g c =
+pub returns-clause-made : goal.returns-clause-made
+returns-clause-made g c =
     asked_calls c.untold_response.result (λ r text_is secrets p is.
     let account : Account = account_by c.args.self.now secrets in
     let answer : Answer = problem_answer 404 (compact_text untold_problem) in (

@@ -15,7 +15,7 @@ returns-in-AtOnce-clause-run g c =
     (none _ _ (λ s held. let r = c.answer_at_once.ensures.run s held in (
       r.0,
       r.1,
-      subst (λ (f : Faults). AnswersTo c.args.self.now.door (account_by c.args.self.now (g.W.Taped.hidden c.args.world.now)) (asking_data c.args.asking.now) s r.0
+      subst (λ (f : Faults). AnswersTo c.args.self.now.door (account_by c.args.self.now (g.W.Taped.hidden c.args.world.now)) (asking_data c.args.asking) s r.0
           (g.W.Taped.faults c.args.world.now) f c.answer_at_once.result [])
           (ap (λ (w : g.row.W.Denot). g.W.Taped.faults w) (sym c.answer_at_once.ensures.world))
           (subst (λ (a : Asking). AnswersTo c.args.self.now.door (account_by c.args.self.now (g.W.Taped.hidden c.args.world.now)) a s r.0

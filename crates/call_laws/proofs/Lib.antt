@@ -1,0 +1,3 @@
+mod Fit
+mod Ends
+mod Histories

@@ -1,0 +1,88 @@
+// Laws of calls that change mail.
+ghost use Rattle.std.specs.Prelude.{◌≡◌, ◌⊎◌, ℕ, List, Err, Ok, Result, Some};
+ghost use Rattle.gate_world.specs.declared.event.Event.{Event};
+ghost use Rattle.jmap_arguments.specs.declared.method_error.MethodError.{MethodError};
+ghost use Rattle.jmap_arguments.specs.declared.method_error.MethodError.TheVariants.{ServerFail, ServerPartialFail, ServerUnavailable};
+ghost use Rattle.jmap_arguments.specs.declared.using.Using.{Using};
+ghost use Rattle.jmap_core.specs.CreatedIds.{Ids};
+ghost use Rattle.mail_state.specs.History.{MailHistory};
+ghost use Rattle.result_references.specs.Call.{CallData};
+ghost use Rattle.serde_json.specs.Data.{Data};
+ghost use Rattle.set_arguments.specs.Arguments.{SetAsked};
+ghost use Rattle.set_arguments.specs.declared.set_method.SetMethod.{SetMethod};
+ghost use Rattle.set_jobs.specs.declared.done.Done.{Done};
+ghost use Rattle.set_jobs.specs.declared.job.Job.{Job};
+ghost use Rattle.set_order.specs.Ordered.{Item};
+ghost use Rattle.set_items.specs.Causes.{FailedPartly, WasUnavailable};
+ghost use Rattle.set_items.specs.Commands.{IsFit};
+ghost use Rattle.set_items.specs.Talks.{ending_of};
+ghost use Rattle.set_items.specs.declared.item.ItemEnd.{ItemEnd};
+ghost use Rattle.set_items.specs.declared.item.ItemEnd.TheVariants.{Comes, Ends, OutOfMemory};
+ghost use Rattle.set_calls.specs.Calls.{SetCall, CallState, StepsItem, StopsAt};
+ghost use Rattle.set_calls.specs.Promises.{ChecksAppend, ChecksFit};
+ghost use Rattle.gate_machine.specs.Going.{HasGoneOn};
+ghost use Rattle.gate_machine.specs.History.{KnownMail};
+ghost use Rattle.gate_machine.specs.Progress.{Progress};
+ghost use Rattle.gate_changes.specs.Answering.{call_of};
+ghost use Rattle.gate_changes.specs.Changing.{ChangesMail};
+ghost use Rattle.gate_calls.specs.Calling.{Asked, CallsState, DoesCall};
+ghost use Rattle.gate_calls.specs.ItemChecks.{item_checks};
+ghost use Rattle.gate_calls.specs.Mailings.{mail_at};
+ghost use Rattle.call_laws.specs.Ended.{HasNoPlaces, IsEndedIn};
+
+use email_laws::{email_items_append_nothing, email_items_are_fit};
+use gate_changes::changes_draw_no_epoch;
+use mailbox_laws::{mailbox_items_append_nothing, mailbox_items_are_fit};
+use set_calls::calls_end_by_their_causes;
+use set_items::causes_end_items;
+
+/// Whatever a call asks, its items have the steps that set_items' laws want of them: each command has to be obeyed but EXPUNGE, and what is listed was
+/// made. None of them sends an APPEND.
+pub fn items_are_fit()
+    ensures fit { (m : SetMethod) (a : SetAsked) (h : MailHistory) (created : Ids) → ChecksFit (call_of item_checks m a h created) }
+    ensures append { (m : SetMethod) (a : SetAsked) (h : MailHistory) (created : Ids) → ChecksAppend (call_of item_checks m a h created) }
+{
+    email_items_are_fit();
+    email_items_append_nothing();
+    mailbox_items_are_fit();
+    mailbox_items_append_nothing();
+}
+
+/// A call that changes mail, and whose items are done, ends with one of its three errors only by the causes of each.
+pub fn changing_calls_end_by_their_causes()
+    ensures partly { (call : SetCall) (items : List Item) (before : Progress) (events : List Event) (after : Progress) → ChecksFit call
+        → ChangesMail call items before (Err ServerPartialFail) events after → IsEndedIn FailedPartly ServerPartialFail call items before }
+    ensures unavailable { (call : SetCall) (items : List Item) (before : Progress) (events : List Event) (after : Progress)
+        → ChangesMail call items before (Err ServerUnavailable) events after → IsEndedIn WasUnavailable ServerUnavailable call items before }
+    ensures fail { (call : SetCall) (items : List Item) (before : Progress) (events : List Event) (after : Progress)
+        → ChangesMail call items before (Err ServerFail) events after → HasNoPlaces call items before }
+    ensures others { (call : SetCall) (items : List Item) (before : Progress) (e : MethodError) (events : List Event) (after : Progress)
+        → ChangesMail call items before (Err e) events after → (e ≡ ServerPartialFail) ⊎ (e ≡ ServerUnavailable) ⊎ (e ≡ ServerFail) }
+{
+    calls_end_by_their_causes();
+}
+
+/// Each of these causes ends the call with its error, unless memory ran out; of an item that came to something neither holds.
+pub fn causes_end_calls()
+    ensures partly { (c : SetCall) (item : Item) (mid after : CallState) (ends : ItemEnd) (events : List Event) → ChecksFit c
+        → (stop : StopsAt c item mid ends events after) → FailedPartly (ending_of mid.exchanges stop.steps.does.runs)
+        → (ends ≡ OutOfMemory) ⊎ (ends ≡ Ends ServerPartialFail) }
+    ensures unavailable { (c : SetCall) (item : Item) (mid after : CallState) (ends : ItemEnd) (events : List Event)
+        → (stop : StopsAt c item mid ends events after) → WasUnavailable (ending_of mid.exchanges stop.steps.does.runs) → ends ≡ Ends ServerUnavailable }
+    ensures done { (item : Item) (job : Job) (mid after : CallState) (done : Done) (events : List Event) → IsFit job
+        → (steps : StepsItem item job mid (Comes done) events after)
+        → FailedPartly (ending_of mid.exchanges steps.does.runs) ⊎ WasUnavailable (ending_of mid.exchanges steps.does.runs) → ⊥ }
+{
+    causes_end_items();
+}
+
+/// Over each call of a request the history that is served goes on: so the states that its replies tell are of one history, one after another.
+pub fn calls_keep_one_history()
+    ensures one { (uses : Using) (uploads : List (List ℕ)) (earlier : List CallData) (call : CallData) (before : CallsState) (asks : List Asked)
+        (result : Result Data MethodError) (events : List Event) (after : CallsState) (h : MailHistory) (k : KnownMail)
+        → DoesCall uses uploads earlier call before asks result events after → mail_at before.progress ≡ Ok h → after.progress.machine.known ≡ Some k
+        → HasGoneOn h k.history }
+    ensures joins { (h j k : MailHistory) → HasGoneOn h j → HasGoneOn j k → HasGoneOn h k }
+{
+    changes_draw_no_epoch();
+}

@@ -1,0 +1,5 @@
+mod Elements
+mod Jobs
+mod FitJobs
+mod SentSteps
+mod SentJobs
