@@ -1,13 +1,14 @@
 // What the program's host gives.
+use crate::moment::seconds_over;
 use crate::sockets::{addresses_over, dial_over, draw_over};
-use crate::{Dialer, Draws};
+use crate::{Dialer, Draws, WallClock};
 use std::io::{Read, Stderr, Stdin, Stdout, Write};
 use std::net::{SocketAddr, TcpStream};
 use std::process;
 use std::rt::Clock;
 
 /// A host: its network, its clock, its random octets, and the streams and the number of this process.
-pub trait Host: Dialer + Draws + Clock + Clone + Copy + Drop {
+pub trait Host: Dialer + Draws + WallClock + Clock + Clone + Copy + Drop {
     /// What the client on the standard streams gives.
     type Input: Read + Drop;
 
@@ -55,6 +56,16 @@ impl Draws for HostRuntime {
 
     fn draw(&self) -> Option<[u8; 8]> {
         draw_over(self)
+    }
+}
+
+impl WallClock for HostRuntime {
+    ghost use Rattle.std.specs.Prelude.{⊤};
+
+    ghost shows = { λ _ _. ⊤ };
+
+    fn seconds(&self) -> Option<u64> {
+        seconds_over(self)
     }
 }
 

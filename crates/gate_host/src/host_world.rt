@@ -1,14 +1,14 @@
 // The world of the gateway on a real host.
 ghost use Rattle.std.specs.Prelude.{◌≡◌, ◌<◌, ◌≤◌, not, true, false, length, take, None, IsSome, IsNone, IsErr, IsOk, IfOk, OnOk, OnErr};
 ghost use Rattle.std.specs.Io.KnownBytes.{Appends, Consumes, ReadConsumes, WriteAppends};
-ghost use Rattle.gate_host.specs.Chance.{IsDrawnWord};
+ghost use Rattle.gate_host.specs.Chance.{IsDrawnWord, IsShownMoment};
 ghost use Rattle.gate_host.specs.declared.tcp_link.TheConstants.{PATIENCE_SECONDS};
 ghost use Rattle.gate_host.specs.Dialing.{Connects};
 ghost use Rattle.gate_host.specs.Faults.{one_more};
 ghost use Rattle.gate_host.specs.Streams.{known_of};
 
-use crate::{Clients, ErrorConsole, Host, TcpLink, random_word};
-use gate_world::{Chance, Console, Failed, Front, Link, Secrets, Taped, World};
+use crate::{Clients, ErrorConsole, Host, TcpLink, present_moment, random_word};
+use gate_world::{Chance, Clock, Console, Failed, Front, Link, Secrets, Taped, World};
 use octets::{Bytes, Text};
 
 /// A world on a host: the store over TCP, and clients. It tells no tape.
@@ -146,6 +146,15 @@ impl<H: Host, C: Clients> Front for HostWorld<H, C> {
         ensures faults { C.client_faults self.new.front ≡ C.client_faults self.old.front }
     {
         self.front.finish();
+    }
+}
+
+impl<H: Host, C: Clients> Clock for HostWorld<H, C> {
+    fn now(&mut self) -> i64
+        ensures shown { IsShownMoment (H.shows self.old.host) result }
+        ensures same { self.new ≡ self.old }
+    {
+        present_moment(&self.host)
     }
 }
 

@@ -2,7 +2,7 @@
 ghost use Rattle.std.specs.Prelude.{◌≡◌, ◌<◌, ◌≤◌, List, ℕ, [], ◌∷◌, Option, length, take, IfOk, OnOk, OnErr, if◌then◌else◌};
 ghost use Rattle.gate_world.specs.Causes.{Faults, Hidden, Rose, NoFault, LinkAlone, FrontAlone, SayAlone};
 ghost use Rattle.gate_world.specs.declared.event.Event.{Event};
-ghost use Rattle.gate_world.specs.declared.event.Event.TheVariants.{Accepted, NoMore, ClientGave, ClientEnded, ClientTook, ClientDone, FrontFailed, Dialed, StoreGave, StoreTook, LinkEnded, Word, Said, SayFailed};
+ghost use Rattle.gate_world.specs.declared.event.Event.TheVariants.{Accepted, NoMore, ClientGave, ClientEnded, ClientTook, ClientDone, FrontFailed, Dialed, StoreGave, StoreTook, LinkEnded, Clock, Word, Said, SayFailed};
 ghost use Rattle.gate_world.specs.Tape.{AddsOne};
 ghost use Rattle.gate_world.specs.Read.{given};
 
@@ -113,6 +113,16 @@ pub trait Front: Taped {
         ensures hidden { Self.hidden self.new ≡ Self.hidden self.old };
 }
 
+/// The present moment.
+pub trait Clock: Taped {
+    /// Seconds since 1970-01-01T00:00:00Z, which the built program asks the host. No clause says that they grow: a world in memory
+    /// gives the moments of its script. It can't fail.
+    fn now(&mut self) -> i64
+        ensures tape { AddsOne (Self.tape self.old) (Self.tape self.new) (Clock result) }
+        ensures cause { NoFault (Self.faults self.old) (Self.faults self.new) }
+        ensures hidden { Self.hidden self.new ≡ Self.hidden self.old };
+}
+
 /// Random words.
 pub trait Chance: Taped {
     /// A word, which the built program draws from the host. No clause says that it is random: a world in memory gives the words
@@ -147,4 +157,4 @@ pub trait Secrets: Taped {
 }
 
 /// All of the outside.
-pub trait World: Link + Front + Chance + Console + Secrets {}
+pub trait World: Link + Front + Clock + Chance + Console + Secrets {}

@@ -1,5 +1,5 @@
 // A host over loopback.
-use gate_host::{Dialer, Draws, Host, addresses_over, draw_over};
+use gate_host::{Dialer, Draws, Host, WallClock, addresses_over, draw_over, seconds_over};
 use std::io;
 use std::io::{ErrorKind, Read, Stdin};
 use std::net::{Ipv4Addr, Net, SocketAddr, SocketAddrV4, TcpListener, TcpStream};
@@ -73,6 +73,16 @@ impl Draws for Desk {
 
     fn draw(&self) -> Option<[u8; 8]> {
         draw_over(self)
+    }
+}
+
+impl WallClock for Desk {
+    ghost use Rattle.std.specs.Prelude.{⊤};
+
+    ghost shows = { λ _ _. ⊤ };
+
+    fn seconds(&self) -> Option<u64> {
+        seconds_over(self)
     }
 }
 

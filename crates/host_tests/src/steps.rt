@@ -2,7 +2,7 @@
 use crate::desk::Desk;
 use crate::peers::Peers;
 use gate_host::{Clients, Dialer, Draws, HostWorld};
-use gate_world::{Chance, Console, Front, Link, Secrets};
+use gate_world::{Chance, Clock, Console, Front, Link, Secrets};
 use std::alloc::AllocError;
 use std::net::{Ipv4Addr, SocketAddr, SocketAddrV4};
 use std::rc::Rc;
@@ -92,6 +92,7 @@ impl<C: Clients> Scenario<C> {
             "faults" => write!(out, ":{}", self.world.link.faults),
             "stream" => self.put_stream(out),
             "word" => write!(out, ":{}", self.world.word()),
+            "clock" => write!(out, ":{}", self.world.now()),
             "say" => write!(out, ":{:?}", self.world.say(step.octets)),
             "said" => put_text(self.world.console.stream.as_slice(), out),
             "password" => put_text(self.world.password(), out),

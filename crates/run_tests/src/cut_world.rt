@@ -1,7 +1,7 @@
 // A world that follows a script, whose store takes no more than so many octets in the first link life.
 ghost use Rattle.std.specs.Prelude.{◌≡◌};
 
-use gate_world::{Chance, Console, Event, Failed, Front, Link, Secrets, Taped, World};
+use gate_world::{Chance, Clock, Console, Event, Failed, Front, Link, Secrets, Taped, World};
 use scripted_world::ScriptWorld;
 
 /// A world whose contracts tell no tape.
@@ -82,6 +82,12 @@ impl Front for CutWorld {
 
     fn finish(&mut self) {
         self.world.finish();
+    }
+}
+
+impl Clock for CutWorld {
+    fn now(&mut self) -> i64 {
+        self.world.now()
     }
 }
 

@@ -1,5 +1,5 @@
 -- What each call plays of a script.
-use Rattle.std.specs.Prelude.{◌≡◌, ◌⊎◌, ◌+◌, ◌-◌, ◌^◌, ◌<◌, ◌==◌, ◌&&◌, ◌||◌, ℕ, Bool, true, false, List, [], ◌∷◌, ◌++◌, length, take, drop, min, max, nat_lt, nat_le}
+use Rattle.std.specs.Prelude.{◌≡◌, ◌⊎◌, ◌+◌, ◌-◌, ◌^◌, ◌<◌, ◌==◌, ◌&&◌, ◌||◌, ℕ, ℤ, pos, Bool, true, false, List, [], ◌∷◌, ◌++◌, length, take, drop, min, max, nat_lt, nat_le}
 use Rattle.std.specs.Prelude.{Option, Some, None, IsSome, Result, Ok, Err, All}
 use Rattle.std.specs.List.{list_any}
 use Rattle.scripted_world.specs.declared.left.Left.{Left}
@@ -85,6 +85,21 @@ abbrev pub later_words : List ℕ → List ℕ
 later_words [] = []
 later_words (word ∷ []) = word ∷ []
 later_words (_ ∷ word ∷ words) = word ∷ words
+
+-- the clock's next moment; none is 0
+abbrev pub next_moment : List ℤ → ℤ
+next_moment [] = pos 0
+next_moment (moment ∷ _) = moment
+
+-- the moments after it: the last one stays
+abbrev pub later_moments : List ℤ → List ℤ
+later_moments [] = []
+later_moments (moment ∷ []) = moment ∷ []
+later_moments (_ ∷ moment ∷ moments) = moment ∷ moments
+
+-- the clock was asked
+abbrev pub asked_clock : Left → Left
+asked_clock left = record left { script = record left.script { moments = later_moments left.script.moments } }
 
 -- a word was drawn
 abbrev pub drawn : Left → Left

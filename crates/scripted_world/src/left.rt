@@ -2,7 +2,7 @@
 ghost use Rattle.std.specs.Prelude.{◌≡◌, ◌+◌, ◌-◌, ◌<◌, ◌≤◌, ◌↔◌, [], IsSome, IsTrue, MatchBool, OnErr, OnOk, drop, length, max, min, nat_le, nat_lt, take, ◌==◌, ◌&&◌};
 ghost use Rattle.std.specs.List.{list_any};
 ghost use Rattle.gate_world.specs.Pieces.{Gives, octets_of, without};
-ghost use Rattle.scripted_world.specs.Script.{accepted, counted, dialed, drawn, ended, is_next_to_fail, next_word, read_on, received_on, unplayed, with_client};
+ghost use Rattle.scripted_world.specs.Script.{accepted, asked_clock, counted, dialed, drawn, ended, is_next_to_fail, next_moment, next_word, read_on, received_on, unplayed, with_client};
 
 use crate::{Fail, Script};
 use octets::Bytes;
@@ -176,6 +176,17 @@ impl Left {
         ensures rest { self.new ≡ received_on result self.old }
     {
         read_of(&mut self.client, self.script.piece, into)
+    }
+
+    /// Asks the clock for the next moment.
+    pub(crate) fn ask_clock(&mut self) -> i64
+        ensures moment { result ≡ next_moment self.old.script.moments }
+        ensures rest { self.new ≡ asked_clock self.old }
+    {
+        if self.script.moments.len() > 1 {
+            return self.script.moments.pop_front().unwrap_or(0);
+        }
+        self.script.moments.as_slice().first().copied().unwrap_or(0)
     }
 
     /// Draws the next word.

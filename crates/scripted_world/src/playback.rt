@@ -1,9 +1,9 @@
 // A script that is played, for the worlds that follow one.
 ghost use Rattle.std.specs.Prelude.{◌≡◌, ◌<◌, ◌≤◌, [], MatchBool, Some, length, min, take, if◌then◌else◌};
-ghost use Rattle.gate_world.specs.declared.event.Event.TheVariants.{Accepted, ClientDone, ClientTook, Dialed, LinkEnded, NoMore, Said, StoreGave, StoreTook, Word};
+ghost use Rattle.gate_world.specs.declared.event.Event.TheVariants.{Accepted, ClientDone, ClientTook, Clock, Dialed, LinkEnded, NoMore, Said, StoreGave, StoreTook, Word};
 ghost use Rattle.gate_world.specs.Pieces.{Gives, octets_of};
 ghost use Rattle.gate_world.specs.Read.{given};
-ghost use Rattle.scripted_world.specs.Script.{accepted, dialed, drawn, ended, next_word, received_on, unplayed};
+ghost use Rattle.scripted_world.specs.Script.{accepted, asked_clock, dialed, drawn, ended, next_moment, next_word, received_on, unplayed};
 ghost use Rattle.gate_world.specs.Tape.{AddsOne};
 
 use crate::Script;
@@ -116,6 +116,17 @@ impl Playback {
         ensures left { self.new.left ≡ self.old.left }
     {
         self.tape.add(Event::ClientDone);
+    }
+
+    /// The clock's next moment.
+    pub(crate) fn now(&mut self) -> i64
+        ensures tape { AddsOne self.old.tape self.new.tape (Clock result) }
+        ensures moment { result ≡ next_moment self.old.left.script.moments }
+        ensures left { self.new.left ≡ asked_clock self.old.left }
+    {
+        let moment = self.left.ask_clock();
+        self.tape.add(Event::Clock(moment));
+        moment
     }
 
     /// The next random word.

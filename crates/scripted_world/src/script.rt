@@ -76,6 +76,14 @@ impl Script {
         Ok(self)
     }
 
+    /// One moment of the clock more.
+    pub fn with_moment(mut self, moment: i64) -> Result<Script, AllocError>
+        ensures { IfOk result (λ script. script ≡ record self { moments = self.moments ++ moment ∷ [] }) }
+    {
+        self.moments.push(moment)?;
+        Ok(self)
+    }
+
     /// One random word more.
     pub fn with_word(mut self, word: u64) -> Result<Script, AllocError>
         ensures { IfOk result (λ script. script ≡ record self { words = self.words ++ word ∷ [] }) }

@@ -1,14 +1,14 @@
 // A world in memory that follows a script, and fails where the script says so.
 ghost use Rattle.std.specs.Prelude.{◌≡◌, ◌<◌, ◌≤◌, [], Some, None, IfOk, IfSome, IsNone, OnErr, OnOk, length, take, if◌then◌else◌};
 ghost use Rattle.gate_world.specs.Causes.{FrontAlone, LinkAlone, NoFault, Rose, SayAlone};
-ghost use Rattle.gate_world.specs.declared.event.Event.TheVariants.{Accepted, ClientDone, ClientTook, Dialed, FrontFailed, LinkEnded, NoMore, Said, SayFailed, StoreGave, StoreTook, Word};
+ghost use Rattle.gate_world.specs.declared.event.Event.TheVariants.{Accepted, ClientDone, ClientTook, Clock, Dialed, FrontFailed, LinkEnded, NoMore, Said, SayFailed, StoreGave, StoreTook, Word};
 ghost use Rattle.gate_world.specs.Read.{given};
-ghost use Rattle.scripted_world.specs.Script.{AcceptPlays, DialPlays, ReadPlays, RecvPlays, SayPlays, SendPlays, WritePlays, begun, counted, drawn, ended, next_word};
+ghost use Rattle.scripted_world.specs.Script.{AcceptPlays, DialPlays, ReadPlays, RecvPlays, SayPlays, SendPlays, WritePlays, asked_clock, begun, counted, drawn, ended, next_moment, next_word};
 ghost use Rattle.gate_world.specs.Tape.{AddsOne};
 
 use crate::Script;
 use crate::playback::Playback;
-use gate_world::{Chance, Console, Event, Failed, Front, Link, Secrets, Taped, World};
+use gate_world::{Chance, Clock, Console, Event, Failed, Front, Link, Secrets, Taped, World};
 use std::alloc::Global;
 use std::marker::Model;
 
@@ -222,6 +222,18 @@ impl Front for ScriptWorld {
         ensures plays { self.new.left ≡ self.old.left }
     {
         self.playback.finish();
+    }
+}
+
+impl Clock for ScriptWorld {
+    fn now(&mut self) -> i64
+        ensures tape { AddsOne self.old.tape self.new.tape (Clock result) }
+        ensures cause { NoFault self.old.faults self.new.faults }
+        ensures hidden { self.new.hidden ≡ self.old.hidden }
+        ensures moment { result ≡ next_moment self.old.left.script.moments }
+        ensures plays { self.new.left ≡ asked_clock self.old.left }
+    {
+        self.playback.now()
     }
 }
 

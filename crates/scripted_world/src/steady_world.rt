@@ -1,15 +1,15 @@
 // A world in memory that follows a script, and in which no call fails.
 ghost use Rattle.std.specs.Prelude.{◌≡◌, ◌<◌, ◌≤◌, ◌↔◌, ℕ, [], Some, None, All, IfOk, IfSome, IsNone, IsOk, IsSome, IsTrue, OnErr, OnOk, length, min, take, if◌then◌else◌};
 ghost use Rattle.gate_world.specs.Causes.{FrontAlone, LinkAlone, NoFault, Rose, SayAlone};
-ghost use Rattle.gate_world.specs.declared.event.Event.TheVariants.{Accepted, ClientDone, ClientTook, Dialed, FrontFailed, LinkEnded, NoMore, Said, SayFailed, StoreGave, StoreTook, Word};
+ghost use Rattle.gate_world.specs.declared.event.Event.TheVariants.{Accepted, ClientDone, ClientTook, Clock, Dialed, FrontFailed, LinkEnded, NoMore, Said, SayFailed, StoreGave, StoreTook, Word};
 ghost use Rattle.gate_world.specs.Pieces.{Gives, octets_of};
 ghost use Rattle.gate_world.specs.Read.{given};
-ghost use Rattle.scripted_world.specs.Script.{SteadyAcceptPlays, SteadyReadPlays, begun, dialed, drawn, ended, next_word, received_on, with_client};
+ghost use Rattle.scripted_world.specs.Script.{SteadyAcceptPlays, SteadyReadPlays, asked_clock, begun, dialed, drawn, ended, next_moment, next_word, received_on, with_client};
 ghost use Rattle.gate_world.specs.Tape.{AddsOne};
 
 use crate::Script;
 use crate::playback::Playback;
-use gate_world::{Chance, Console, Event, Failed, Front, Link, Secrets, Taped, World};
+use gate_world::{Chance, Clock, Console, Event, Failed, Front, Link, Secrets, Taped, World};
 use octets::Bytes;
 use std::alloc::{AllocError, Global};
 use std::marker::Model;
@@ -190,6 +190,18 @@ impl Front for SteadyWorld {
         ensures plays { self.new.left ≡ self.old.left }
     {
         self.playback.finish();
+    }
+}
+
+impl Clock for SteadyWorld {
+    fn now(&mut self) -> i64
+        ensures tape { AddsOne self.old.tape self.new.tape (Clock result) }
+        ensures faults { NoFault self.old.faults self.new.faults }
+        ensures hidden { self.new.hidden ≡ self.old.hidden }
+        ensures moment { result ≡ next_moment self.old.left.script.moments }
+        ensures plays { self.new.left ≡ asked_clock self.old.left }
+    {
+        self.playback.now()
     }
 }
 

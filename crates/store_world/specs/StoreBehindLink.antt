@@ -139,6 +139,10 @@ Sends octets w after = Follow octets w.sent after.sent × IsButForTape after (re
 
 -- ---- chance
 
+-- the clock was asked
+abbrev pub asked_clock : StoreBehindLink → StoreBehindLink
+asked_clock w = with_left w (script.asked_clock w.steady.left)
+
 -- a word was drawn
 abbrev pub drawn : StoreBehindLink → StoreBehindLink
 drawn w = with_left w (script.drawn w.steady.left)

@@ -3,22 +3,22 @@ ghost use Rattle.std.specs.Prelude.{◌≡◌, ◌<◌, ◌≤◌, ◌++◌, Lis
 ghost use Rattle.std.specs.Borrow.{sem};
 ghost use Rattle.gate_world.specs.Causes.{LinkAlone, Rose};
 ghost use Rattle.gate_world.specs.declared.event.Event.TheVariants.{Accepted, ClientDone, ClientTook, NoMore};
-ghost use Rattle.gate_world.specs.declared.event.Event.TheVariants.{Dialed, LinkEnded, Said, StoreGave, StoreTook, Word};
+ghost use Rattle.gate_world.specs.declared.event.Event.TheVariants.{Clock, Dialed, LinkEnded, Said, StoreGave, StoreTook, Word};
 ghost use Rattle.gate_world.specs.Pieces.{Gives, octets_of};
 ghost use Rattle.gate_world.specs.Read.{given};
 ghost use Rattle.gate_world.specs.Tape.{AddsOne};
 ghost use Rattle.honest_store.specs.Sessions.{StoreSession};
-ghost use Rattle.scripted_world.specs.Script.{next_word};
+ghost use Rattle.scripted_world.specs.Script.{next_moment, next_word};
 ghost use Rattle.store_world.specs.Lending.{LendsStore};
 ghost use Rattle.store_world.specs.Replies.{AnswersSome, Replies};
 ghost use Rattle.store_world.specs.StoreBehindLink.{Accepts, IsButForLink, IsButForTape, Reads, Sends, Writes};
-ghost use Rattle.store_world.specs.StoreBehindLink.{begun, broken, dialed, drawn, faults_of, hung_up, read_on, received_on, replied, sent_of, with_client};
+ghost use Rattle.store_world.specs.StoreBehindLink.{asked_clock, begun, broken, dialed, drawn, faults_of, hung_up, read_on, received_on, replied, sent_of, with_client};
 
 use crate::octet_queue::OctetQueue;
 use crate::ready::Ready;
 use crate::replies::reply;
 use crate::sent::Sent;
-use gate_world::{Chance, Console, Failed, Front, Link, Secrets, Taped, World};
+use gate_world::{Chance, Clock, Console, Failed, Front, Link, Secrets, Taped, World};
 use octets::{Bytes, Listed};
 use scripted_world::{Script, SteadyWorld};
 use small_store::StoreMachine;
@@ -29,7 +29,7 @@ use store_sessions::CommandStore;
 /// The password of the store, and the token of a client.
 const DRILL: &[u8] = b"drill";
 
-/// A world in memory, whose clients are those that it is given, whose random words are 0, and whose password and token are `drill`. Behind
+/// A world in memory, whose clients are those that it is given, whose moments and random words are 0, and whose password and token are `drill`. Behind
 /// its link is a store, which answers what is written. The link fails where memory is wanting for that, and no other call does.
 #[derive(Drop)]
 pub struct StoreWorld {
@@ -235,6 +235,16 @@ impl Front for StoreWorld {
         ensures plays { IsButForTape self.new self.old }
     {
         self.steady.finish();
+    }
+}
+
+impl Clock for StoreWorld {
+    fn now(&mut self) -> i64
+        ensures tape { AddsOne self.old.steady.tape self.new.steady.tape (Clock result) }
+        ensures moment { result ≡ next_moment self.old.steady.left.script.moments }
+        ensures plays { IsButForTape self.new (asked_clock self.old) }
+    {
+        self.steady.now()
     }
 }
 

@@ -1,6 +1,6 @@
-// Calls by letters: d, r, w and h for dial, read, write and hang_up, A, R, S and F for accept, recv, send and finish, n for a
-// word, and s for a text.
-use gate_world::{Chance, Console, Front, Link, World};
+// Calls by letters: d, r, w and h for dial, read, write and hang_up, A, R, S and F for accept, recv, send and finish, c for
+// the clock, n for a word, and s for a text.
+use gate_world::{Chance, Clock, Console, Front, Link, World};
 use scripted_world::{ScriptWorld, SteadyWorld};
 
 /// Makes a call that has no failure.
@@ -8,6 +8,9 @@ fn call_plainly<W: World>(world: &mut W, letter: u8) {
     match letter {
         b'h' => world.hang_up(),
         b'F' => world.finish(),
+        b'c' => {
+            let _ = world.now();
+        }
         b'n' => {
             let _ = world.word();
         }

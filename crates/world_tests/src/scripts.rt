@@ -9,6 +9,7 @@ fn with_word(script: Script, word: &str) -> Result<Script, AllocError> {
     match name {
         "link" => script.with_link(value.as_bytes()),
         "client" => script.with_client(value.as_bytes()),
+        "moment" => script.with_moment(value.parse::<i64>().unwrap_or(0)),
         "word" => script.with_word(number),
         "failing" => script.failing(number),
         "stop" => Ok(script.stopping_at(number)),
