@@ -1,5 +1,5 @@
 -- Media types (RFC 2045 section 5.1).
-use Rattle.std.specs.Prelude.{ℕ, Bool, false, not, ◌&&◌, ◌||◌, ◌==◌, nat_le, List, [], ◌∷◌, length, codes}
+use Rattle.std.specs.Prelude.{ℕ, Bool, true, false, not, ◌&&◌, ◌||◌, ◌==◌, nat_le, List, [], ◌∷◌, length, codes, Option, Some, None}
 use Rattle.std.specs.List.{list_all}
 use Rattle.text_words.specs.Cuts.{front, back}
 use Rattle.text_words.specs.Octets.{is_between, is_same_text}
@@ -25,6 +25,19 @@ abbrev pub is_subtype : List ℕ → Bool
 is_subtype [] = false
 is_subtype (slash ∷ t) = is_token t
 
--- two tokens round one "/", and the first isn't multipart
+-- composite-type = "message" / "multipart": no part of such a type is in base64 (RFC 2045 section 6.4)
+abbrev pub is_composite : List ℕ → Bool
+is_composite t = is_same_text t (codes "multipart") || is_same_text t (codes "message")
+
+-- two tokens round one "/"
+abbrev pub is_media_type : List ℕ → Bool
+is_media_type t = is_token (front is_no_slash t) && is_subtype (back is_no_slash t)
+
+-- two tokens round one "/", of which the first is a discrete-type's
 abbrev pub is_leaf_type : List ℕ → Bool
-is_leaf_type t = is_token (front is_no_slash t) && is_subtype (back is_no_slash t) && not (is_same_text (front is_no_slash t) (codes "multipart"))
+is_leaf_type t = is_media_type t && not (is_composite (front is_no_slash t))
+
+-- a token, where there is one
+abbrev pub is_token_or_none : Option (List ℕ) → Bool
+is_token_or_none None = true
+is_token_or_none (Some t) = is_token t

@@ -2,7 +2,7 @@
 ghost use Rattle.std.specs.Prelude.{◌≡◌, true};
 ghost use Rattle.mail_drafts.specs.Mailboxes.{is_line_or_none};
 ghost use Rattle.mail_drafts.specs.Identifiers.{is_identifier_or_none};
-ghost use Rattle.mail_drafts.specs.MediaTypes.{is_leaf_type};
+ghost use Rattle.mail_drafts.specs.MediaTypes.{is_leaf_type, is_token_or_none};
 
 use octets::{Bytes, Text};
 
@@ -12,6 +12,8 @@ pub struct Attachment {
     pub bytes: Bytes,
     /// Its media type, `type/subtype`.
     pub media: Text,
+    /// The charset of its octets.
+    pub charset: Option<Text>,
     /// The name of the file.
     pub name: Option<Text>,
     /// Its Content-ID, without angle brackets.
@@ -20,6 +22,8 @@ pub struct Attachment {
     pub inline: bool,
     /// The type of a leaf.
     pub ghost media_is: { is_leaf_type media ≡ true },
+    /// A token.
+    pub ghost charset_is: { is_token_or_none charset ≡ true },
     /// Without control characters.
     pub ghost name_is: { is_line_or_none name ≡ true },
     /// It can stand in angle brackets.

@@ -1,6 +1,6 @@
 // Mailboxes that fields of a message name.
 ghost use Rattle.std.specs.Prelude.{◌≡◌, true};
-ghost use Rattle.mail_drafts.specs.Mailboxes.{is_email, is_line_or_none};
+ghost use Rattle.mail_drafts.specs.Mailboxes.{is_email, is_line_or_none, ReadsAlone};
 
 use octets::Text;
 
@@ -13,6 +13,8 @@ pub struct Mailbox {
     pub email: Text,
     /// Without control characters.
     pub ghost name_is: { is_line_or_none name ≡ true },
-    /// One word at least, without what ends an address.
+    /// One word at least, without what ends an address or begins an encoded word.
     pub ghost email_is: { is_email email ≡ true },
+    /// Alone it reads as itself.
+    pub ghost alone_is: { ∥ ReadsAlone email ∥₁ },
 }

@@ -62,10 +62,6 @@ abbrev AllAbsent : List ℕ → List (List Field) → Type 0
 AllAbsent n [] = Unit {0}
 AllAbsent n (gs ∷ more) = (last n gs ≡ None) × AllAbsent n more
 
-all_append : (n : List ℕ) (rows more : List (List Field)) → AllAbsent n rows → AllAbsent n more → AllAbsent n (rows ++ more)
-all_append n [] more a b = b
-all_append n (gs ∷ rows) more a b = (a.0, all_append n rows more a.1 b)
-
 behind : (n : List ℕ) (fs : List Field) (more : List (List Field)) → AllAbsent n more → last n (joined fs more) ≡ last n fs
 behind n fs [] a = refl
 behind n fs (gs ∷ more) a = behind n (fs ++ gs) more a.1 ∙ pass n fs gs a.0
@@ -124,14 +120,6 @@ part_absent n v t e text html (a ∷ list) = others n (mime_version ∷ (whole_p
 
 -- ---- the fields of a draft, of which each name is that of one alone
 
--- the rows of addresses
-abbrev addresses : {d : Draft} {now : ℤ} {word : ℕ} {fs : List Field} → AreDraftFields d now word fs → List (List Field)
-addresses a = a.from ∷ a.sender ∷ a.reply_to ∷ a.to ∷ a.cc ∷ a.bcc ∷ []
-
--- the rows of ids but Message-ID, and the fields behind those of a draft
-abbrev threads : {d : Draft} {now : ℤ} {word : ℕ} {fs : List Field} → AreDraftFields d now word fs → List (List Field)
-threads {d} a = a.in_reply_to ∷ a.references ∷ (mime_version ∷ (draft_part d).fields) ∷ []
-
 -- another name than those of addresses, and of parts
 abbrev IsOther : List ℕ → Type 0
 IsOther n =
@@ -139,25 +127,32 @@ IsOther n =
     × (is_same_text (codes "Cc") n ≡ false) × (is_same_text (codes "Bcc") n ≡ false) × (is_same_text (codes "MIME-Version") n ≡ false)
     × (is_same_text (codes "Content-Type") n ≡ false) × (is_same_text (codes "Content-Transfer-Encoding") n ≡ false)
 
-no_address : (d : Draft) (now : ℤ) (word : ℕ) (fs : List Field) (a : AreDraftFields d now word fs) (n : List ℕ) → IsOther n → AllAbsent n (addresses a)
-no_address d now word fs a n o =
-    let none = λ (name : List ℕ) (e : is_same_text name n ≡ false) (list : Option (List Mailbox)) (gs : List Field) (is : AreAddressFields name list gs).
-    absent_of (AreAddressTexts (begun name)) name n e list gs is in (
-      none (codes "From") o.0 d.from a.from a.is_from,
-      (
-        none (codes "Sender") o.1 d.sender a.sender a.is_sender,
-        (
-          none (codes "Reply-To") o.2 d.reply_to a.reply_to a.is_reply_to,
-          (
-            none (codes "To") o.3 d.to a.to a.is_to,
-            (none (codes "Cc") o.4 d.cc a.cc a.is_cc, (none (codes "Bcc") o.5 d.bcc a.bcc a.is_bcc, tt)),
-          ),
-        ),
-      ),
-    )
+no_address : (d : Draft) (now : ℤ) (word : ℕ) (fs : List Field) (a : AreDraftFields d now word fs) (n name : List ℕ) → is_same_text name n ≡ false → (list : Option (List Mailbox))
+    (gs : List Field) → AreAddressFields name list gs → last n gs ≡ None
+no_address d now word fs a n name e list gs is = absent_of (AreAddressTexts (begun name)) name n e list gs is
+
+no_from : (d : Draft) (now : ℤ) (word : ℕ) (fs : List Field) (a : AreDraftFields d now word fs) (n : List ℕ) → IsOther n → last n a.from ≡ None
+no_from d now word fs a n o = no_address d now word fs a n (codes "From") o.0 d.from a.from a.is_from
 
 no_part : (d : Draft) (n : List ℕ) → IsOther n → last n (mime_version ∷ (draft_part d).fields) ≡ None
 no_part d n o = part_absent n o.6 o.7 o.8 d.text d.html d.attachments
+
+-- the rows behind those of ids: who gets the message, and the fields behind those of a draft
+abbrev recipients : {d : Draft} {now : ℤ} {word : ℕ} {fs : List Field} → AreDraftFields d now word fs → List (List Field)
+recipients {d} a = a.sender ∷ a.reply_to ∷ a.to ∷ a.cc ∷ a.bcc ∷ (mime_version ∷ (draft_part d).fields) ∷ []
+
+no_recipient : (d : Draft) (now : ℤ) (word : ℕ) (fs : List Field) (a : AreDraftFields d now word fs) (n : List ℕ) → IsOther n → AllAbsent n (recipients a)
+no_recipient d now word fs a n o =
+    let none = no_address d now word fs a n in (
+      none (codes "Sender") o.1 d.sender a.sender a.is_sender,
+      (
+        none (codes "Reply-To") o.2 d.reply_to a.reply_to a.is_reply_to,
+        (
+          none (codes "To") o.3 d.to a.to a.is_to,
+          (none (codes "Cc") o.4 d.cc a.cc a.is_cc, (none (codes "Bcc") o.5 d.bcc a.bcc a.is_bcc, (no_part d n o, tt))),
+        ),
+      ),
+    )
 
 no_date : (d : Draft) (now : ℤ) (word : ℕ) (fs : List Field) (a : AreDraftFields d now word fs) (n : List ℕ) → is_same_text (codes "Date") n ≡ false → last n a.date ≡ None
 no_date d now word fs a n e = absent (IsDateText (date_or_now now d.date)) (codes "Date") n e a.date a.is_date
@@ -179,7 +174,8 @@ no_references d now word fs a n e = absent_of AreIdTexts (codes "References") n 
 
 -- the fields of the message, row by row
 rows : (d : Draft) (now : ℤ) (word : ℕ) (fs : List Field) (a : AreDraftFields d now word fs) (n : List ℕ)
-    → last n (message_fields fs d) ≡ last n (joined a.date (addresses a ++ a.subject ∷ a.message_id ∷ threads a))
+    → last n (message_fields fs d)
+    ≡ last n (joined a.date (a.from ∷ a.subject ∷ a.message_id ∷ a.in_reply_to ∷ a.references ∷ recipients a))
 rows d now word fs a n = ap (λ (gs : List Field). last n (gs ++ mime_version ∷ (draft_part d).fields)) a.whole
 
 pub only_date : (d : Draft) (now : ℤ) (word : ℕ) (fs : List Field) (a : AreDraftFields d now word fs) → last (codes "Date") (message_fields fs d) ≡ last (codes "Date") a.date
@@ -187,9 +183,16 @@ only_date d now word fs a =
     let n = codes "Date" in
     let o : IsOther n = (refl, refl, refl, refl, refl, refl, refl, refl, refl) in
     rows d now word fs a n
-    ∙ behind n a.date (addresses a ++ a.subject ∷ a.message_id ∷ threads a)
-    (all_append n (addresses a) (a.subject ∷ a.message_id ∷ threads a) (no_address d now word fs a n o)
-    (no_subject d now word fs a n refl, (no_own_id d now word fs a n refl, (no_reply d now word fs a n refl, (no_references d now word fs a n refl, (no_part d n o, tt))))))
+    ∙ behind n a.date (a.from ∷ a.subject ∷ a.message_id ∷ a.in_reply_to ∷ a.references ∷ recipients a) (
+      no_from d now word fs a n o,
+      (
+        no_subject d now word fs a n refl,
+        (
+          no_own_id d now word fs a n refl,
+          (no_reply d now word fs a n refl, (no_references d now word fs a n refl, no_recipient d now word fs a n o)),
+        ),
+      ),
+    )
 
 pub only_subject : (d : Draft) (now : ℤ) (word : ℕ) (fs : List Field) (a : AreDraftFields d now word fs)
     → last (codes "Subject") (message_fields fs d) ≡ last (codes "Subject") a.subject
@@ -197,8 +200,8 @@ only_subject d now word fs a =
     let n = codes "Subject" in
     let o : IsOther n = (refl, refl, refl, refl, refl, refl, refl, refl, refl) in
     rows d now word fs a n
-    ∙ among n a.date (addresses a) a.subject (a.message_id ∷ threads a) (no_date d now word fs a n refl) (no_address d now word fs a n o)
-    (no_own_id d now word fs a n refl, (no_reply d now word fs a n refl, (no_references d now word fs a n refl, (no_part d n o, tt))))
+    ∙ among n a.date (a.from ∷ []) a.subject (a.message_id ∷ a.in_reply_to ∷ a.references ∷ recipients a) (no_date d now word fs a n refl) (no_from d now word fs a n o, tt)
+    (no_own_id d now word fs a n refl, (no_reply d now word fs a n refl, (no_references d now word fs a n refl, no_recipient d now word fs a n o)))
 
 pub only_message_id : (d : Draft) (now : ℤ) (word : ℕ) (fs : List Field) (a : AreDraftFields d now word fs)
     → last (codes "Message-ID") (message_fields fs d) ≡ last (codes "Message-ID") a.message_id
@@ -206,9 +209,9 @@ only_message_id d now word fs a =
     let n = codes "Message-ID" in
     let o : IsOther n = (refl, refl, refl, refl, refl, refl, refl, refl, refl) in
     rows d now word fs a n
-    ∙ among n a.date (addresses a ++ a.subject ∷ []) a.message_id (threads a) (no_date d now word fs a n refl)
-    (all_append n (addresses a) (a.subject ∷ []) (no_address d now word fs a n o) (no_subject d now word fs a n refl, tt))
-    (no_reply d now word fs a n refl, (no_references d now word fs a n refl, (no_part d n o, tt)))
+    ∙ among n a.date (a.from ∷ a.subject ∷ []) a.message_id (a.in_reply_to ∷ a.references ∷ recipients a) (no_date d now word fs a n refl)
+    (no_from d now word fs a n o, (no_subject d now word fs a n refl, tt))
+    (no_reply d now word fs a n refl, (no_references d now word fs a n refl, no_recipient d now word fs a n o))
 
 pub only_in_reply_to : (d : Draft) (now : ℤ) (word : ℕ) (fs : List Field) (a : AreDraftFields d now word fs)
     → last (codes "In-Reply-To") (message_fields fs d) ≡ last (codes "In-Reply-To") a.in_reply_to
@@ -216,9 +219,9 @@ only_in_reply_to d now word fs a =
     let n = codes "In-Reply-To" in
     let o : IsOther n = (refl, refl, refl, refl, refl, refl, refl, refl, refl) in
     rows d now word fs a n
-    ∙ among n a.date (addresses a ++ a.subject ∷ a.message_id ∷ []) a.in_reply_to (a.references ∷ (mime_version ∷ (draft_part d).fields) ∷ []) (no_date d now word fs a n refl)
-    (all_append n (addresses a) (a.subject ∷ a.message_id ∷ []) (no_address d now word fs a n o) (no_subject d now word fs a n refl, (no_own_id d now word fs a n refl, tt)))
-    (no_references d now word fs a n refl, (no_part d n o, tt))
+    ∙ among n a.date (a.from ∷ a.subject ∷ a.message_id ∷ []) a.in_reply_to (a.references ∷ recipients a) (no_date d now word fs a n refl)
+    (no_from d now word fs a n o, (no_subject d now word fs a n refl, (no_own_id d now word fs a n refl, tt)))
+    (no_references d now word fs a n refl, no_recipient d now word fs a n o)
 
 pub only_references : (d : Draft) (now : ℤ) (word : ℕ) (fs : List Field) (a : AreDraftFields d now word fs)
     → last (codes "References") (message_fields fs d) ≡ last (codes "References") a.references
@@ -226,7 +229,6 @@ only_references d now word fs a =
     let n = codes "References" in
     let o : IsOther n = (refl, refl, refl, refl, refl, refl, refl, refl, refl) in
     rows d now word fs a n
-    ∙ among n a.date (addresses a ++ a.subject ∷ a.message_id ∷ a.in_reply_to ∷ []) a.references ((mime_version ∷ (draft_part d).fields) ∷ []) (no_date d now word fs a n refl)
-    (all_append n (addresses a) (a.subject ∷ a.message_id ∷ a.in_reply_to ∷ []) (no_address d now word fs a n o)
-    (no_subject d now word fs a n refl, (no_own_id d now word fs a n refl, (no_reply d now word fs a n refl, tt))))
-    (no_part d n o, tt)
+    ∙ among n a.date (a.from ∷ a.subject ∷ a.message_id ∷ a.in_reply_to ∷ []) a.references (recipients a) (no_date d now word fs a n refl)
+    (no_from d now word fs a n o, (no_subject d now word fs a n refl, (no_own_id d now word fs a n refl, (no_reply d now word fs a n refl, tt))))
+    (no_recipient d now word fs a n o)

@@ -12,6 +12,7 @@ use Rattle.mail_drafts.specs.declared.attachment.Attachment.{Attachment}
 use Rattle.mail_drafts.specs.declared.draft.Draft.{Draft}
 use Rattle.mail_drafts.specs.Drafts.{are_filled, are_identifiers, is_text}
 use Rattle.mail_drafts.specs.Identifiers.{is_identifier, is_identifier_or_none}
+use Rattle.mail_drafts.specs.MediaTypes.{is_token_or_none}
 use Rattle.message_lines.specs.Folding.{FieldPiece, Field, begun, field, crlf}
 use Rattle.message_lines.specs.Ids.{AreIdTexts, id_piece, bracketed}
 use Rattle.message_lines.specs.Bodies.{with_crlf}
@@ -20,13 +21,13 @@ use Rattle.message_texts.specs.AddressTexts.{AreAddressTexts}
 use Rattle.message_texts.specs.DateTexts.{IsDateText}
 use Rattle.message_texts.specs.Fields.{IsWrittenField, IsWrittenFieldOf, AreDraftFields, date_or_now, ids_or_drawn}
 use Rattle.message_texts.specs.Messages.{IsMessageText, draft_part, mime_version, with_fields}
-use Rattle.message_texts.specs.Parts.{Entity, entity_text, base64_field, text_leaf, disposition, disposition_field, id_fields, attachment_leaf, delimiter_line, closing_line, delimited, multipart_body}
+use Rattle.message_texts.specs.Parts.{Entity, entity_text, base64_field, text_leaf, disposition, disposition_field, id_fields, charset_parameter, attachment_leaf, delimiter_line, closing_line, delimited, multipart_body}
 use Rattle.message_texts.specs.Parts.{mixed_boundary, alternative_boundary, alternative, shown_part, mixed, alone, whole_part}
 use Rattle.message_laws.specs.SafeTexts.{is_line_octet, is_octet, IsLines, NoOctet, HaveOctets}
 use Rattle.message_laws.proofs.Lines.{append_lines, one_line, line_end, printed, named, ArePrinted, IsPrintedField, ArePrintedFields, fields_append, IsSafeEntity, entity_lines, printed_field}
 use Rattle.message_laws.proofs.Octets.{text_octets, crlf_octets, body_safe}
 use Rattle.message_laws.proofs.DateLines.{date_printed}
-use Rattle.message_laws.proofs.ValueLines.{shown_printed, subject_printed, identifier_printed, bracketed_printed, ids_printed, drawn_printed, addresses_printed, media_printed, file_name_printed}
+use Rattle.message_laws.proofs.ValueLines.{shown_printed, subject_printed, identifier_printed, bracketed_printed, ids_printed, drawn_printed, addresses_printed, media_printed, token_printed, file_name_printed}
 
 -- ---- the fields of a draft
 
@@ -70,16 +71,16 @@ fields_printed : (d : Draft) (now : ℤ) (word : ℕ) (fs : List Field) → AreD
 fields_printed d now word fs f =
     let m = date_or_now now d.date in
     let p_from = fields_append (f.date) f.from (field_printed (IsDateText m) (codes "Date") (named (codes "Date") refl refl) (λ ps is. date_pieces d now ps is) f.date f.is_date) (field_of_printed (AreAddressTexts (begun (codes "From"))) (codes "From") (named (codes "From") refl refl) (λ list ps is. addresses_printed (begun (codes "From")) list ps is) d.from f.from f.is_from) in
-    let p_sender = fields_append (f.date ++ f.from) f.sender p_from (field_of_printed (AreAddressTexts (begun (codes "Sender"))) (codes "Sender") (named (codes "Sender") refl refl) (λ list ps is. addresses_printed (begun (codes "Sender")) list ps is) d.sender f.sender f.is_sender) in
-    let p_reply_to = fields_append (f.date ++ f.from ++ f.sender) f.reply_to p_sender (field_of_printed (AreAddressTexts (begun (codes "Reply-To"))) (codes "Reply-To") (named (codes "Reply-To") refl refl) (λ list ps is. addresses_printed (begun (codes "Reply-To")) list ps is) d.reply_to f.reply_to f.is_reply_to) in
-    let p_to = fields_append (f.date ++ f.from ++ f.sender ++ f.reply_to) f.to p_reply_to (field_of_printed (AreAddressTexts (begun (codes "To"))) (codes "To") (named (codes "To") refl refl) (λ list ps is. addresses_printed (begun (codes "To")) list ps is) d.to f.to f.is_to) in
-    let p_cc = fields_append (f.date ++ f.from ++ f.sender ++ f.reply_to ++ f.to) f.cc p_to (field_of_printed (AreAddressTexts (begun (codes "Cc"))) (codes "Cc") (named (codes "Cc") refl refl) (λ list ps is. addresses_printed (begun (codes "Cc")) list ps is) d.cc f.cc f.is_cc) in
-    let p_bcc = fields_append (f.date ++ f.from ++ f.sender ++ f.reply_to ++ f.to ++ f.cc) f.bcc p_cc (field_of_printed (AreAddressTexts (begun (codes "Bcc"))) (codes "Bcc") (named (codes "Bcc") refl refl) (λ list ps is. addresses_printed (begun (codes "Bcc")) list ps is) d.bcc f.bcc f.is_bcc) in
-    let p_subject = fields_append (f.date ++ f.from ++ f.sender ++ f.reply_to ++ f.to ++ f.cc ++ f.bcc) f.subject p_bcc (field_of_printed (IsSubject (begun (codes "Subject"))) (codes "Subject") (named (codes "Subject") refl refl) (λ s ps is. subject_printed (begun (codes "Subject")) s ps is) d.subject f.subject f.is_subject) in
-    let p_message_id = fields_append (f.date ++ f.from ++ f.sender ++ f.reply_to ++ f.to ++ f.cc ++ f.bcc ++ f.subject) f.message_id p_subject (field_printed (AreIdTexts (ids_or_drawn word d.message_id)) (codes "Message-ID") (named (codes "Message-ID") refl refl) (λ ps is. own_ids d word ps is) f.message_id f.is_message_id) in
-    let p_in_reply_to = fields_append (f.date ++ f.from ++ f.sender ++ f.reply_to ++ f.to ++ f.cc ++ f.bcc ++ f.subject ++ f.message_id) f.in_reply_to p_message_id (ids_printed_of (codes "In-Reply-To") (named (codes "In-Reply-To") refl refl) d.in_reply_to d.in_reply_to_is f.in_reply_to f.is_in_reply_to) in
-    let p_references = fields_append (f.date ++ f.from ++ f.sender ++ f.reply_to ++ f.to ++ f.cc ++ f.bcc ++ f.subject ++ f.message_id ++ f.in_reply_to) f.references p_in_reply_to (ids_printed_of (codes "References") (named (codes "References") refl refl) d.references d.references_is f.references f.is_references) in
-    subst (λ (x : List Field). ArePrintedFields x) (sym f.whole) p_references
+    let p_subject = fields_append (f.date ++ f.from) f.subject p_from (field_of_printed (IsSubject (begun (codes "Subject"))) (codes "Subject") (named (codes "Subject") refl refl) (λ s ps is. subject_printed (begun (codes "Subject")) s ps is) d.subject f.subject f.is_subject) in
+    let p_message_id = fields_append (f.date ++ f.from ++ f.subject) f.message_id p_subject (field_printed (AreIdTexts (ids_or_drawn word d.message_id)) (codes "Message-ID") (named (codes "Message-ID") refl refl) (λ ps is. own_ids d word ps is) f.message_id f.is_message_id) in
+    let p_in_reply_to = fields_append (f.date ++ f.from ++ f.subject ++ f.message_id) f.in_reply_to p_message_id (ids_printed_of (codes "In-Reply-To") (named (codes "In-Reply-To") refl refl) d.in_reply_to d.in_reply_to_is f.in_reply_to f.is_in_reply_to) in
+    let p_references = fields_append (f.date ++ f.from ++ f.subject ++ f.message_id ++ f.in_reply_to) f.references p_in_reply_to (ids_printed_of (codes "References") (named (codes "References") refl refl) d.references d.references_is f.references f.is_references) in
+    let p_sender = fields_append (f.date ++ f.from ++ f.subject ++ f.message_id ++ f.in_reply_to ++ f.references) f.sender p_references (field_of_printed (AreAddressTexts (begun (codes "Sender"))) (codes "Sender") (named (codes "Sender") refl refl) (λ list ps is. addresses_printed (begun (codes "Sender")) list ps is) d.sender f.sender f.is_sender) in
+    let p_reply_to = fields_append (f.date ++ f.from ++ f.subject ++ f.message_id ++ f.in_reply_to ++ f.references ++ f.sender) f.reply_to p_sender (field_of_printed (AreAddressTexts (begun (codes "Reply-To"))) (codes "Reply-To") (named (codes "Reply-To") refl refl) (λ list ps is. addresses_printed (begun (codes "Reply-To")) list ps is) d.reply_to f.reply_to f.is_reply_to) in
+    let p_to = fields_append (f.date ++ f.from ++ f.subject ++ f.message_id ++ f.in_reply_to ++ f.references ++ f.sender ++ f.reply_to) f.to p_reply_to (field_of_printed (AreAddressTexts (begun (codes "To"))) (codes "To") (named (codes "To") refl refl) (λ list ps is. addresses_printed (begun (codes "To")) list ps is) d.to f.to f.is_to) in
+    let p_cc = fields_append (f.date ++ f.from ++ f.subject ++ f.message_id ++ f.in_reply_to ++ f.references ++ f.sender ++ f.reply_to ++ f.to) f.cc p_to (field_of_printed (AreAddressTexts (begun (codes "Cc"))) (codes "Cc") (named (codes "Cc") refl refl) (λ list ps is. addresses_printed (begun (codes "Cc")) list ps is) d.cc f.cc f.is_cc) in
+    let p_bcc = fields_append (f.date ++ f.from ++ f.subject ++ f.message_id ++ f.in_reply_to ++ f.references ++ f.sender ++ f.reply_to ++ f.to ++ f.cc) f.bcc p_cc (field_of_printed (AreAddressTexts (begun (codes "Bcc"))) (codes "Bcc") (named (codes "Bcc") refl refl) (λ list ps is. addresses_printed (begun (codes "Bcc")) list ps is) d.bcc f.bcc f.is_bcc) in
+    subst (λ (x : List Field). ArePrintedFields x) (sym f.whole) p_bcc
 
 -- ---- leaves
 
@@ -117,10 +118,14 @@ abbrev AreSafe : List Entity → Type 0
 AreSafe [] = Unit {0}
 AreSafe (e ∷ es) = IsSafeEntity e × AreSafe es
 
+charset_printed : (charset : Option (List ℕ)) → is_token_or_none charset ≡ true → Each is_line_octet (charset_parameter charset)
+charset_printed None e = tt
+charset_printed (Some charset) e = each_append is_line_octet (codes "; charset=") charset (printed (codes "; charset=") refl) (token_printed charset e)
+
 attachment_safe : (a : Attachment) → Each is_octet a.bytes → IsSafeEntity (attachment_leaf a)
 unfolding attachment_leaf
 attachment_safe a e = record {
-  fields = (content_type a.media (media_printed a.media a.media_is), (encoding_printed, (disposition_field_printed a.inline a.name, id_fields_printed a.cid a.cid_is)));
+  fields = (content_type (a.media ++ charset_parameter a.charset) (each_append is_line_octet a.media (charset_parameter a.charset) (media_printed a.media a.media_is) (charset_printed a.charset a.charset_is)), (encoding_printed, (disposition_field_printed a.inline a.name, id_fields_printed a.cid a.cid_is)));
   body = body_safe a.bytes e;
 }
 

@@ -27,10 +27,12 @@ unfolding front back is_utf8 chars lib.Utf8.encode
 picture = record {
   bytes = 1 ∷ 2 ∷ [];
   media = codes "image/png";
+  charset = None;
   name = Some (codes "a.b");
   cid = Some (codes "c@d");
   inline = true;
   media_is = refl;
+  charset_is = refl;
   name_is = refl;
   cid_is = refl;
 }

@@ -16,7 +16,7 @@ use Rattle.mail_drafts.specs.declared.mailbox.Mailbox.{Mailbox}
 use Rattle.mail_drafts.specs.Identifiers.{ends_identifier, is_identifier}
 use Rattle.mail_drafts.specs.Lines.{is_line}
 use Rattle.mail_drafts.specs.Mailboxes.{is_comma}
-use Rattle.mail_drafts.specs.MediaTypes.{is_tspecial, is_token_octet, is_token, is_no_slash, is_subtype, is_leaf_type}
+use Rattle.mail_drafts.specs.MediaTypes.{is_tspecial, is_token_octet, is_token, is_no_slash, is_subtype, is_composite, is_leaf_type}
 use Rattle.message_lines.specs.declared.folding.Line.{Line}
 use Rattle.message_lines.specs.Folding.{FieldPiece, plain_piece, next_line, line_after}
 use Rattle.message_lines.specs.Ids.{bracketed, id_piece, hex_digit, hex_digits, drawn_id}
@@ -120,7 +120,9 @@ drawn_printed word =
 -- ---- addresses
 
 email_printed : (m : Mailbox) → Each is_line_octet m.email
-email_printed m = identifier_printed m.email (and_parts (is_identifier m.email) (not (list_any is_comma m.email)) m.email_is).0
+email_printed m =
+    let octets = is_identifier m.email && not (list_any is_comma m.email) in
+    identifier_printed m.email (and_parts (is_identifier m.email) (not (list_any is_comma m.email)) (and_parts octets (not (has_word_mark m.email)) m.email_is).0).0
 
 address_printed : (line : Line) (end : List ℕ) (m : Mailbox) (ps : List FieldPiece) → Each is_line_octet end → IsAddressText line end m ps → ArePrinted ps
 address_printed line end m _ e (Unnamed none) = (each_append is_line_octet m.email end (email_printed m) e, tt)
@@ -144,7 +146,7 @@ wider c e = grind arith
 token_octet : (c : ℕ) → is_token_octet c ≡ true → is_line_octet c ≡ true
 token_octet c e = shown_octet c (wider c (and_parts (is_between 33 126 c) (not (is_tspecial c)) e).0)
 
-token_printed : (t : List ℕ) → is_token t ≡ true → Each is_line_octet t
+pub token_printed : (t : List ℕ) → is_token t ≡ true → Each is_line_octet t
 token_printed t e = weaker is_token_octet token_octet t (list_all_each is_token_octet t (and_parts (nat_le 1 (length t)) (list_all is_token_octet t) e).1)
 
 slash : (c : ℕ) → is_no_slash c ≡ false → is_line_octet c ≡ true
@@ -158,7 +160,7 @@ pub media_printed : (t : List ℕ) → is_leaf_type t ≡ true → Each is_line_
 media_printed t e =
     let kind = is_token (front is_no_slash t) in
     let rest = is_subtype (back is_no_slash t) in
-    let p = and_parts kind rest (and_parts (kind && rest) (not (is_same_text (front is_no_slash t) (codes "multipart"))) e).0 in
+    let p = and_parts kind rest (and_parts (kind && rest) (not (is_composite (front is_no_slash t))) e).0 in
     subst (λ (u : List ℕ). Each is_line_octet u) (sym (front_back is_no_slash t))
     (each_append is_line_octet (front is_no_slash t) (back is_no_slash t) (token_printed (front is_no_slash t) p.0) (subtype_printed (back is_no_slash t) (back_stops is_no_slash t) p.1))
 

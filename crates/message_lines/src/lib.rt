@@ -19,4 +19,4 @@ pub use folding::{Line, begin_field, end_line, push_field, push_piece};
 pub use ids::{bracketed, drawn_id, push_ids};
 pub use names::push_name;
 pub use outline::Outline;
-pub use subjects::push_subject;
+pub use subjects::{has_word_mark, push_subject};

@@ -40,7 +40,7 @@ fn shown_octets(alloc: Global, subject: &str) -> Result<Vec<u8>, AllocError>
 }
 
 /// Whether "=?", which begins an encoded word, stands in the text.
-fn has_word_mark(text: &[u8]) -> bool
+pub fn has_word_mark(text: &[u8]) -> bool
     ensures { result ≡ subjects.has_word_mark text.now }
 {
     let mut rest = text;

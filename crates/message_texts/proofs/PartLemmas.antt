@@ -10,7 +10,7 @@ use Rattle.message_lines.specs.declared.folding.Line.{Line}
 use Rattle.message_lines.specs.Folding.{Field, plain_piece, begun, laid, line_after, crlf, field, field_text, fields_text}
 use Rattle.message_lines.specs.Ids.{bracketed}
 use Rattle.message_lines.proofs.LineLemmas.{laid-append, AddsPiece}
-use Rattle.message_texts.specs.Parts.{Entity, entity_text, base64_field, text_leaf, disposition_pieces, disposition_field, id_fields, attachment_leaf, delimiter_line, closing_line, delimited, multipart_body}
+use Rattle.message_texts.specs.Parts.{Entity, entity_text, base64_field, text_leaf, disposition_pieces, disposition_field, id_fields, charset_parameter, attachment_leaf, delimiter_line, closing_line, delimited, multipart_body}
 use Rattle.message_texts.specs.Parts.{mixed_boundary, delimited_parts, alternative_boundary, alternative, shown_part, mixed, alone, whole_part}
 
 -- one text after another
@@ -106,7 +106,7 @@ content_id_written old new cid id piece e f w =
     ∙ ap (λ (o : Option (List ℕ)). old ++ fields_text (id_fields o)) (sym e)
 
 -- what is attached
-pub attachment_written : (old t1 t2 t3 t4 t5 new media octets : List ℕ) (a : Attachment) → media ≡ a.media → octets ≡ a.bytes
+pub attachment_written : (old t1 t2 t3 t4 t5 new media octets : List ℕ) (a : Attachment) → media ≡ a.media ++ charset_parameter a.charset → octets ≡ a.bytes
     → t1 ≡ old ++ field_text (field (codes "Content-Type") (media ∷ [])) → t2 ≡ t1 ++ field_text base64_field
     → t3 ≡ t2 ++ field_text (disposition_field a.inline a.name) → t4 ≡ t3 ++ fields_text (id_fields a.cid) → t5 ≡ t4 ++ crlf
     → new ≡ t5 ++ base64_lines octets → new ≡ old ++ entity_text (attachment_leaf a)
@@ -114,7 +114,7 @@ unfolding attachment_leaf
 attachment_written old t1 t2 t3 t4 t5 new media octets a m o e1 e2 e3 e4 e5 e6 =
     let shown = disposition_field a.inline a.name in
     entity_written old t4 t5 new (attachment_leaf a)
-    (field_before old t1 t4 (field (codes "Content-Type") (a.media ∷ [])) (base64_field ∷ shown ∷ id_fields a.cid)
+    (field_before old t1 t4 (field (codes "Content-Type") ((a.media ++ charset_parameter a.charset) ∷ [])) (base64_field ∷ shown ∷ id_fields a.cid)
     (e1 ∙ ap (λ (t : List ℕ). old ++ field_text (field (codes "Content-Type") (t ∷ []))) m)
     (field_before t1 t2 t4 base64_field (shown ∷ id_fields a.cid) e2 (field_before t2 t3 t4 shown (id_fields a.cid) e3 e4))) e5 (e6 ∙ ap (λ (t : List ℕ). t5 ++ base64_lines t) o)
 

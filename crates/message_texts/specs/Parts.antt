@@ -48,9 +48,14 @@ abbrev pub id_fields : Option (List ℕ) → List Field
 id_fields None = []
 id_fields (Some cid) = field (codes "Content-ID") (bracketed cid ∷ []) ∷ []
 
+-- the charset of a text, where it is told
+abbrev pub charset_parameter : Option (List ℕ) → List ℕ
+charset_parameter None = []
+charset_parameter (Some charset) = codes "; charset=" ++ charset
+
 unfoldable pub attachment_leaf : Attachment → Entity
 attachment_leaf a = record {
-  fields = field (codes "Content-Type") (a.media ∷ []) ∷ base64_field ∷ disposition_field a.inline a.name ∷ id_fields a.cid;
+  fields = field (codes "Content-Type") ((a.media ++ charset_parameter a.charset) ∷ []) ∷ base64_field ∷ disposition_field a.inline a.name ∷ id_fields a.cid;
   body = base64_lines a.bytes;
 }
 

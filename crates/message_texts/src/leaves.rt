@@ -102,6 +102,19 @@ fn push_content_id(alloc: Global, text: &mut Outline, cid: &Option<Text>) -> Res
     }
 }
 
+/// A media type, with the charset that is told of it.
+fn content_type(alloc: Global, media: &Text, charset: &Option<Text>) -> Result<String, AllocError>
+    ensures { IfOk result (λ text. string_bytes text ≡ media.now ++ parts.charset_parameter charset.now) }
+{
+    match charset {
+        None => joined(alloc, media.as_str(), ""),
+        Some(charset) => {
+            let media = joined(alloc, media.as_str(), "; charset=")?;
+            joined(alloc, media.as_str(), charset.as_str())
+        }
+    }
+}
+
 /// Adds what is attached.
 pub(crate) fn push_attachment(
     alloc: Global,
@@ -110,7 +123,8 @@ pub(crate) fn push_attachment(
 ) -> Result<(), AllocError>
     ensures { OnOk result (text.new ≡ text.old ++ parts.entity_text (parts.attachment_leaf attachment.now)) }
 {
-    push_field(text, "Content-Type", attachment.media.as_str().as_bytes())?;
+    let content = content_type(alloc, &attachment.media, &attachment.charset)?;
+    push_field(text, "Content-Type", content.as_bytes())?;
     push_field(text, ENCODING, b"base64")?;
     push_disposition(alloc, text, attachment.inline, &attachment.name)?;
     push_content_id(alloc, text, &attachment.cid)?;

@@ -14,7 +14,7 @@ use Rattle.header_dates.specs.declared.date.Day.{Day}
 use Rattle.header_dates.specs.declared.date.Moment.{Moment}
 use Rattle.header_dates.specs.Dates as dates
 
-year_zero : day_count (pos 0) 1 1 ≡ 3652425
+pub year_zero : day_count (pos 0) 1 1 ≡ 3652425
 year_zero = day_count-early (pos 0) 9999 1 1 refl (omega arith) (omega arith) (omega arith)
 
 not_negative : (date : Date) (n : ℕ) (y : ℤ) → y ≡ date.year → epoch_day date +ℤ pos 719528 ≡ pos n → pos 0 ≤ℤ y

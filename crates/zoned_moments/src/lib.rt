@@ -5,4 +5,4 @@ pub mod clocks;
 pub mod moments;
 
 pub use clocks::{LocalTime, local_time};
-pub use moments::{ZonedMoment, in_utc};
+pub use moments::{ZonedMoment, in_utc, zoned_moment};

@@ -1,8 +1,9 @@
 // Moments that can be written as dates.
-ghost use Rattle.std.specs.Prelude.{◌≡◌};
+ghost use Rattle.std.specs.Prelude.{◌≡◌, ◌≤ℤ◌, negsuc, pos, option_map};
+ghost use Rattle.header_dates.specs.Dates as dates;
 ghost use Rattle.zoned_moments.specs.Zoned.{IsZoned, utc_moment};
 
-use header_dates::Moment;
+use header_dates::{Clock, Day, Moment, moment_of};
 
 /// The seconds from the first of January of the year 0 to 1970-01-01.
 pub(crate) const SECONDS_TO_EPOCH: i64 = 62_167_219_200;
@@ -28,4 +29,14 @@ pub fn in_utc(seconds: i64) -> ZonedMoment
             offset_minutes: 0,
         },
     }
+}
+
+/// The moment of a day and a time in a zone that is so many minutes east of UTC, where the day and the time exist.
+pub fn zoned_moment(day: Day, clock: Clock, zone: i32) -> Option<ZonedMoment>
+    requires west { negsuc 1438 ≤ℤ zone }
+    requires east { zone ≤ℤ pos 1439 }
+    ensures { option_map (λ z. z.moment) result ≡ dates.moment_of day clock zone }
+{
+    let moment = moment_of(day, clock, zone)?;
+    Some(ZonedMoment { moment })
 }

@@ -1,0 +1,10 @@
+use Rattle.std.proofs.Common.{◌≡◌, ◌&&◌}
+use Rattle.serde_json.specs.View.{members_view}
+use Rattle.jmap_values.specs.Keywords.{is_keyword}
+use Rattle.draft_reading.specs.Values.{each_member, is_true}
+use Rattle.draft_reading.proofs.checks.is_keyword_set.Given as goal
+
+-- the answer for all is that for those that are left
+abbrev pub invariant-loop-key : goal.invariant-loop-key
+invariant-loop-key l =
+    each_member (λ k v. is_keyword k && is_true v) (members_view l.members.entries) ≡ each_member (λ k v. is_keyword k && is_true v) (members_view l.key-iterator)
