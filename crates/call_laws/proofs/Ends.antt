@@ -24,7 +24,7 @@ abbrev pub EndsSo : (Ending → Type 0) → MethodError → SetCall → Type 0
 EndsSo Why e call = (items : List Item) (m : Mail) (life : LinkLife) (after : CallState) (events : List Event)
     → RunsItems call items (call_begun m life) (Err (Ends e)) events after → IsEndedBy Why e call items (call_begun m life) after events
 
-over_items : {Why : Ending → Type 0} {e : MethodError} {call : SetCall} {items : List Item} {before after : Progress} {doing : List Event} → EndsSo Why e call
+pub over_items : {Why : Ending → Type 0} {e : MethodError} {call : SetCall} {items : List Item} {before after : Progress} {doing : List Event} → EndsSo Why e call
     → DoesItemsOver call items before (Err (Ends e)) doing after → IsEndedIn Why e call items before
 over_items {items = items} {doing = doing} so does = record {
   known = does.known;

@@ -1,3 +1,5 @@
 mod Fit
 mod Ends
 mod Histories
+mod SetCalls
+pub mod Lives

@@ -3,13 +3,19 @@ use Rattle.std.specs.Prelude.{◌≡◌, List, Some}
 use Rattle.gate_world.specs.declared.event.Event.{Event}
 use Rattle.imap_client.specs.LinkLife.{LinkLife}
 use Rattle.jmap_arguments.specs.declared.method_error.MethodError.{MethodError}
-use Rattle.set_order.specs.Ordered.{Item}
-use Rattle.set_items.specs.Causes.{Ending}
+use Rattle.jmap_arguments.specs.declared.method_error.MethodError.TheVariants.{ServerFail, ServerPartialFail, ServerUnavailable}
+use Rattle.mail_state.specs.History.{MailHistory}
+use Rattle.set_arguments.specs.Arguments.{SetAsked}
+use Rattle.set_arguments.specs.declared.set_method.SetMethod.{SetMethod}
+use Rattle.set_order.specs.Ordered.{Item, ItemsOf}
+use Rattle.set_items.specs.Causes.{Ending, FailedPartly, WasUnavailable}
 use Rattle.set_calls.specs.Calls.{SetCall, CallState, call_begun}
 use Rattle.set_calls.specs.Promises.{IsEndedBy}
 use Rattle.gate_machine.specs.History.{KnownMail, IsSpent}
 use Rattle.gate_machine.specs.Progress.{Progress}
+use Rattle.gate_changes.specs.Answering.{ChangeState, call_of}
 use Rattle.gate_changes.specs.Changing.{DoesItemsOver, ItemsCame}
+use Rattle.gate_calls.specs.ItemChecks.{item_checks}
 
 -- The steps of one of its items ended it with this error, over the mail that was told and in what was left of the link life; and this is so of how they
 -- ended.
@@ -31,3 +37,17 @@ pub record HasNoPlaces (call : SetCall) (items : List Item) (before : Progress) 
   pub does : DoesItemsOver call items before came doing mid
   pub ready : mid.machine.known ≡ Some known
   pub spent : IsSpent known
+
+-- A call of a method that changes mail, which asks this over what has become of the mail, ended with this error: by a cause of it.
+pub data EndsInError (m : SetMethod) (a : SetAsked) (h : MailHistory) (before : ChangeState) (items : List Item) : MethodError → Type 0 where
+  InPart : IsEndedIn FailedPartly ServerPartialFail (call_of item_checks m a h before.created) items before.progress
+      → EndsInError m a h before items ServerPartialFail
+  Unavailable : IsEndedIn WasUnavailable ServerUnavailable (call_of item_checks m a h before.created) items before.progress
+      → EndsInError m a h before items ServerUnavailable
+  NoPlaces : HasNoPlaces (call_of item_checks m a h before.created) items before.progress → EndsInError m a h before items ServerFail
+
+-- its items are these, in the order of RFC 8620 section 5.3
+pub record IsEndedByCause (m : SetMethod) (a : SetAsked) (h : MailHistory) (before : ChangeState) (e : MethodError) : Type 0 where
+  pub items : List Item
+  pub are_of : ItemsOf m before.created a items
+  pub ends : EndsInError m a h before items e

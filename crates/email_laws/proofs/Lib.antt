@@ -1,5 +1,6 @@
 mod PlainSteps
 mod PlainJobs
+mod HeldJobs
 mod SentFlags
 mod SentSteps
 mod SentJobs

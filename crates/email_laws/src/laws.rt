@@ -2,7 +2,7 @@
 ghost use Rattle.std.specs.Prelude.{◌≡◌, ℕ, List, Ok, Some};
 ghost use Rattle.serde_json.specs.Data.{Members};
 ghost use Rattle.set_jobs.specs.declared.job.Job.{Job};
-ghost use Rattle.set_items.specs.Commands.{IsFit, appends_of};
+ghost use Rattle.set_items.specs.Commands.{BeginsHeld, IsFit, appends_of};
 ghost use Rattle.set_given.specs.Given.{EmailFound, Given, email_named};
 ghost use Rattle.set_patches.specs.Patches.{patch_in};
 ghost use Rattle.email_checks.specs.Emails.{update_email, destroy_email};
@@ -12,6 +12,12 @@ ghost use Rattle.email_laws.specs.Sent.{SendsDestroy, SendsWhatIsAsked};
 pub fn email_items_are_fit()
     ensures update { (g : Given) (text : List ℕ) (patch : Members) (job : Job) → update_email g text patch ≡ Ok job → IsFit job }
     ensures destroy { (g : Given) (text : List ℕ) (job : Job) → destroy_email g text ≡ Ok job → IsFit job }
+{}
+
+/// An item that passes its checks selects a folder at first, if at all, and one that is held.
+pub fn email_items_begin_held()
+    ensures update { (g : Given) (text : List ℕ) (patch : Members) (job : Job) → update_email g text patch ≡ Ok job → BeginsHeld g.mail job }
+    ensures destroy { (g : Given) (text : List ℕ) (job : Job) → destroy_email g text ≡ Ok job → BeginsHeld g.mail job }
 {}
 
 /// No update and no destroy of an Email sends an APPEND.

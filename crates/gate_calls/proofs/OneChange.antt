@@ -111,7 +111,7 @@ runs_try {items = items} {came = came} (Stopped done item later mid so_far last 
     subst (λ (r : ItemsCame). Tries items (asks_of_done does ++ last_ask stops ∷ []) r) (pushes-ends done ends ∙ sym is)
     (subst (λ (l : List Item). Tries l (asks_of_done does ++ last_ask stops ∷ []) (pushes done (Err ends))) all
     (done_then does (OneStops item stops.steps.does.runs.exchanges ends _ stops.not_done)))
-runs_try (Wanting done later does all is) there = absurd (there is)
+runs_try (Wanting done later so_far drawn does draws all whole is) there = absurd (there is)
 
 -- ---- the commit
 

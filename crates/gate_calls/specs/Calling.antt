@@ -17,7 +17,9 @@ use Rattle.set_jobs.specs.declared.done.Done.{Done}
 use Rattle.set_order.specs.Ordered.{Item}
 use Rattle.set_items.specs.declared.item.ItemEnd.{ItemEnd}
 use Rattle.set_items.specs.declared.item.ItemEnd.TheVariants.{Comes}
+use Rattle.set_items.specs.Causes.{FailedPartly}
 use Rattle.set_items.specs.Items.{item_plan, item_start}
+use Rattle.set_items.specs.Talks.{ending_of}
 use Rattle.set_calls.specs.Calls.{SetCall, CallState, NextItem, TakesItem, Refused, Stepped, StopsAt, DoesItems, NoItems, MoreItems}
 use Rattle.set_calls.specs.Calls.{RunsItems, AllDone, Stopped, Wanting}
 use Rattle.gate_machine.specs.Fetching.{AsksBodies, CallsAsk}
@@ -55,8 +57,8 @@ pub data Asked : Type 0 where
 
 abbrev pub exchanges_for : {c : SetCall} {item : Item} {before : CallState} {done : Done} {events : List Event} {after : CallState}
     → TakesItem c item before done events after → List Exchange
-exchanges_for (Refused e is done_is none same) = []
-exchanges_for (Stepped job is steps) = steps.does.runs.exchanges
+exchanges_for (Refused drawn e is done_is events_are same) = []
+exchanges_for (Stepped drawn job doing is steps events_are) = steps.does.runs.exchanges
 
 abbrev pub done_ask : {c : SetCall} {mid : CallState} → NextItem c mid → Asked
 done_ask next = Tried next.item (exchanges_for next.takes) (Comes next.done) (selected next.after.life)
@@ -75,7 +77,7 @@ abbrev pub asks_of_items : {c : SetCall} {items : List Item} {before : CallState
     → RunsItems c items before result events after → List Asked
 asks_of_items (AllDone done does all is) = asks_of_done does
 asks_of_items (Stopped done item later mid so_far last ends does stops all whole is) = asks_of_done does ++ last_ask stops ∷ []
-asks_of_items (Wanting done later does all is) = asks_of_done does
+asks_of_items (Wanting done later so_far drawn does draws all whole is) = asks_of_done does
 
 abbrev pub history_known : Option KnownMail → Option MailHistory
 history_known known = option_map (λ (k : KnownMail). k.history) known
@@ -172,26 +174,26 @@ pub record LacksCalls (uses : Using) (uploads : List (List ℕ)) (before : Calls
 -- or goes on.
 abbrev pub IsItemObeyed : {c : SetCall} {item : Item} {before : CallState} {done : Done} {events : List Event} {after : CallState}
     → TakesItem c item before done events after → Type 0
-IsItemObeyed (Refused e is done_is none same) = Unit {0}
-IsItemObeyed {before = before} {events = events} (Stepped job is steps) = ObeysIn (item_plan (item_start job before.mail)) before.life events
+IsItemObeyed (Refused drawn e is done_is events_are same) = Unit {0}
+IsItemObeyed {before = before} (Stepped drawn job doing is steps events_are) = ObeysIn (item_plan (item_start job before.mail)) before.life doing
 
 abbrev pub AreItemsObeyed : {c : SetCall} {before : CallState} {done : List (Item × Done)} {events : List Event} {after : CallState}
     → DoesItems c before done events after → Type 0
 AreItemsObeyed NoItems = Unit {0}
 AreItemsObeyed (MoreItems next rest) = AreItemsObeyed rest × IsItemObeyed next.takes
 
--- So it did those of an item that ended the call, and its steps didn't come to an end. A plan that does ends no call but where a changing command was
--- refused after an earlier one, or by what an OK didn't tell: where a message went, and what was made.
+-- So it did those of an item that ended the call, and the item didn't fail in part: no changing command was refused after an earlier one, each OK told where
+-- a message went, and LIST told the folder that was made.
 pub record IsLastObeyed {c : SetCall} {item : Item} {before : CallState} {ends : ItemEnd} {events : List Event} {after : CallState}
     (stops : StopsAt c item before ends events after) : Type 0 where
-  pub steps : ObeysIn (item_plan (item_start stops.job before.mail)) before.life events
-  pub broken : stops.steps.does.runs.result ≡ Ok tt → (done : Done) × (ends ≡ Comes done)
+  pub steps : ObeysIn (item_plan (item_start stops.job before.mail)) before.life stops.doing
+  pub whole : FailedPartly (ending_of before.exchanges stops.steps.does.runs) → ⊥
 
 abbrev pub AreStepsObeyed : {c : SetCall} {items : List Item} {before : CallState} {result : ItemsCame} {events : List Event} {after : CallState}
     → RunsItems c items before result events after → Type 0
 AreStepsObeyed (AllDone done does all is) = AreItemsObeyed does
 AreStepsObeyed (Stopped done item later mid so_far last ends does stops all whole is) = AreItemsObeyed does × IsLastObeyed stops
-AreStepsObeyed (Wanting done later does all is) = AreItemsObeyed does
+AreStepsObeyed (Wanting done later so_far drawn does draws all whole is) = AreItemsObeyed does
 
 -- and a place was left for what was told
 abbrev pub IsChangeObeyed : {call : SetCall} {items : List Item} {before : Progress} {result : Result (List (Item × Done)) MethodError} {events : List Event}

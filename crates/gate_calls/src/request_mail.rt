@@ -7,6 +7,7 @@ ghost use Rattle.serde_json.specs.Data.{Data};
 ghost use Rattle.set_arguments.specs.Arguments.{set_asked as set_asked_by};
 ghost use Rattle.set_arguments.specs.reading.Asked.{asked_data};
 ghost use Rattle.set_arguments.specs.declared.set_method.SetMethod.{SetMethod as set_type};
+ghost use Rattle.set_methods.specs.reading.Choosing.{rules_of};
 ghost use Rattle.gate_calls.specs.ItemChecks.{item_checks};
 ghost use Rattle.gate_machine.specs.Holding.{HoldsMachine};
 ghost use Rattle.gate_machine.specs.Progress.{Progress};
@@ -21,14 +22,13 @@ use crate::source::CallSource;
 use blob_store::BlobStore;
 use gate_changes::{Answered, answer_change};
 use gate_machine::{Machine, MailFailure, MailStatus};
-use gate_world::Link;
+use gate_world::{Chance, Clock, Link};
 use imap_client::Client;
 use jmap_arguments::MethodError;
 use jmap_core::CreatedIds;
 use serde_json::Value;
 use set_arguments::{SetAsked, SetMethod, set_asked};
-use set_calls::Checks;
-use set_methods::{EmailSetChecks, MailboxSetChecks};
+use set_methods::SetChecks;
 use std::alloc::Global;
 use std::mem;
 
@@ -51,6 +51,18 @@ pub fn error_of(why: MailFailure) -> MethodError
         MailFailure::Linked(_) => MethodError::ServerUnavailable,
         MailFailure::Spent => MethodError::ServerFail,
         MailFailure::Broken => MethodError::ServerUnavailable,
+    }
+}
+
+/// What the items of a call have to pass that asks this.
+fn checks_of(method: SetMethod, asked: &SetAsked<'_>) -> SetChecks
+    ensures { rules_of result ≡ item_checks method (asked_data asked.now) }
+{
+    match method {
+        SetMethod::EmailSet => SetChecks::Email,
+        SetMethod::MailboxSet => SetChecks::Mailbox {
+            removes: asked.removes,
+        },
     }
 }
 
@@ -105,18 +117,16 @@ impl RequestMail {
     }
 
     /// The items of a call that asks this are done, and what they change is served.
-    fn change_by<L: Link, C: Checks>(
+    fn change_asked<L: Link + Clock + Chance>(
         &mut self,
         alloc: Global,
         link: &mut L,
         created: &mut CreatedIds,
         method: SetMethod,
         asked: &SetAsked<'_>,
-        checks: &C,
     ) -> Result<Value, MethodError>
         requires known { IsSome self.old.machine.known }
         requires stands { self.old.status ≡ MailStatus.Stands }
-        requires checks { item_checks method (asked_data asked.now) ≡ C.checked checks.now }
         ensures meant { (uploads : List (List ℕ)) (d : Data) → set_asked_by method d ≡ Ok (asked_data asked.now)
             → Gives (λ r. RequestAnswers uploads (moment_of self.old created.old (L.tape link.old) (L.faults link.old) (L.hidden link.old)) (Set method) d r
             (moment_of self.new created.new (L.tape link.new) (L.faults link.new) (L.hidden link.new)))
@@ -136,7 +146,7 @@ impl RequestMail {
             link,
             method,
             asked,
-            checks,
+            checks_of(method, asked),
             created,
         );
         self.client = client;
@@ -144,39 +154,8 @@ impl RequestMail {
         answer
     }
 
-    /// What a call asks that changes mail is done.
-    fn change_asked<L: Link>(
-        &mut self,
-        alloc: Global,
-        link: &mut L,
-        created: &mut CreatedIds,
-        method: SetMethod,
-        asked: &SetAsked<'_>,
-    ) -> Result<Value, MethodError>
-        requires known { IsSome self.old.machine.known }
-        requires stands { self.old.status ≡ MailStatus.Stands }
-        ensures meant { (uploads : List (List ℕ)) (d : Data) → set_asked_by method d ≡ Ok (asked_data asked.now)
-            → Gives (λ r. RequestAnswers uploads (moment_of self.old created.old (L.tape link.old) (L.faults link.old) (L.hidden link.old)) (Set method) d r
-            (moment_of self.new created.new (L.tape link.new) (L.faults link.new) (L.hidden link.new)))
-            (RequestLacks uploads (moment_of self.old created.old (L.tape link.old) (L.faults link.old) (L.hidden link.old)) (Set method) d
-            (moment_of self.new created.new (L.tape link.new) (L.faults link.new) (L.hidden link.new))) result }
-        ensures whole { IfOk result (λ value. has_float (view value) ≡ false) }
-    {
-        match method {
-            SetMethod::EmailSet => {
-                self.change_by(alloc, link, created, method, asked, &EmailSetChecks)
-            }
-            SetMethod::MailboxSet => {
-                let checks = MailboxSetChecks {
-                    removes: asked.removes,
-                };
-                self.change_by(alloc, link, created, method, asked, &checks)
-            }
-        }
-    }
-
     /// A method that changes the mail that is served.
-    fn change<L: Link>(
+    fn change<L: Link + Clock + Chance>(
         &mut self,
         alloc: Global,
         link: &mut L,
@@ -200,7 +179,7 @@ impl RequestMail {
     }
 
     /// A method over the mail that is served.
-    fn reply_told<L: Link>(
+    fn reply_told<L: Link + Clock + Chance>(
         &mut self,
         alloc: Global,
         link: &mut L,
@@ -224,7 +203,7 @@ impl RequestMail {
     }
 }
 
-impl<L: Link> CallSource<L> for RequestMail {
+impl<L: Link + Clock + Chance> CallSource<L> for RequestMail {
     ghost use Rattle.gate_calls.specs.RequestMail.{RequestAnswers, RequestLacks, moment_of};
 
     ghost answers = { λ uploads before m d r after. RequestAnswers uploads

@@ -38,7 +38,7 @@ pub ends_either : {call : SetCall} {items : List Item} {before after : CallState
 ends_either e (AllDone done does all is) = absurd (cc)
 ends_either e (Stopped done item later mid so_far last ends does stop all whole is) =
     let same : ends ≡ Ends e = cc in item_either _ _ _ e (sym stop.steps.does.ends_is ∙ same)
-ends_either e (Wanting done later does all is) = absurd (cc)
+ends_either e (Wanting done later so_far drawn does draws all whole is) = absurd (cc)
 
 -- one that goes to the commit
 pub unavailable_only : (e : MethodError) → GoesToCommit (Err (Ends e)) → e ≡ ServerUnavailable

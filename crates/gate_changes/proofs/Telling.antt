@@ -36,8 +36,8 @@ module _ (m : Mail) where
 
   takes_tell : {c : SetCall} {item : Item} {before after : CallState} {done : Done} {events : List Event} → TakesItem c item before done events after → TellsFrom m before
       → TellsFrom m after
-  takes_tell (Refused e is done none after_is) tells = subst (λ (s : CallState). TellsFrom m s) (sym after_is) tells
-  takes_tell (Stepped job is steps) tells = steps_tell steps (λ same. cc) tells
+  takes_tell (Refused drawn e is done events_are after_is) tells = subst (λ (s : CallState). TellsFrom m s) (sym after_is) tells
+  takes_tell (Stepped drawn job doing is steps events_are) tells = steps_tell steps (λ same. cc) tells
 
   items_tell : {c : SetCall} {life : LinkLife} {done : List (Item × Done)} {events : List Event} {after : CallState} → DoesItems c (call_begun m life) done events after
       → TellsFrom m after
@@ -50,4 +50,4 @@ module _ (m : Mail) where
   runs_tell (AllDone done does all is) well = items_tell does
   runs_tell (Stopped done item later mid so_far last ends does stop all whole is) well =
       steps_tell stop.steps (λ same. well (is ∙ ap (λ (e : ItemEnd). Err e) same)) (items_tell does)
-  runs_tell (Wanting done later does all is) well = absurd (well is)
+  runs_tell (Wanting done later so_far drawn does draws all whole is) well = absurd (well is)

@@ -11,10 +11,8 @@ use Rattle.gate_machine.specs.Progress.{Progress}
 use Rattle.set_arguments.specs.Arguments.{SetAsked, set_asked}
 use Rattle.set_arguments.specs.declared.set_method.SetMethod.{SetMethod}
 use Rattle.set_jobs.specs.declared.done.Done.{Done}
-use Rattle.set_jobs.specs.declared.done.SetError.{SetError}
-use Rattle.set_jobs.specs.declared.job.Job.{Job}
 use Rattle.set_order.specs.Ordered.{Item, ItemsOf, making}
-use Rattle.set_given.specs.Given.{Given}
+use Rattle.set_methods.specs.Checks.{Rules}
 use Rattle.set_calls.specs.Calls.{SetCall}
 use Rattle.set_replies.specs.Created.{created_with}
 use Rattle.set_replies.specs.Replies.{set_reply}
@@ -28,11 +26,11 @@ pub record ChangeState : Type 0 where
 
 -- what an item has to pass, by the method and by what its call asks
 abbrev pub ItemChecks : Type 0
-ItemChecks = SetMethod → SetAsked → Given → Item → Result Job SetError
+ItemChecks = SetMethod → SetAsked → Rules
 
 -- a call that asks this, over what has become of the mail and these ids
 abbrev pub call_of : ItemChecks → SetMethod → SetAsked → MailHistory → Ids → SetCall
-call_of checks m a h created = record { history = h; created = created; making = making a.create; check = checks m a }
+call_of checks m a h created = record { history = h; created = created; making = making a.create; rules = checks m a }
 
 -- whether the state that the call names is the one that there is
 abbrev pub is_current : SetMethod → SetAsked → MailHistory → Bool

@@ -18,6 +18,7 @@ ghost use Rattle.set_order.specs.Ordered.{Item as ItemData, ItemsOf, making};
 ghost use Rattle.set_order.specs.reading.Creating.{HasKeys};
 ghost use Rattle.set_order.specs.reading.Items.{item_data};
 ghost use Rattle.set_calls.specs.reading.Calling.{done_data};
+ghost use Rattle.set_methods.specs.reading.Choosing.{rules_of};
 ghost use Rattle.set_replies.specs.Created.{created_with};
 ghost use Rattle.set_replies.specs.Replies as replies;
 ghost use Rattle.set_replies.specs.States as states;
@@ -28,15 +29,16 @@ ghost use Rattle.gate_changes.specs.reading.Asking.{ChangesTo};
 
 use crate::changing::{Changed, change_mail};
 use gate_machine::{Machine, MailStatus};
-use gate_world::Link;
+use gate_world::{Chance, Clock, Link};
 use imap_client::Client;
 use jmap_arguments::{MethodError, is_new};
 use jmap_core::CreatedIds;
 use mail_state::{MailState, MailType};
 use serde_json::Value;
 use set_arguments::{Keyed, SetAsked, SetMethod};
-use set_calls::{CallEnd, Checks};
+use set_calls::CallEnd;
 use set_jobs::Done;
+use set_methods::SetChecks;
 use set_order::{Item, ordered_items};
 use set_replies::{is_at_state, put_created, set_reply};
 use std::alloc::{AllocError, Global};
@@ -191,7 +193,7 @@ fn prepare<'k>(
 }
 
 /// Does the items, and answers.
-fn answer_items<'k, L: Link, C: Checks>(
+fn answer_items<'k, L: Link + Clock + Chance>(
     alloc: Global,
     machine: &mut Machine,
     client: Client,
@@ -199,13 +201,13 @@ fn answer_items<'k, L: Link, C: Checks>(
     method: SetMethod,
     before: u64,
     keys: &BTreeSet<&'k str>,
-    checks: &C,
+    checks: SetChecks,
     items: &[Item<'k>],
     created: &mut CreatedIds,
 ) -> Answered
     requires { IsSome machine.old.known }
     ensures run { Adds (L.tape link.old) (L.tape link.new) (λ es. (all : ItemChecks) (a : SetAskedData) (h : MailHistory) (start : ChangeState) (was : Faults)
-        → all method a ≡ C.checked checks.now → start.created ≡ created.old → before ≡ states.place_of method h → is_current method a h ≡ true
+        → all method a ≡ rules_of checks → start.created ≡ created.old → before ≡ states.place_of method h → is_current method a h ≡ true
         → HasKeys keys.now (making a.create) → ItemsOf method start.created a (map item_data items.now) → IsServed h start.progress
         → CameTo machine.old client MailStatus.Stands was (L.faults link.old) start.progress
         → AnswersTo all method a h start result.answer created.new machine.new result.client result.status was (L.faults link.new) es) }
@@ -219,19 +221,19 @@ fn answer_items<'k, L: Link, C: Checks>(
 }
 
 /// Answers a call that names the state that there is, or none.
-fn answer_current<L: Link, C: Checks>(
+fn answer_current<L: Link + Clock + Chance>(
     alloc: Global,
     machine: &mut Machine,
     client: Client,
     link: &mut L,
     method: SetMethod,
     asked: &SetAsked<'_>,
-    checks: &C,
+    checks: SetChecks,
     created: &mut CreatedIds,
 ) -> Answered
     requires { IsSome machine.old.known }
     ensures run { Adds (L.tape link.old) (L.tape link.new) (λ es. (all : ItemChecks) (h : MailHistory) (start : ChangeState) (was : Faults)
-        → all method (asked_data asked.now) ≡ C.checked checks.now → start.created ≡ created.old → is_current method (asked_data asked.now) h ≡ true
+        → all method (asked_data asked.now) ≡ rules_of checks → start.created ≡ created.old → is_current method (asked_data asked.now) h ≡ true
         → IsServed h start.progress → CameTo machine.old client MailStatus.Stands was (L.faults link.old) start.progress
         → AnswersTo all method (asked_data asked.now) h start result.answer created.new machine.new result.client result.status was (L.faults link.new) es) }
     ensures ready { result.status ≡ MailStatus.Stands → IsSome machine.new.known }
@@ -264,19 +266,19 @@ fn answer_current<L: Link, C: Checks>(
 /// Answers a call of a changing method that asks this: its items are done over what the machine serves, in the client's link life, what
 /// they told is served then, and the reply is read from that (RFC 8620 section 5.3). Where the state that it names isn't the one that
 /// there is, nothing is asked of the outside.
-pub fn answer_change<L: Link, C: Checks>(
+pub fn answer_change<L: Link + Clock + Chance>(
     alloc: Global,
     machine: &mut Machine,
     client: Client,
     link: &mut L,
     method: SetMethod,
     asked: &SetAsked<'_>,
-    checks: &C,
+    checks: SetChecks,
     created: &mut CreatedIds,
 ) -> Answered
     requires { IsSome machine.old.known }
     ensures run { Adds (L.tape link.old) (L.tape link.new) (λ es. (all : ItemChecks) (h : MailHistory) (start : ChangeState) (was : Faults)
-        → all method (asked_data asked.now) ≡ C.checked checks.now → start.created ≡ created.old → IsServed h start.progress
+        → all method (asked_data asked.now) ≡ rules_of checks → start.created ≡ created.old → IsServed h start.progress
         → CameTo machine.old client MailStatus.Stands was (L.faults link.old) start.progress
         → AnswersTo all method (asked_data asked.now) h start result.answer created.new machine.new result.client result.status was (L.faults link.new) es) }
     ensures ready { result.status ≡ MailStatus.Stands → IsSome machine.new.known }

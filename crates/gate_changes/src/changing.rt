@@ -12,16 +12,18 @@ ghost use Rattle.set_order.specs.reading.Items.{item_data};
 ghost use Rattle.set_calls.specs.Calls.{SetCall};
 ghost use Rattle.set_calls.specs.declared.call.CallEnd.TheVariants as ends;
 ghost use Rattle.set_calls.specs.reading.Calling.{came_data};
+ghost use Rattle.set_methods.specs.reading.Choosing.{rules_of};
 ghost use Rattle.gate_changes.specs.Changing.{DoesItemsOver, GoesToCommit, broken_off};
 ghost use Rattle.gate_changes.specs.reading.Asking.{ChangesTo, IsOver};
 
 use gate_machine::{Fetching, Machine, MailFailure, MailStatus};
-use gate_world::Link;
+use gate_world::{Chance, Clock, Link};
 use imap_client::Client;
 use jmap_arguments::MethodError;
 use jmap_core::CreatedIds;
-use set_calls::{Call, CallEnd, Checks, run_items};
+use set_calls::{Call, CallEnd, run_items};
 use set_jobs::Done;
+use set_methods::SetChecks;
 use set_order::Item;
 use std::alloc::Global;
 use std::collections::BTreeSet;
@@ -39,19 +41,19 @@ pub struct Changed<'k> {
 }
 
 /// Does the items over what the machine serves, in the client's link life. The machine knows what they told.
-fn do_items<'k, L: Link, C: Checks>(
+fn do_items<'k, L: Link + Clock + Chance>(
     alloc: Global,
     machine: &mut Machine,
     client: Client,
     link: &mut L,
     created: &CreatedIds,
     making: &BTreeSet<&'k str>,
-    checks: &C,
+    checks: SetChecks,
     items: &[Item<'k>],
 ) -> (Result<Vec<(Item<'k>, Done)>, CallEnd>, Client)
     requires { IsSome machine.old.known }
     ensures run { Adds (L.tape link.old) (L.tape link.new) (λ es. (call : SetCall) (before : Progress) (was : Faults) → call.created ≡ created.now
-        → HasKeys making.now call.making → call.check ≡ C.checked checks.now → IsOver call before
+        → HasKeys making.now call.making → call.rules ≡ rules_of checks → IsOver call before
         → CameTo machine.old client MailStatus.Stands was (L.faults link.old) before
         → (mid : Progress) × DoesItemsOver call (map item_data items.now) before (came_data result.0) es mid
         × CameTo machine.new result.1 MailStatus.Stands was (L.faults link.new) mid) }
@@ -209,19 +211,19 @@ fn finish<'k, L: Link>(
 
 /// Does the items of a call in order over what the machine serves, in the client's link life, and serves what they told. Where the call
 /// failed in part, or a place would pass the last one, the link life ends and no later call of the request has the mail.
-pub fn change_mail<'k, L: Link, C: Checks>(
+pub fn change_mail<'k, L: Link + Clock + Chance>(
     alloc: Global,
     machine: &mut Machine,
     client: Client,
     link: &mut L,
     created: &CreatedIds,
     making: &BTreeSet<&'k str>,
-    checks: &C,
+    checks: SetChecks,
     items: &[Item<'k>],
 ) -> Changed<'k>
     requires { IsSome machine.old.known }
     ensures run { Adds (L.tape link.old) (L.tape link.new) (λ es. (call : SetCall) (before : Progress) (was : Faults) → call.created ≡ created.now
-        → HasKeys making.now call.making → call.check ≡ C.checked checks.now → IsOver call before
+        → HasKeys making.now call.making → call.rules ≡ rules_of checks → IsOver call before
         → CameTo machine.old client MailStatus.Stands was (L.faults link.old) before
         → ChangesTo call (map item_data items.now) before result.came machine.new result.client result.status was (L.faults link.new) es) }
     ensures ready { result.status ≡ MailStatus.Stands → IsSome machine.new.known }

@@ -12,7 +12,9 @@ use Rattle.serde_json.specs.Data.{Data}
 use Rattle.email_bodies.specs.Asking.{BodyAsk}
 use Rattle.email_bodies.specs.declared.source.MessagePlace.{MessagePlace}
 use Rattle.jmap_arguments.specs.declared.method_error.MethodError.{MethodError}
+use Rattle.jmap_arguments.specs.declared.method_error.MethodError.TheVariants.{ServerPartialFail}
 use Rattle.jmap_arguments.specs.declared.using.Using.{Using}
+use Rattle.jmap_core.specs.CreatedIds.{Ids}
 use Rattle.result_references.specs.Call.{CallData}
 use Rattle.imap_exchange.specs.declared.link_end.LinkEnd.{LinkEnd}
 use Rattle.imap_exchange.specs.declared.link_end.LinkEnd.TheVariants as end
@@ -28,25 +30,31 @@ use Rattle.gate_machine.specs.Obeying.{AllCame, AreAsksObeyed, HasCome, ObeysIn}
 use Rattle.gate_machine.specs.Progress.{Progress, blame_link, is_up}
 use Rattle.gate_machine.specs.declared.mail_status.MailStatus.TheVariants.{Stands}
 use Rattle.gate_machine.proofs.Asking.{bodies_stay}
+use Rattle.set_arguments.specs.Arguments.{SetAsked}
 use Rattle.set_arguments.specs.declared.set_method.SetMethod.{SetMethod}
 use Rattle.set_jobs.specs.declared.done.Done.{Done}
 use Rattle.set_jobs.specs.declared.job.Job.{Job}
 use Rattle.set_order.specs.Ordered.{Item}
 use Rattle.set_items.specs.declared.item.ItemEnd.{ItemEnd}
-use Rattle.set_items.specs.declared.item.ItemEnd.TheVariants.{Comes, OutOfMemory}
-use Rattle.set_items.specs.Ends.{broken_end, item_end}
+use Rattle.set_items.specs.declared.item.ItemEnd.TheVariants.{Comes, Ends, OutOfMemory}
+use Rattle.set_items.specs.Causes.{FailedPartly}
+use Rattle.set_items.specs.Commands.{IsFit}
+use Rattle.set_items.specs.Ends.{done_end, item_end}
 use Rattle.set_items.specs.declared.stage.ItemStage.{ItemStage}
+use Rattle.set_items.specs.declared.stage.ItemStage.TheVariants.{Doing, Failing, Partly, Settled}
 use Rattle.set_items.specs.Items.{item_at, item_start}
-use Rattle.set_items.specs.Talks.{ending_of, fault_in, faults_by, has_changed}
-use Rattle.set_calls.specs.Calls.{SetCall, CallState, StepsItem, TakesItem, Refused, Stepped, StopsAt, DoesItems, NoItems, MoreItems, RunsItems, AllDone, Stopped, Wanting}
+use Rattle.set_items.specs.Talks.{DoesItem, ending_of, fault_in, has_changed}
+use Rattle.set_calls.specs.Calls.{SetCall, CallState, StopsAt, DoesItems, NoItems, MoreItems, RunsItems, AllDone, Stopped, Wanting}
+use Rattle.set_calls.specs.Promises.{ChecksFit}
 use Rattle.gate_changes.specs.Answering as answering
-use Rattle.gate_changes.specs.Answering.{DoesChange}
+use Rattle.gate_changes.specs.Answering.{DoesChange, call_of}
 use Rattle.gate_changes.specs.Changing as changing
 use Rattle.gate_changes.specs.Changing.{ChangesMail, DoesItemsOver, ItemsCame, LacksChange}
 use Rattle.gate_changes.proofs.Blaming.{BlamesTheLink, settled_blame}
 use Rattle.gate_changes.proofs.Keeping.{goes_well}
+use Rattle.call_laws.proofs.Lives.{items_up, lost_before, lost_in, settled_left}
 use Rattle.gate_calls.specs.ItemChecks.{item_checks}
-use Rattle.gate_calls.specs.Calling.{AllAskedCome, AreDoneObeyed, AreItemsObeyed, AreStepsObeyed, Asked, Body, Committed, IsAskedCome, IsCallObeyed, IsChangeObeyed, IsLastObeyed}
+use Rattle.gate_calls.specs.Calling.{AllAskedCome, AreDoneObeyed, AreStepsObeyed, Asked, Body, Committed, IsAskedCome, IsCallObeyed, IsChangeObeyed, IsLastObeyed}
 use Rattle.gate_calls.specs.Calling.{IsSetObeyed, asks_of, asks_of_change, asks_of_done, asks_of_items, done_ask, history_known}
 use Rattle.gate_calls.proofs.Through.{one_through}
 use Rattle.gate_serving.specs.Complete.{served_by, served_last}
@@ -76,8 +84,19 @@ abbrev pub LacksLaw : Type 0
 LacksLaw = (call : SetCall) (items : List Item) (before : Progress) (events : List Event) (after : Progress) → LacksChange call items before events after
     → BlamesTheLink before after
 
+-- an item fails in part by its causes alone
+abbrev pub PartlyLaw : Type 0
+PartlyLaw = (job : Job) (call : List Exchange) (before after : Mail) (life left : LinkLife) (client : ClientState) (events : List Event)
+    (d : DoesItem job call before after life left client (Ends ServerPartialFail) events) → IsFit job → FailedPartly (ending_of call d.runs)
+
+-- and the items of the calls that there are have the steps that this is proved of
+abbrev pub FitLaw : Type 0
+FitLaw = (m : SetMethod) (a : SetAsked) (h : MailHistory) (created : Ids) → ChecksFit (call_of item_checks m a h created)
+
 pub record ObeyedLaws : Type 0 where
   pub plans : PlansLaw
+  pub partly : PartlyLaw
+  pub fit : FitLaw
   pub bodies : BodiesLaw
   pub fetches : FetchesLaw
   pub blames : BlamesLaw
@@ -121,66 +140,14 @@ unblamed_change before after blames free = no_blame blames.0 before.blamed (sym 
 
 -- ---- the items of a call that changes mail
 
-left_none : (m n : ℕ) → m + n ≡ 0 → m ≡ 0
-left_none m n is = omega (arith, is)
-
-right_none : (m n : ℕ) → m + n ≡ 0 → n ≡ 0
-right_none m n is = omega (arith, is)
-
-stands_up : (up : Bool) → faults_by (Ok tt) up ≡ 0 → up ≡ true
-stands_up true is = refl
-stands_up false is = absurd (omega (arith, is))
-
--- a plan that came to its end without a fault leaves the link up
-still_up : (was up : Bool) (r : Result (Unit {0}) LinkEnd) → was ≡ true → r ≡ Ok tt → fault_in was up r ≡ 0 → up ≡ true
-still_up true up (Ok u) on ok none = stands_up up none
-still_up false up (Ok u) on ok none = absurd (let never : false ≡ true = on in cc)
-still_up was up (Err e) on ok none = absurd (let never : Err e ≡ Ok tt = ok in cc)
-
 not_lost : (was up : Bool) (r : Result (Unit {0}) LinkEnd) → was ≡ true → r ≡ Err end.Lost → fault_in was up r ≡ 0 → ⊥
 not_lost true up (Err end.Lost) on lost none = absurd (omega (arith, none))
 not_lost false up r on lost none = absurd (let never : false ≡ true = on in cc)
 not_lost true up (Ok u) on lost none = absurd (let never : Ok u ≡ Err end.Lost = lost in cc)
 not_lost true up (Err e) on lost none = absurd (let never : Err e ≡ Err end.Lost = lost in cc)
 
--- an item that came to something had its plan come to its end
-done_ok : (s : ItemStage) (r : Result (Unit {0}) LinkEnd) (changed : Bool) (done : Done) → Comes done ≡ item_end s r changed → r ≡ Ok tt
-done_ok s (Ok u) changed done is = refl
-done_ok s (Err end.Memory) changed done is = absurd (let never : Comes done ≡ OutOfMemory = is in cc)
-done_ok s (Err e) changed done is = absurd (let never : Comes done ≡ broken_end e changed = is in cc)
-
 out_end : (s : ItemStage) (r : Result (Unit {0}) LinkEnd) (changed : Bool) → r ≡ Err end.Memory → item_end s r changed ≡ OutOfMemory
 out_end s r changed is = ap (λ (x : Result (Unit {0}) LinkEnd). item_end s x changed) is
-
-module _ {item : Item} {job : Job} {before after : CallState} {ends : ItemEnd} {events : List Event} (steps : StepsItem item job before ends events after) where
-  lost_before : after.lost ≡ 0 → before.lost ≡ 0
-  lost_before free = left_none before.lost (fault_in before.life.goes_on after.life.goes_on steps.does.runs.result) (sym steps.lost_is ∙ free)
-
-  lost_in : after.lost ≡ 0 → fault_in before.life.goes_on after.life.goes_on steps.does.runs.result ≡ 0
-  lost_in free = right_none before.lost (fault_in before.life.goes_on after.life.goes_on steps.does.runs.result) (sym steps.lost_is ∙ free)
-
-  step_up : (done : Done) → ends ≡ Comes done → before.life.goes_on ≡ true → after.lost ≡ 0 → after.life.goes_on ≡ true
-  step_up done comes on free =
-      let runs = steps.does.runs in
-      let ok : runs.result ≡ Ok tt =
-      done_ok (item_at (item_start job before.mail) runs.exchanges).stage runs.result (has_changed (ending_of before.exchanges runs)) done
-      (sym comes ∙ steps.does.ends_is) in
-      still_up before.life.goes_on after.life.goes_on runs.result on ok (lost_in free)
-
-takes_lost : {c : SetCall} {item : Item} {before after : CallState} {done : Done} {events : List Event} → TakesItem c item before done events after → after.lost ≡ 0
-    → before.lost ≡ 0
-takes_lost (Refused e is done_is none same) free = ap (λ (s : CallState). s.lost) (sym same) ∙ free
-takes_lost (Stepped job is steps) free = lost_before steps free
-
-takes_up : {c : SetCall} {item : Item} {before after : CallState} {done : Done} {events : List Event} → TakesItem c item before done events after
-    → before.life.goes_on ≡ true → after.lost ≡ 0 → after.life.goes_on ≡ true
-takes_up (Refused e is done_is none same) on free = ap (λ (s : CallState). s.life.goes_on) same ∙ on
-takes_up {done = done} (Stepped job is steps) on free = step_up steps done refl on free
-
-items_up : {c : SetCall} {before after : CallState} {done : List (Item × Done)} {events : List Event} → DoesItems c before done events after
-    → before.life.goes_on ≡ true → after.lost ≡ 0 → after.life.goes_on ≡ true
-items_up NoItems on free = on
-items_up (MoreItems next rest) on free = takes_up next.takes (items_up rest on (takes_lost next.takes free)) free
 
 -- each item came to something
 items_come : {c : SetCall} {before after : CallState} {done : List (Item × Done)} {events : List Event} (does : DoesItems c before done events after)
@@ -212,12 +179,6 @@ up_same is here =
       stands = ap (λ (x : Progress). x.standing) is ∙ here.stands;
       up = ap (λ (x : Progress). is_up x.left) is ∙ here.up;
     }
-
-settled_left : {before after : Progress} {events : List Event} → Settles before events after → after.left ≡ before.left
-settled_left (Same k stands known same none is) = ap (λ (p : Progress). p.left) is
-settled_left (Moves new next goes room none is) = ap (λ (p : Progress). p.left) is
-settled_left (Spends new spent none is) = ap (λ (p : Progress). p.left) is
-settled_left (Lacks stands none is) = ap (λ (p : Progress). p.left) is
 
 settled_known : {before after : Progress} {events : List Event} → Settles before events after → after.standing ≡ Stands → (k : KnownMail) × (after.machine.known ≡ Some k)
 settled_known (Same k stands known same none is) stood = (k, ap (λ (p : Progress). p.machine.known) is ∙ known)
@@ -254,40 +215,60 @@ commit_served h asks known k is =
 served_on : (g h : MailHistory) (asks more : List Asked) → g ≡ served_last h asks → served_last g more ≡ served_last h (asks ++ more)
 served_on g h asks more is = ap (λ (x : MailHistory). served_last x more) is ∙ sym (fold-append served_by h asks more)
 
+-- an item whose plan came to its end came to something, or failed in part
+done_by : (s : ItemStage) → ((done : Done) × (done_end s ≡ Comes done)) ⊎ (done_end s ≡ Ends ServerPartialFail)
+done_by (Settled done) = inl (done, refl)
+done_by (Doing s ss changed done) = inr refl
+done_by Partly = inr refl
+done_by (Failing why) = inr refl
+
+fails_so : PartlyLaw → (job : Job) (call : List Exchange) (before after : Mail) (life left : LinkLife) (client : ClientState) (ends : ItemEnd) (events : List Event)
+    → ends ≡ Ends ServerPartialFail → (d : DoesItem job call before after life left client ends events) → IsFit job → FailedPartly (ending_of call d.runs)
+fails_so law job call before after life left client ends events is =
+    subst (λ (e : ItemEnd). (d : DoesItem job call before after life left client e events) → IsFit job → FailedPartly (ending_of call d.runs)) (sym is)
+    (law job call before after life left client events)
+
 module _ (laws : ObeyedLaws) where
   -- an item that is obeyed ends its call only as memory runs out, unless a fault is blamed
   stops_out : {c : SetCall} {item : Item} {before after : CallState} {ends : ItemEnd} {events : List Event} (stops : StopsAt c item before ends events after)
-      → IsLastObeyed stops → before.life.goes_on ≡ true → after.lost ≡ 0 → ends ≡ OutOfMemory
-  stops_out {before = before} {after = after} {events = events} stops obeyed on free =
+      → ChecksFit c → IsLastObeyed stops → before.life.goes_on ≡ true → after.lost ≡ 0 → ends ≡ OutOfMemory
+  stops_out {item = item} {before = before} {after = after} {ends = ends} stops fit obeyed on free =
       let runs = stops.steps.does.runs in
-      elim (laws.plans _ before.life after.life runs.exchanges stops.steps.client runs.result events runs.follows obeyed.steps) [
-        | inl ok ↦ let tells = obeyed.broken ok in absurd (stops.not_done tells.0 tells.1)
+      let stage : ItemStage = (item_at (item_start stops.job before.mail) runs.exchanges).stage in
+      let changed : Bool = has_changed (ending_of before.exchanges runs) in
+      elim (laws.plans _ before.life after.life runs.exchanges stops.steps.client runs.result stops.doing runs.follows obeyed.steps) [
+        | inl ok ↦
+            let ends_is : ends ≡ done_end stage = stops.steps.does.ends_is ∙ ap (λ (r : Result (Unit {0}) LinkEnd). item_end stage r changed) ok in
+            elim (done_by stage) [
+              | inl (done, is) ↦ absurd (stops.not_done done (ends_is ∙ is))
+              | inr is ↦ absurd (obeyed.whole (fails_so laws.partly stops.job before.exchanges before.mail after.mail before.life after.life stops.steps.client ends
+                  stops.doing (ends_is ∙ is) stops.steps.does (fit _ item stops.drawn stops.job stops.is_prepared).0))
+            ]
         | inr (inl lost) ↦ absurd (not_lost before.life.goes_on after.life.goes_on runs.result on lost (lost_in stops.steps free))
-        | inr (inr memory) ↦ stops.steps.does.ends_is
-            ∙ out_end (item_at (item_start stops.job before.mail) runs.exchanges).stage runs.result (has_changed (ending_of before.exchanges runs)) memory
+        | inr (inr memory) ↦ stops.steps.does.ends_is ∙ out_end stage runs.result changed memory
       ]
 
   runs_come : {c : SetCall} {items : List Item} {before after : CallState} {came : ItemsCame} {events : List Event} (runs : RunsItems c items before came events after)
-      → came ≢ Err OutOfMemory → AreStepsObeyed runs → before.life.goes_on ≡ true → after.lost ≡ 0 → AllCameOf (asks_of_items runs) came after
-  runs_come (AllDone done does all is) well obeyed on free = record { come = items_come does; up = items_up does on free; done = done; came_is = is }
-  runs_come (Stopped done item later mid so_far last ends does stops all whole is) well obeyed on free =
+      → ChecksFit c → came ≢ Err OutOfMemory → AreStepsObeyed runs → before.life.goes_on ≡ true → after.lost ≡ 0 → AllCameOf (asks_of_items runs) came after
+  runs_come (AllDone done does all is) fit well obeyed on free = record { come = items_come does; up = items_up does on free; done = done; came_is = is }
+  runs_come (Stopped done item later mid so_far last ends does stops all whole is) fit well obeyed on free =
       absurd (well (is ∙ ap (λ (e : ItemEnd). Err e)
-      (stops_out stops obeyed.1 (items_up does on (lost_before stops.steps free)) free)))
-  runs_come (Wanting done later does all is) well obeyed on free = absurd (well is)
+      (stops_out stops fit obeyed.1 (items_up does on (lost_before stops.steps free)) free)))
+  runs_come (Wanting done later so_far drawn does draws all whole is) fit well obeyed on free = absurd (well is)
 
   items_over : {call : SetCall} {items : List Item} {before after : Progress} {came : ItemsCame} {events : List Event}
-      (does : DoesItemsOver call items before came events after) → came ≢ Err OutOfMemory → AreStepsObeyed does.runs → is_up before.left ≡ true
+      (does : DoesItemsOver call items before came events after) → ChecksFit call → came ≢ Err OutOfMemory → AreStepsObeyed does.runs → is_up before.left ≡ true
       → after.blamed ≡ no_faults → AllCameOf (asks_of_items does.runs) came does.now
-  items_over {before = before} does well obeyed up free =
-      runs_come does.runs well obeyed (sym (ap is_up does.in_life) ∙ up)
+  items_over {before = before} does fit well obeyed up free =
+      runs_come does.runs fit well obeyed (sym (ap is_up does.in_life) ∙ up)
       (none_lost does.now.lost before.blamed (sym (ap (λ (p : Progress). p.blamed) does.after_is) ∙ free))
 
   change_comes : {call : SetCall} {items : List Item} {before after : Progress} {result : Result (List (Item × Done)) MethodError} {events : List Event}
-      (h : MailHistory) (does : ChangesMail call items before result events after) → IsChangeObeyed does → is_up before.left ≡ true → after.blamed ≡ no_faults
+      (h : MailHistory) (does : ChangesMail call items before result events after) → ChecksFit call → IsChangeObeyed does → is_up before.left ≡ true → after.blamed ≡ no_faults
       → AllCome h (asks_of_change does) after
-  change_comes {after = after} h (changing.Committed came mid does goes settles stands is) obeyed up free =
+  change_comes {after = after} h (changing.Committed came mid does goes settles stands is) fit obeyed up free =
       let known = settled_known settles stands in
-      let all = items_over does (goes_well came goes) obeyed up (sym (settled_blame settles) ∙ free) in
+      let all = items_over does fit (goes_well came goes) obeyed up (sym (settled_blame settles) ∙ free) in
       record {
         come = All-push IsAskedCome (asks_of_items does.runs) (Committed (history_known after.machine.known)) all.come (commit_comes after.machine.known known.0 known.1);
         here = record {
@@ -298,9 +279,9 @@ module _ (laws : ObeyedLaws) where
         };
         moved_on = commit_served h (asks_of_items does.runs) after.machine.known known.0 known.1;
       }
-  change_comes h (changing.SpentBy came mid spent doing ending does goes settles why hangs whole is error) obeyed up free = absurd obeyed
-  change_comes h (changing.FailedInPart mid doing ending does hangs whole is error) obeyed up free =
-      let all = items_over does (λ same. cc) obeyed up (sym (ap (λ (p : Progress). p.blamed) is) ∙ free) in
+  change_comes h (changing.SpentBy came mid spent doing ending does goes settles why hangs whole is error) fit obeyed up free = absurd obeyed
+  change_comes h (changing.FailedInPart mid doing ending does hangs whole is error) fit obeyed up free =
+      let all = items_over does fit (λ same. cc) obeyed up (sym (ap (λ (p : Progress). p.blamed) is) ∙ free) in
       absurd (let never = all.came_is in cc)
 
   -- ---- one call
@@ -312,7 +293,8 @@ module _ (laws : ObeyedLaws) where
   set_comes (answering.Untold a e is mail_is result_is no_events same) obeyed here free = none_come (ap (λ (x : CallsState). x.progress) same) here
   set_comes (answering.Asked a h is mail_is (answering.Mismatch current result_is no_events same)) obeyed here free =
       none_come (ap (λ (x : CallsState). x.progress) same) here
-  set_comes (answering.Asked a h is mail_is (answering.Changes items came current items_are does answers)) obeyed here free = change_comes here.known.history does obeyed here.up free
+  set_comes {m = m} {s = s} (answering.Asked a h is mail_is (answering.Changes items came current items_are does answers)) obeyed here free =
+      change_comes here.known.history does (laws.fit m a h s.created) obeyed here.up free
 
   body_up : {message : MessagePlace} {p q : Progress} {body : Option (List ℕ)} {events : List Event} → AsksBody message p body events q → is_up p.left ≡ true
       → IsSome body → is_up q.left ≡ true

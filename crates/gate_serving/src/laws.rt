@@ -27,6 +27,7 @@ ghost use Rattle.gate_serving.specs.Segment.{AnswersAsking, Segment, blamed};
 ghost use Rattle.gate_serving.specs.RequestWork.{RequestWork, begun_in};
 ghost use Rattle.gate_serving.specs.declared.outcomes.ClientOutcome.{ClientOutcome};
 
+use call_laws::items_are_fit;
 use email_get::laws::one_blob_found;
 use gate_calls::calls_have_one_course;
 use gate_changes::{
@@ -38,6 +39,7 @@ use gate_machine::{
     obeyed_rounds_stand, requests_keep_history,
 };
 use imap_client::{finished_lives_go_on, obeyed_plans_end_ok};
+use set_items::items_end_by_their_causes;
 
 /// Where no count rose, nothing is blamed.
 pub fn no_fault_no_blame()
@@ -61,6 +63,8 @@ pub fn obeyed_requests_answered()
     obeyed_bodies_come();
     obeyed_plans_end_ok();
     finished_lives_go_on();
+    items_are_fit();
+    items_end_by_their_causes();
     changes_blame_the_link();
     changes_begin_over_mail();
 }

@@ -4,7 +4,7 @@ ghost use Rattle.serde_json.specs.Data.{Members};
 ghost use Rattle.told_folder.specs.declared.message.Folder.{Folder};
 ghost use Rattle.set_given.specs.Given.{Given, folder_named, folder_to_destroy};
 ghost use Rattle.set_jobs.specs.declared.job.Job.{Job};
-ghost use Rattle.set_items.specs.Commands.{IsFit, appends_of};
+ghost use Rattle.set_items.specs.Commands.{BeginsHeld, IsFit, appends_of};
 ghost use Rattle.mailbox_checks.specs.Create.{create_mailbox};
 ghost use Rattle.mailbox_checks.specs.Destroy.{destroy_mailbox};
 ghost use Rattle.mailbox_checks.specs.Update.{update_mailbox};
@@ -15,6 +15,13 @@ pub fn mailbox_items_are_fit()
     ensures create { (g : Given) (ms : Members) (job : Job) → create_mailbox g ms ≡ Ok job → IsFit job }
     ensures update { (g : Given) (text : List ℕ) (patch : Members) (job : Job) → update_mailbox g text patch ≡ Ok job → IsFit job }
     ensures destroy { (g : Given) (removes : Bool) (text : List ℕ) (job : Job) → destroy_mailbox g removes text ≡ Ok job → IsFit job }
+{}
+
+/// No item of a Mailbox/set selects a folder by its number.
+pub fn mailbox_items_begin_held()
+    ensures create { (g : Given) (ms : Members) (job : Job) → create_mailbox g ms ≡ Ok job → BeginsHeld g.mail job }
+    ensures update { (g : Given) (text : List ℕ) (patch : Members) (job : Job) → update_mailbox g text patch ≡ Ok job → BeginsHeld g.mail job }
+    ensures destroy { (g : Given) (removes : Bool) (text : List ℕ) (job : Job) → destroy_mailbox g removes text ≡ Ok job → BeginsHeld g.mail job }
 {}
 
 /// No item of a Mailbox/set sends an APPEND.

@@ -48,8 +48,9 @@ module _ (once : AppendOnce) (answers : AreAnswers) where
 
   item_appends : (c : SetCall) → ChecksAppend c → (item : Item) (before after : CallState) (done : Done) (events : List Event) → TakesItem c item before done events after
       → appends_in after.exchanges ≤ appends_in before.exchanges + creation_count item
-  item_appends c fit item before after done events (Refused e is came none same) = let n : appends_in after.exchanges ≡ appends_in before.exchanges = ap (λ (s : CallState). appends_in s.exchanges) same in omega (arith, n)
-  item_appends c fit item before after done events (Stepped job is steps) = steps_append item job before after _ events (creation_count item) (fit _ item job is) steps
+  item_appends c fit item before after done events (Refused drawn e is came events_are same) = let n : appends_in after.exchanges ≡ appends_in before.exchanges = ap (λ (s : CallState). appends_in s.exchanges) same in omega (arith, n)
+  item_appends c fit item before after done events (Stepped drawn job doing is steps events_are) =
+      steps_append item job before after _ doing (creation_count item) (fit _ item drawn job is) steps
 
   course_appends : (c : SetCall) → ChecksAppend c → (before after : CallState) (done : List (Item × Done)) (events : List Event) → DoesItems c before done events after
       → appends_in after.exchanges ≤ appends_in before.exchanges + creations_in (items_of done)
@@ -63,13 +64,13 @@ module _ (once : AppendOnce) (answers : AreAnswers) where
       → RunsItems c items before result events after → appends_in after.exchanges ≤ appends_in before.exchanges + creations_in items
   call_appends c items before after result events fit (AllDone done course all ok) =
       subst (λ (is : List Item). appends_in after.exchanges ≤ appends_in before.exchanges + creations_in is) all (course_appends c fit before after done events course)
-  call_appends c items before after result events fit (Wanting done later course whole is) =
-      let so_far : appends_in after.exchanges ≤ appends_in before.exchanges + creations_in (items_of done) = course_appends c fit before after done events course in
+  call_appends c items before after result events fit (Wanting done later earlier drawn course draws whole are is) =
+      let so_far : appends_in after.exchanges ≤ appends_in before.exchanges + creations_in (items_of done) = course_appends c fit before after done earlier course in
       let all : creations_in items ≡ creations_in (items_of done) + creations_in later = ap creations_in (sym whole) ∙ creations_append (items_of done) later in
       omega (arith, so_far, all)
   call_appends c items before after result events fit (Stopped done item later mid so_far last ends course stop whole are is) =
       let earlier : appends_in mid.exchanges ≤ appends_in before.exchanges + creations_in (items_of done) = course_appends c fit before mid done so_far course in
       let own : appends_in after.exchanges ≤ appends_in mid.exchanges + creation_count item =
-      steps_append item stop.job mid after ends last (creation_count item) (fit _ item stop.job stop.is_checked) stop.steps in
+      steps_append item stop.job mid after ends stop.doing (creation_count item) (fit _ item stop.drawn stop.job stop.is_prepared) stop.steps in
       let all : creations_in items ≡ creations_in (items_of done) + (creation_count item + creations_in later) = ap creations_in (sym whole) ∙ creations_append (items_of done) (item ∷ later) in
       omega (arith, earlier, own, all)

@@ -1,8 +1,9 @@
 -- An item of a call after those before it.
-use Rattle.std.proofs.Common.{◌≡◌, ◌≢◌, ◌+◌, ◌++◌, inl, inr, ℕ, Bool, false, IfOk, List, [], ◌∷◌, fold, map, Option, Result, Ok, Err, Vec, refl, sym, ◌∙◌, ap, subst, arith}
+use Rattle.std.proofs.Common.{◌≡◌, ◌≢◌, ◌+◌, ◌++◌, inl, inr, ℕ, Bool, false, IfOk, OnErr, List, [], ◌∷◌, fold, map, Option, Some, None, Result, Ok, Err, Vec, refl, sym, ◌∙◌, ap, subst, arith}
 use Rattle.std.proofs.lemmas.List.{append-nil, map-append}
+use Rattle.std.specs.declared.alloc.AllocError.{AllocError}
 use Rattle.std.specs.declared.alloc.Global.{Global}
-use Rattle.gate_world.specs.Causes.{RoseBy}
+use Rattle.gate_world.specs.Causes.{Faults, NoFault, RoseBy}
 use Rattle.gate_world.specs.Tape.{Adds}
 use Rattle.gate_world.proofs.Joins.{widen}
 use Rattle.gate_world.specs.declared.event.Event.{Event}
@@ -18,7 +19,7 @@ use Rattle.set_jobs.specs.declared.job.Job.{Job}
 use Rattle.set_order.specs.Ordered as spec
 use Rattle.set_order.specs.declared.item.Item.{Item}
 use Rattle.set_order.specs.reading.Items.{item_data}
-use Rattle.set_given.specs.Given.{Given, MadeFolders as Made}
+use Rattle.set_given.specs.Given.{MadeFolders as Made}
 use Rattle.set_given.specs.declared.made.MadeFolders.{MadeFolders}
 use Rattle.set_given.specs.reading.Makings.{IsMade}
 use Rattle.set_items.specs.declared.item.ItemEnd.{ItemEnd}
@@ -28,14 +29,17 @@ use Rattle.set_items.specs.declared.stage.ItemStage.{ItemStage}
 use Rattle.set_items.specs.Items.{item_at, item_start}
 use Rattle.set_items.specs.Ends.{item_end}
 use Rattle.set_items.specs.Talks.{AllReadKnown, IsItemDone, ending_of, fault_in, has_changed}
+use Rattle.set_methods.specs.Checks.{Checks, Drawn, Makes}
+use Rattle.set_methods.specs.declared.checks.Passed.TheVariants.{Drawing, Steps}
+use Rattle.set_methods.specs.declared.checks.Ready.{Ready}
 use Rattle.told_changes.specs.Told.{told}
 use Rattle.imap_exchange.specs.declared.link_end.LinkEnd.{LinkEnd}
 use Rattle.imap_exchange.specs.declared.link_end.LinkEnd.TheVariants as end
-use Rattle.set_calls.specs.Calls.{SetCall, CallState, DoesItems, NoItems, MoreItems, RunsItems, AllDone, Stopped, Wanting, StepsItem, TakesItem, Refused, Stepped, call_begun, checked, items_of, made_with}
+use Rattle.set_calls.specs.Calls.{SetCall, CallState, DoesItems, NoItems, MoreItems, RunsItems, AllDone, Stopped, Wanting, StepsItem, TakesItem, Refused, Stepped, IsDrawnFor, IsPrepared, call_begun, drawing, given_at, items_of, made_with}
 use Rattle.set_calls.specs.declared.call.Call.{Call}
 use Rattle.set_calls.specs.declared.call.CallEnd.{CallEnd}
 use Rattle.set_calls.specs.declared.call.CallEnd.TheVariants as ends
-use Rattle.set_calls.specs.reading.Calling.{IsAt, IsCall, ItemCame, Leaves, call_end, came_data, came_end, done_data}
+use Rattle.set_calls.specs.reading.Calling.{IsAt, IsCall, IsPreparedSo, ItemCame, Leaves, call_end, came_data, came_end, done_data}
 
 -- ---- steps
 
@@ -111,11 +115,20 @@ never_comes : (e : CallEnd) (done : Done) → call_end e ≢ Comes done
 never_comes (ends.Fails e) done is = absurd (cc is)
 never_comes ends.Memory done is = absurd (cc is)
 
--- an item that passed its checks came to what its steps came to
-pub steps_came : (c : SetCall) (item : spec.Item) (job : Job) (s after : CallState) (came : Result Done CallEnd) (es : List Event) → checked c s item ≡ Ok job
-    → StepsItem item job s (came_end came) es after → ItemCame c item s came es after
-steps_came c item job s after (Ok done) es is steps = Stepped job is steps
-steps_came c item job s after (Err e) es is steps = inl (record { job = job; is_checked = is; steps = steps; not_done = never_comes e })
+-- an item whose steps are known came to what they came to
+steps_came : (c : SetCall) (item : spec.Item) (drawn : Option Drawn) (job : Job) (s after : CallState) (came : Result Done CallEnd) (es fs : List Event)
+    → IsPrepared c s item drawn (Ok job) → es ≡ drawing drawn → StepsItem item job s (came_end came) fs after → ItemCame c item s came (es ++ fs) after
+steps_came c item drawn job s after (Ok done) es fs is drew steps = Stepped drawn job fs is steps (ap (λ (l : List Event). l ++ fs) drew)
+steps_came c item drawn job s after (Err e) es fs is drew steps =
+    inl (record {
+      drawn = drawn;
+      job = job;
+      doing = fs;
+      is_prepared = is;
+      steps = steps;
+      events_are = ap (λ (l : List Event). l ++ fs) drew;
+      not_done = never_comes e;
+    })
 
 rose_none : (n : ℕ) → RoseBy 0 n n
 rose_none n = omega arith
@@ -124,10 +137,13 @@ if_ok : (came : Result Done CallEnd) (b c : Bool) → b ≡ c → IfOk came (λ 
 if_ok (Ok done) b c is = is
 if_ok (Err e) b c is = tt
 
+rose_same : (was now : ℕ) → now ≡ was → RoseBy 0 was now
+rose_same was now same = subst (λ (n : ℕ). RoseBy 0 was n) (sym same) (rose_none was)
+
 -- nothing was done
-stays : (client : ClientState) (mirror : Told) (made : MadeFolders) (changed : Bool) (came : Result Done CallEnd) (n : ℕ) (s : CallState) → IsAt client mirror.mail made changed s
-    → Leaves client mirror mirror changed came n n s s
-stays client mirror made changed came n s at =
+stays : (client : ClientState) (mirror : Told) (made : MadeFolders) (changed : Bool) (came : Result Done CallEnd) (was now : ℕ) (s : CallState) → now ≡ was
+    → IsAt client mirror.mail made changed s → Leaves client mirror mirror changed came was now s s
+stays client mirror made changed came was now s same at =
     record {
       stands = at.stands;
       mail_is = at.mail_is;
@@ -138,21 +154,77 @@ stays client mirror made changed came n s at =
       counted = λ some known. refl;
       lost = 0;
       lost_is = omega arith;
-      rose = rose_none n;
+      rose = rose_same was now same;
     }
 
-pub refused : (c : SetCall) (item : spec.Item) (s : CallState) (e : SetError) (client : ClientState) (mirror : Told) (made : MadeFolders) (changed : Bool) (n : ℕ)
-    → checked c s item ≡ Err e → IsAt client mirror.mail made changed s
-    → (after : CallState) × ItemCame c item s (Ok (Not e)) [] after × Leaves client mirror mirror changed (Ok (Not e)) n n s after
-refused c item s e client mirror made changed n is at = (s, Refused e is refl refl refl, stays client mirror made changed (Ok (Not e)) n s at)
+-- nothing was drawn for an item whose steps are known, or that its checks refuse
+pub prepared_at_once : (c : SetCall) (s : CallState) (item : spec.Item) (job : Job) → Checks c.rules (given_at c s) item (Ok (Steps job))
+    → IsPreparedSo c s item (Ok (Ok job)) []
+prepared_at_once c s item job checks = record { drawn = None; events_are = refl; is = checks; lacks = tt }
 
--- there was no memory for its checks
-pub unchecked : (c : SetCall) (item : spec.Item) (s : CallState) (client : ClientState) (mirror : Told) (made : MadeFolders) (changed : Bool) (n : ℕ) (came : Result Done CallEnd)
-    → came ≡ Err ends.Memory → IsAt client mirror.mail made changed s
-    → (after : CallState) × ItemCame c item s came [] after × Leaves client mirror mirror changed came n n s after
-unchecked c item s client mirror made changed n came is at =
-    subst (λ (r : Result Done CallEnd). (after : CallState) × ItemCame c item s r [] after × Leaves client mirror mirror changed r n n s after) (sym is)
-    (s, inr (refl, refl, refl), stays client mirror made changed (Err ends.Memory) n s at)
+pub refused_at_once : (c : SetCall) (s : CallState) (item : spec.Item) (e : SetError) → Checks c.rules (given_at c s) item (Err e) → IsPreparedSo c s item (Ok (Err e)) []
+refused_at_once c s item e checks = record { drawn = None; events_are = refl; is = checks; lacks = tt }
+
+pub lacks_at_once : (c : SetCall) (s : CallState) (item : spec.Item) (e : AllocError) → IsPreparedSo c s item (Err e) []
+lacks_at_once c s item e = record { drawn = None; events_are = refl; is = tt; lacks = tt }
+
+-- its steps are made of what was drawn
+pub prepared_of_drawn : (c : SetCall) (s : CallState) (item : spec.Item) (ready : Ready) (drawn : Drawn) (came : Result (Result Job SetError) AllocError)
+    → Checks c.rules (given_at c s) item (Ok (Drawing ready)) → IfOk came (λ made. Makes ready drawn made) → IsPreparedSo c s item came (drawing (Some drawn))
+prepared_of_drawn c s item ready drawn (Ok made) checks so = record { drawn = Some drawn; events_are = refl; is = (ready, checks, so); lacks = tt }
+prepared_of_drawn c s item ready drawn (Err e) checks so = record { drawn = Some drawn; events_are = refl; is = tt; lacks = (ready, checks) }
+
+-- no part of the outside has failed, so the link hasn't
+link_same : (before after : Faults) → NoFault before after → after.link ≡ before.link
+link_same before after same = ap (λ (f : Faults). f.link) same
+
+-- what is known of an item before a command is sent for it
+abbrev pub PreparesSay : Call → ClientState → Mail → MadeFolders → spec.Item → Result (Result Job SetError) AllocError → List Event → Type 0
+PreparesSay call client mail made item came es =
+    (c : SetCall) (s : CallState) (changed : Bool) → IsCall call c → IsAt client mail made changed s → IsPreparedSo c s item came es
+
+-- and of an item in its call
+abbrev pub ItemSays : Call → ClientState → ClientState → Told → Told → MadeFolders → Bool → Bool → ℕ → ℕ → spec.Item → Result Done CallEnd → List Event → Type 0
+ItemSays call client now_client mirror told_now made changed now_changed was now item came es =
+    (c : SetCall) (s : CallState) → IsCall call c → IsAt client mirror.mail made changed s
+    → (after : CallState) × ItemCame c item s came es after × Leaves now_client mirror told_now now_changed came was now s after
+
+module _ (call : Call) (client : ClientState) (mirror : Told) (made : MadeFolders) (changed : Bool) (item : spec.Item) (prepared : Result (Result Job SetError) AllocError)
+    (was mid : Faults) (same : NoFault was mid) where
+  -- it is refused
+  pub refused : (e : SetError) (es : List Event) → prepared ≡ Ok (Err e) → PreparesSay call client mirror.mail made item prepared es
+      → ItemSays call client client mirror mirror made changed changed was.link mid.link item (Ok (Not e)) es
+  refused e es is says c s here at =
+      let p = says c s changed here at in
+      let came : IsPrepared c s item p.drawn (Err e) = subst (λ (r : Result (Result Job SetError) AllocError). IfOk r (λ made. IsPrepared c s item p.drawn made)) is p.is in
+      (s, Refused p.drawn e came refl p.events_are refl, stays client mirror made changed (Ok (Not e)) was.link mid.link s (link_same was mid same) at)
+
+  -- there was no memory before a command was sent for it
+  pub unprepared : (e : AllocError) (came : Result Done CallEnd) (es : List Event) → prepared ≡ Err e → came ≡ Err ends.Memory
+      → PreparesSay call client mirror.mail made item prepared es → ItemSays call client client mirror mirror made changed changed was.link mid.link item came es
+  unprepared e came es is lacks says c s here at =
+      let p = says c s changed here at in
+      let draws : IsDrawnFor c s (item ∷ []) p.drawn = subst (λ (r : Result (Result Job SetError) AllocError). OnErr r (IsDrawnFor c s (item ∷ []) p.drawn)) is p.lacks in
+      subst (λ (r : Result Done CallEnd). (after : CallState) × ItemCame c item s r es after × Leaves client mirror mirror changed r was.link mid.link s after) (sym lacks) (
+        s,
+        inr (refl, record { drawn = p.drawn; draws = draws; events_are = p.events_are; same = refl }),
+        stays client mirror made changed (Err ends.Memory) was.link mid.link s (link_same was mid same) at,
+      )
+
+  -- its steps are done
+  pub stepped : (job : Job) (now_client : ClientState) (told_now : Told) (now_changed : Bool) (now : ℕ) (came : Result Done CallEnd) (es fs : List Event) → prepared ≡ Ok (Ok job)
+      → PreparesSay call client mirror.mail made item prepared es
+      → ((i : spec.Item) (s : CallState) → Stands client s.life → s.mail ≡ mirror.mail → any_change s.exchanges ≡ changed
+      → (after : CallState) × StepsItem i job s (came_end came) fs after × Leaves now_client mirror told_now now_changed came mid.link now s after)
+      → ItemSays call client now_client mirror told_now made changed now_changed was.link now item came (es ++ fs)
+  stepped job now_client told_now now_changed now came es fs is says does c s here at =
+      let p = says c s changed here at in
+      let steps : IsPrepared c s item p.drawn (Ok job) = subst (λ (r : Result (Result Job SetError) AllocError). IfOk r (λ made. IsPrepared c s item p.drawn made)) is p.is in
+      let t = does item s at.stands at.mail_is at.changed_is in (
+        t.0,
+        steps_came c item p.drawn job s t.0 came es fs steps p.events_are t.1,
+        subst (λ (n : ℕ). Leaves now_client mirror told_now now_changed came n now s t.0) (link_same was mid same) t.2,
+      )
 
 -- ---- mail that stays, and counts of what changed in it
 
@@ -197,9 +269,15 @@ not_made made (spec.Destroy text) e = refl
 
 made_after : (c : SetCall) (item : spec.Item) (s after : CallState) (done : Done) (es : List Event) → TakesItem c item s done es after
     → after.made ≡ made_with s.made item (Comes done)
-made_after c item s after done es (Refused e is came none same) =
+made_after c item s after done es (Refused drawn e is came events_are same) =
     ap (λ (t : CallState). t.made) same ∙ not_made s.made item e ∙ ap (λ (d : Done). made_with s.made item (Comes d)) (sym came)
-made_after c item s after done es (Stepped job is steps) = steps.made_is
+made_after c item s after done es (Stepped drawn job doing is steps events_are) = steps.made_is
+
+-- what was drawn was for the first of the items that are left
+drawn_first : (c : SetCall) (s : CallState) (item : spec.Item) (later : List spec.Item) (drawn : Option Drawn) → IsDrawnFor c s (item ∷ []) drawn
+    → IsDrawnFor c s (item ∷ later) drawn
+drawn_first c s item later None draws = tt
+drawn_first c s item later (Some d) draws = draws
 
 done_has_memory : (done : Done) → Ok done ≢ Err ends.Memory
 done_has_memory done is = absurd (cc is)
@@ -208,22 +286,21 @@ end_has_memory : (e : CallEnd) → (came_data (Err e) ≢ Err OutOfMemory) → (
 end_has_memory (ends.Fails e) some came is lacks = absurd (cc (is, lacks))
 end_has_memory ends.Memory some came is lacks = some refl
 
-module _ {C : Type 0} (checks : C → Given → spec.Item → Result Job SetError) (call : Call C) (client : ClientState) (first : Told) (was : ℕ) where
+module _ (call : Call) (client : ClientState) (first : Told) (was : ℕ) where
   -- the items so far, by what was told meanwhile
   abbrev pub SoFar : ClientState → Told → MadeFolders → Bool → List (Item × Done) → ℕ → List Event → Type 0
-  SoFar now_client mirror made changed done now es = (c : SetCall) (life : LinkLife) → IsCall checks call c → Stands client life → (s : CallState)
+  SoFar now_client mirror made changed done now es = (c : SetCall) (life : LinkLife) → IsCall call c → Stands client life → (s : CallState)
       × DoesItems c (call_begun first.mail life) (map done_data done) es s × IsAt now_client mirror.mail made changed s × RoseBy s.lost was now
       × (s.mail ≡ fold told first.mail s.exchanges) × (AllReadKnown first.mail s.exchanges → mirror.changes ≡ first.changes)
 
   -- what is known of the next one
   abbrev pub NextSays : ClientState → Told → MadeFolders → Bool → ClientState → Told → Bool → ℕ → ℕ → spec.Item → Result Done CallEnd → List Event → Type 0
-  NextSays at mirror made changed now_client told_now now_changed before now item came es = (c : SetCall) (s : CallState) → IsCall checks call c
-      → IsAt at mirror.mail made changed s
-      → (after : CallState) × ItemCame c item s came es after × Leaves now_client mirror told_now now_changed came before now s after
+  NextSays at mirror made changed now_client told_now now_changed before now item came es =
+      ItemSays call at now_client mirror told_now made changed now_changed before now item came es
 
   -- what the whole is said to be
   abbrev pub Whole : List spec.Item → Result (Vec (Item × Done) Global) CallEnd → ClientState → Told → ℕ → List Event → Type 0
-  Whole items came now_client told_now now es = (c : SetCall) (life : LinkLife) → IsCall checks call c → Stands client life → (after : CallState)
+  Whole items came now_client told_now now es = (c : SetCall) (life : LinkLife) → IsCall call c → Stands client life → (after : CallState)
       × RunsItems c items (call_begun first.mail life) (came_data came) es after × Stands now_client after.life × (after.mail ≡ told_now.mail)
       × (came_data came ≢ Err OutOfMemory → AllReadKnown first.mail after.exchanges → told_now.changes ≡ first.changes) × RoseBy after.lost was now
 
@@ -245,7 +322,7 @@ module _ {C : Type 0} (checks : C → Given → spec.Item → Result Job SetErro
   wants items later done now_client told_now made changed now came es all lacks so c life is stands =
       let t = so c life is stands in
       let came_is : came_data came ≡ Err OutOfMemory = ap came_data lacks in
-      (t.0, Wanting (map done_data done) later t.1 all came_is, t.2.stands, t.2.mail_is, (λ some known. absurd (some came_is)), t.3)
+      (t.0, Wanting (map done_data done) later es None t.1 tt all (sym (append-nil es)) came_is, t.2.stands, t.2.mail_is, (λ some known. absurd (some came_is)), t.3)
 
   -- what is so of a call after an item more, whatever is noted of it
   record After (done : List (Item × Done)) (c : SetCall) (life : LinkLife) (s : CallState) (now_client : ClientState) (told_now : Told) (now_changed : Bool) (now : ℕ)
@@ -311,7 +388,7 @@ module _ {C : Type 0} (checks : C → Given → spec.Item → Result Job SetErro
       let n = says c t.0 is t.2 in
       let o = after_one done item came mirror now_client told_now now_changed before now es fs c life t.0 n.0 t.1 t.3 t.4 t.5 n.1 n.2 in
       let result_is : came_data result ≡ Err OutOfMemory = ap came_data lacks in
-      (n.0, Wanting (map done_data (done ++ (item, came) ∷ [])) later o.course all result_is, o.stands, o.mail_is, (λ some known. absurd (some result_is)), o.rose)
+      (n.0, Wanting (map done_data (done ++ (item, came) ∷ [])) later (es ++ fs) None o.course tt all (sym (append-nil (es ++ fs))) result_is, o.stands, o.mail_is, (λ some known. absurd (some result_is)), o.rose)
 
   -- the next one ends the call, or there is no memory for it
   pub stops : (items later : List spec.Item) (done : List (Item × Done)) (item : spec.Item) (e : CallEnd) (taken : Result Done CallEnd) (came : Result (Vec (Item × Done) Global) CallEnd)
@@ -342,8 +419,10 @@ module _ {C : Type 0} (checks : C → Given → spec.Item → Result Job SetErro
       ended : (c : SetCall) (life : LinkLife) (mid after : CallState) → DoesItems c (call_begun first.mail life) (map done_data done) es mid → ItemCame c item mid (Err e) fs after
           → RunsItems c items (call_begun first.mail life) (Err (call_end e)) (es ++ fs) after
       ended c life mid after course (inl stop) = Stopped (map done_data done) item later mid es fs (call_end e) course stop all refl refl
-      ended c life mid after course (inr (memory, none, same)) =
-          let here : DoesItems c (call_begun first.mail life) (map done_data done) (es ++ fs) after =
-          subst (λ (l : List Event). DoesItems c (call_begun first.mail life) (map done_data done) l after) (sym (ap (λ (l : List Event). es ++ l) none ∙ append-nil es))
-          (subst (λ (m : CallState). DoesItems c (call_begun first.mail life) (map done_data done) es m) (sym same) course) in
-          Wanting (map done_data done) (item ∷ later) here all (ap (λ (x : CallEnd). Err (call_end x)) memory)
+      ended c life mid after course (inr (memory, lacks)) =
+          let here : DoesItems c (call_begun first.mail life) (map done_data done) es after =
+          subst (λ (m : CallState). DoesItems c (call_begun first.mail life) (map done_data done) es m) (sym lacks.same) course in
+          let draws : IsDrawnFor c after (item ∷ later) lacks.drawn =
+          subst (λ (m : CallState). IsDrawnFor c m (item ∷ later) lacks.drawn) (sym lacks.same) (drawn_first c mid item later lacks.drawn lacks.draws) in
+          Wanting (map done_data done) (item ∷ later) es lacks.drawn here draws all (ap (λ (l : List Event). es ++ l) lacks.events_are)
+          (ap (λ (x : CallEnd). Err (call_end x)) memory)

@@ -1,6 +1,7 @@
 -- The items of a changing call, one after another in what is left of its request's link life, and what each came to (RFC 8620 section 5.3).
-use Rattle.std.specs.Prelude.{◌≡◌, ◌≢◌, ◌++◌, ◌+◌, ◌&&◌, ℕ, List, [], ◌∷◌, map, Result, Ok, Err}
+use Rattle.std.specs.Prelude.{◌≡◌, ◌≢◌, ◌++◌, ◌+◌, ◌&&◌, ℕ, List, [], ◌∷◌, map, Option, Some, None, Result, Ok, Err}
 use Rattle.gate_world.specs.declared.event.Event.{Event}
+use Rattle.gate_world.specs.declared.event.Event.TheVariants.{Clock, Word}
 use Rattle.told_folder.specs.declared.exchange.Exchange.{Exchange}
 use Rattle.told_mail.specs.Mail.{Mail}
 use Rattle.imap_client.specs.LinkLife.{LinkLife, ClientState, selected, special_use}
@@ -12,19 +13,22 @@ use Rattle.set_jobs.specs.declared.done.SetError.{SetError}
 use Rattle.set_jobs.specs.declared.job.Job.{Job}
 use Rattle.set_order.specs.Ordered.{Item, Create}
 use Rattle.set_given.specs.Given.{Given, MadeFolders}
+use Rattle.set_methods.specs.Checks.{Checks, Drawn, Prepares, Rules}
+use Rattle.set_methods.specs.declared.checks.Passed.TheVariants.{Drawing}
+use Rattle.set_methods.specs.declared.checks.Ready.{Ready}
 use Rattle.set_items.specs.declared.item.ItemEnd.{ItemEnd}
 use Rattle.set_items.specs.declared.item.ItemEnd.TheVariants.{Comes, OutOfMemory}
 use Rattle.set_items.specs.Talks.{DoesItem, fault_in}
 
 -- ---- a call
 
--- A call: what has become of the mail as it begins, the ids that its request created before it, the creation ids of what it is to make, and what an
--- item has to pass before a command is sent for it: it is the steps of a job then, or is refused.
+-- A call: what has become of the mail as it begins, the ids that its request created before it, the creation ids of what it is to make, and what its
+-- items have to pass before a command is sent for them.
 pub record SetCall : Type 0 where
   pub history : MailHistory
   pub created : Ids
   pub making : List (List ℕ)
-  pub check : Given → Item → Result Job SetError
+  pub rules : Rules
 
 -- A call so far: the mail that is told, what is left of the link life, what was exchanged in it for the call, the folders that were made, and how many
 -- faults of the link are blamed.
@@ -51,9 +55,14 @@ given_at c s = record {
   made = s.made;
 }
 
--- the steps of an item, or why it is refused, at this point of the call
-abbrev pub checked : SetCall → CallState → Item → Result Job SetError
-checked c s item = c.check (given_at c s) item
+-- the steps of an item, or why it is refused, at this point of the call, by what was drawn for it
+abbrev pub IsPrepared : SetCall → CallState → Item → Option Drawn → Result Job SetError → Type 0
+IsPrepared c s item drawn came = Prepares c.rules (given_at c s) item drawn came
+
+-- the moment, and then the word
+abbrev pub drawing : Option Drawn → List Event
+drawing None = []
+drawing (Some drawn) = Clock drawn.now ∷ Word drawn.word ∷ []
 
 -- ---- one item
 
@@ -70,16 +79,22 @@ pub record StepsItem (item : Item) (job : Job) (before : CallState) (ends : Item
   pub made_is : after.made ≡ made_with before.made item ends
   pub lost_is : after.lost ≡ before.lost + fault_in before.life.goes_on after.life.goes_on does.runs.result
 
--- An item came to this: it is refused by its checks, without a command, or its steps are done.
+-- An item came to this: it is refused by its checks, or by what is made of it, without a command; or its steps are done. What is drawn for it is drawn once,
+-- before its first command.
 pub data TakesItem (c : SetCall) (item : Item) (before : CallState) (done : Done) (events : List Event) (after : CallState) : Type 0 where
-  Refused : (e : SetError) → checked c before item ≡ Err e → done ≡ Not e → events ≡ [] → after ≡ before → TakesItem c item before done events after
-  Stepped : (job : Job) → checked c before item ≡ Ok job → StepsItem item job before (Comes done) events after → TakesItem c item before done events after
+  Refused : (drawn : Option Drawn) (e : SetError) → IsPrepared c before item drawn (Err e) → done ≡ Not e → events ≡ drawing drawn → after ≡ before
+      → TakesItem c item before done events after
+  Stepped : (drawn : Option Drawn) (job : Job) (doing : List Event) → IsPrepared c before item drawn (Ok job) → StepsItem item job before (Comes done) doing after
+      → events ≡ drawing drawn ++ doing → TakesItem c item before done events after
 
 -- An item's steps end the call.
 pub record StopsAt (c : SetCall) (item : Item) (before : CallState) (ends : ItemEnd) (events : List Event) (after : CallState) : Type 0 where
+  pub drawn : Option Drawn
   pub job : Job
-  pub is_checked : checked c before item ≡ Ok job
-  pub steps : StepsItem item job before ends events after
+  pub doing : List Event
+  pub is_prepared : IsPrepared c before item drawn (Ok job)
+  pub steps : StepsItem item job before ends doing after
+  pub events_are : events ≡ drawing drawn ++ doing
   pub not_done : (done : Done) → ends ≢ Comes done
 
 -- ---- items in order
@@ -100,7 +115,14 @@ pub data DoesItems (c : SetCall) (before : CallState) : List (Item × Done) → 
 abbrev pub items_of : List (Item × Done) → List Item
 items_of done = map (λ (e : Item × Done). e.0) done
 
--- All items of a list were done; or one of them ended the call, after those before it; or memory ran out after some of them.
+-- Nothing was drawn; or a moment and a word were, for the first of these items, which had passed its checks.
+abbrev pub IsDrawnFor : SetCall → CallState → List Item → Option Drawn → Type 0
+IsDrawnFor c s items None = Unit {0}
+IsDrawnFor c s [] (Some drawn) = ⊥
+IsDrawnFor c s (item ∷ items) (Some drawn) = (ready : Ready) × Checks c.rules (given_at c s) item (Ok (Drawing ready))
+
+-- All items of a list were done; or one of them ended the call, after those before it; or memory ran out after some of them, before a command was sent for the
+-- next one.
 pub data RunsItems (c : SetCall) (items : List Item) (before : CallState) (result : Result (List (Item × Done)) ItemEnd) (events : List Event) (after : CallState)
     : Type 0 where
   AllDone : (done : List (Item × Done)) → DoesItems c before done events after → items_of done ≡ items → result ≡ Ok done
@@ -108,5 +130,6 @@ pub data RunsItems (c : SetCall) (items : List Item) (before : CallState) (resul
   Stopped : (done : List (Item × Done)) (item : Item) (later : List Item) (mid : CallState) (so_far last : List Event) (ends : ItemEnd)
       → DoesItems c before done so_far mid → StopsAt c item mid ends last after → items_of done ++ item ∷ later ≡ items → events ≡ so_far ++ last
       → result ≡ Err ends → RunsItems c items before result events after
-  Wanting : (done : List (Item × Done)) (later : List Item) → DoesItems c before done events after → items_of done ++ later ≡ items
-      → result ≡ Err OutOfMemory → RunsItems c items before result events after
+  Wanting : (done : List (Item × Done)) (later : List Item) (so_far : List Event) (drawn : Option Drawn) → DoesItems c before done so_far after
+      → IsDrawnFor c after later drawn → items_of done ++ later ≡ items → events ≡ so_far ++ drawing drawn → result ≡ Err OutOfMemory
+      → RunsItems c items before result events after

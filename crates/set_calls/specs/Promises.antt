@@ -1,13 +1,14 @@
 -- What laws say of the items of a call.
-use Rattle.std.specs.Prelude.{◌≡◌, ◌≤◌, ℕ, ◌+◌, ◌++◌, List, [], ◌∷◌, Ok}
+use Rattle.std.specs.Prelude.{◌≡◌, ◌≤◌, ℕ, ◌+◌, ◌++◌, List, [], ◌∷◌, Option, Ok}
 use Rattle.gate_world.specs.declared.event.Event.{Event}
 use Rattle.jmap_arguments.specs.declared.method_error.MethodError.{MethodError}
 use Rattle.set_jobs.specs.declared.done.Done.{Done}
 use Rattle.set_jobs.specs.declared.job.Job.{Job}
 use Rattle.set_order.specs.Ordered.{Item, Create}
 use Rattle.set_given.specs.Given.{Given}
+use Rattle.set_methods.specs.Checks.{Drawn, Prepares}
 use Rattle.set_items.specs.Causes.{Ending}
-use Rattle.set_items.specs.Commands.{IsFit, appends_of}
+use Rattle.set_items.specs.Commands.{BeginsHeld, IsFit, appends_of}
 use Rattle.set_items.specs.declared.item.ItemEnd.TheVariants.{Ends}
 use Rattle.set_items.specs.Talks.{ending_of}
 use Rattle.set_calls.specs.Calls.{SetCall, CallState, DoesItems, StopsAt, items_of}
@@ -26,9 +27,9 @@ pub record IsEndedBy (Why : Ending → Type 0) (e : MethodError) (c : SetCall) (
   pub events_are : events ≡ earlier ++ last
   pub why : Why (ending_of mid.exchanges stop.steps.does.runs)
 
--- each job that an item is has the steps that it may have
+-- each job that an item is has the steps that it may have, over the mail that it is checked over
 abbrev pub ChecksFit : SetCall → Type 0
-ChecksFit c = (g : Given) (item : Item) (job : Job) → c.check g item ≡ Ok job → IsFit job
+ChecksFit c = (g : Given) (item : Item) (drawn : Option Drawn) (job : Job) → Prepares c.rules g item drawn (Ok job) → IsFit job × BeginsHeld g.mail job
 
 abbrev pub creation_count : Item → ℕ
 creation_count (Create key ms) = 1
@@ -41,4 +42,5 @@ creations_in (i ∷ is) = creation_count i + creations_in is
 
 -- an item that is to make something has one APPEND at most, and no other one has any
 abbrev pub ChecksAppend : SetCall → Type 0
-ChecksAppend c = (g : Given) (item : Item) (job : Job) → c.check g item ≡ Ok job → appends_of job.steps ≤ creation_count item
+ChecksAppend c = (g : Given) (item : Item) (drawn : Option Drawn) (job : Job) → Prepares c.rules g item drawn (Ok job)
+    → appends_of job.steps ≤ creation_count item

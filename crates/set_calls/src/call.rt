@@ -3,12 +3,13 @@
 use jmap_arguments::MethodError;
 use jmap_core::CreatedIds;
 use mail_state::MailState;
+use set_methods::SetChecks;
 use std::alloc::AllocError;
 use std::collections::BTreeSet;
 
 /// What a call's items are done over.
 #[derive(Clone, Copy)]
-pub struct Call<'a, 'k, C> {
+pub struct Call<'a, 'k> {
     /// The mail as it is served, as the call begins.
     pub state: &'a MailState,
     /// The ids that the request created before the call.
@@ -16,7 +17,7 @@ pub struct Call<'a, 'k, C> {
     /// The creation ids of what the call is to make.
     pub making: &'a BTreeSet<&'k str>,
     /// What an item has to pass.
-    pub checks: &'a C,
+    pub checks: SetChecks,
 }
 
 /// Why a call's items weren't all done.

@@ -1,6 +1,6 @@
 // The items of a call, one after another.
-ghost use Rattle.std.specs.Prelude.{◌≡◌, ◌≢◌, Bool, Err, IfOk, OnOk, List, false, map};
-ghost use Rattle.gate_world.specs.Causes.{LinkAlone, RoseBy};
+ghost use Rattle.std.specs.Prelude.{◌≡◌, ◌≢◌, Bool, Err, IfOk, Ok, OnOk, List, false, map};
+ghost use Rattle.gate_world.specs.Causes.{LinkAlone, NoFault, RoseBy};
 ghost use Rattle.gate_world.specs.Tape.{Adds};
 ghost use Rattle.told_mail.specs.Mail.{IsNextMail};
 ghost use Rattle.imap_client.specs.LinkLife.{LinkLife, Stands};
@@ -12,32 +12,33 @@ ghost use Rattle.set_given.specs.reading.Makings.{IsMade};
 ghost use Rattle.set_items.specs.declared.item.ItemEnd.TheVariants.{Comes, OutOfMemory};
 ghost use Rattle.set_items.specs.Ends.{any_change};
 ghost use Rattle.set_items.specs.Talks.{AllReadKnown};
-ghost use Rattle.set_calls.specs.Calls.{CallState, RunsItems, SetCall, StepsItem, call_begun, checked, made_with};
-ghost use Rattle.set_calls.specs.reading.Calling.{IsAt, IsCall, ItemCame, Leaves, came_data, came_end};
+ghost use Rattle.set_methods.specs.Checks.{Checks};
+ghost use Rattle.set_calls.specs.Calls.{CallState, RunsItems, SetCall, StepsItem, call_begun, given_at, made_with};
+ghost use Rattle.set_calls.specs.reading.Calling.{IsAt, IsCall, IsPreparedSo, ItemCame, Leaves, came_data, came_end};
 
 use crate::call::{Call, CallEnd};
-use crate::checks::Checks;
-use gate_world::Link;
+use gate_world::{Chance, Clock, Link};
 use imap_client::Client;
 use set_given::{Given, MadeFolders};
 use set_items::{ItemEnd, do_item};
 use set_jobs::{Done, Job, SetError};
+use set_methods::Passed;
 use set_order::Item;
 use std::alloc::{AllocError, Global};
 use told_mail::Mirror;
 use told_mail::laws::next_mail_joins;
 
-/// The steps of the item at this point of the call, or why it is refused.
-fn check_item<'k, C: Checks>(
+/// What the item comes to by its checks at this point of the call.
+fn check_item<'k>(
     alloc: Global,
     client: &Client,
     mirror: &Mirror,
-    call: &Call<'_, 'k, C>,
+    call: &Call<'_, 'k>,
     made: &MadeFolders<'k>,
     item: &Item<'_>,
-) -> Result<Result<Job, SetError>, AllocError>
-    ensures { (c : SetCall) (s : CallState) (changed : Bool) → IsCall C.checked call.now c → IsAt client.now mirror.now.mail made.now changed s
-        → IfOk result (λ came. came ≡ checked c s (item_data item.now)) }
+) -> Result<Result<Passed, SetError>, AllocError>
+    ensures { (c : SetCall) (s : CallState) (changed : Bool) → IsCall call.now c → IsAt client.now mirror.now.mail made.now changed s
+        → IfOk result (λ came. Checks c.rules (given_at c s) (item_data item.now) came) }
 {
     let given = Given {
         state: call.state,
@@ -49,6 +50,64 @@ fn check_item<'k, C: Checks>(
         made,
     };
     call.checks.check(alloc, &given, item)
+}
+
+/// The steps of an item that passed its checks, or why it is refused all the same. A moment and a word are drawn where its steps are
+/// made of them.
+fn steps_of<W: Clock + Chance>(
+    world: &mut W,
+    passed: Passed,
+) -> Result<Result<Job, SetError>, AllocError>
+    ensures tape { Adds (W.tape world.old) (W.tape world.new) (λ es. (c : SetCall) (s : CallState) (item : ItemData)
+        → Checks c.rules (given_at c s) item (Ok passed) → IsPreparedSo c s item result es) }
+    ensures cause { NoFault (W.faults world.old) (W.faults world.new) }
+    ensures hidden { W.hidden world.new ≡ W.hidden world.old }
+{
+    match passed {
+        Passed::Steps(job) => Ok(Ok(job)),
+        Passed::Drawing(ready) => {
+            let _now = world.now();
+            let _word = world.word();
+            match ready {}
+        }
+    }
+}
+
+/// The steps of an item that came to this by its checks, or why it is refused.
+fn settle<W: Clock + Chance>(
+    world: &mut W,
+    checked: Result<Passed, SetError>,
+) -> Result<Result<Job, SetError>, AllocError>
+    ensures tape { Adds (W.tape world.old) (W.tape world.new) (λ es. (c : SetCall) (s : CallState) (item : ItemData)
+        → Checks c.rules (given_at c s) item checked → IsPreparedSo c s item result es) }
+    ensures cause { NoFault (W.faults world.old) (W.faults world.new) }
+    ensures hidden { W.hidden world.new ≡ W.hidden world.old }
+{
+    match checked {
+        Ok(passed) => steps_of(world, passed),
+        Err(error) => Ok(Err(error)),
+    }
+}
+
+/// The steps of the item at this point of the call, or why it is refused.
+fn prepare_item<'k, W: Clock + Chance>(
+    alloc: Global,
+    client: &Client,
+    world: &mut W,
+    mirror: &Mirror,
+    call: &Call<'_, 'k>,
+    made: &MadeFolders<'k>,
+    item: &Item<'_>,
+) -> Result<Result<Job, SetError>, AllocError>
+    ensures tape { Adds (W.tape world.old) (W.tape world.new) (λ es. (c : SetCall) (s : CallState) (changed : Bool) → IsCall call.now c
+        → IsAt client.now mirror.now.mail made.now changed s → IsPreparedSo c s (item_data item.now) result es) }
+    ensures cause { NoFault (W.faults world.old) (W.faults world.new) }
+    ensures hidden { W.hidden world.new ≡ W.hidden world.old }
+{
+    match check_item(alloc, client, mirror, call, made, item) {
+        Ok(checked) => settle(world, checked),
+        Err(error) => Err(error),
+    }
 }
 
 /// Does the steps of an item.
@@ -76,28 +135,28 @@ fn do_steps<L: Link>(
     }
 }
 
-/// What an item comes to: it is checked, and its steps are done where it passes.
-fn take_item<'k, L: Link, C: Checks>(
+/// What an item comes to: it is checked, what its steps are made of is drawn, and its steps are done where it isn't refused.
+fn take_item<'k, L: Link + Clock + Chance>(
     alloc: Global,
     client: &mut Client,
     link: &mut L,
     mirror: &mut Mirror,
-    call: &Call<'_, 'k, C>,
+    call: &Call<'_, 'k>,
     made: &MadeFolders<'k>,
     changed: &mut bool,
     item: &Item<'_>,
 ) -> Result<Done, CallEnd>
-    ensures tape { Adds (L.tape link.old) (L.tape link.new) (λ es. (c : SetCall) (s : CallState) → IsCall C.checked call.now c
+    ensures tape { Adds (L.tape link.old) (L.tape link.new) (λ es. (c : SetCall) (s : CallState) → IsCall call.now c
         → IsAt client.old mirror.old.mail made.now changed.old s → (after : CallState) × ItemCame c (item_data item.now) s result es after
         × Leaves client.new mirror.old mirror.new changed.new result (L.faults link.old).link (L.faults link.new).link s after) }
     ensures counts { CountsOn mirror.old mirror.new }
     ensures next { IsNextMail mirror.old.mail mirror.new.mail }
-    ensures idle { client.old.alive ≡ false → (client.new ≡ client.old) × (link.new ≡ link.old) }
+    ensures idle { client.old.alive ≡ false → (client.new ≡ client.old) × NoFault (L.faults link.old) (L.faults link.new) }
     ensures alone { LinkAlone (L.faults link.old) (L.faults link.new) }
     ensures hidden { L.hidden link.new ≡ L.hidden link.old }
 {
     mirror.each_is_mail();
-    match check_item(alloc, client, mirror, call, made, item)? {
+    match prepare_item(alloc, client, link, mirror, call, made, item)? {
         Ok(job) => do_steps(alloc, client, link, mirror, job, changed),
         Err(error) => Ok(Done::Not(error)),
     }
@@ -115,22 +174,22 @@ fn note_made<'a>(made: &mut MadeFolders<'a>, item: &Item<'a>, done: &Done) -> Re
 
 /// Does the items of a call in order, and tells the mirror what completed exchanges say. It ends with the first item that ends the
 /// call, of which no further one is tried.
-pub fn run_items<'k, L: Link, C: Checks>(
+pub fn run_items<'k, L: Link + Clock + Chance>(
     alloc: Global,
     client: &mut Client,
     link: &mut L,
     mirror: &mut Mirror,
-    call: &Call<'_, 'k, C>,
+    call: &Call<'_, 'k>,
     items: &[Item<'k>],
 ) -> Result<Vec<(Item<'k>, Done)>, CallEnd>
-    ensures tape { Adds (L.tape link.old) (L.tape link.new) (λ es. (c : SetCall) (life : LinkLife) → IsCall C.checked call.now c → Stands client.old life
+    ensures tape { Adds (L.tape link.old) (L.tape link.new) (λ es. (c : SetCall) (life : LinkLife) → IsCall call.now c → Stands client.old life
         → (after : CallState) × RunsItems c (map item_data items.now) (call_begun mirror.old.mail life) (came_data result) es after
         × Stands client.new after.life × (after.mail ≡ mirror.new.mail)
         × (came_data result ≢ Err OutOfMemory → AllReadKnown mirror.old.mail after.exchanges → mirror.new.changes ≡ mirror.old.changes)
         × RoseBy after.lost (L.faults link.old).link (L.faults link.new).link) }
     ensures counts { CountsOn mirror.old mirror.new }
     ensures next { IsNextMail mirror.old.mail mirror.new.mail }
-    ensures idle { client.old.alive ≡ false → (client.new ≡ client.old) × (link.new ≡ link.old) }
+    ensures idle { client.old.alive ≡ false → (client.new ≡ client.old) × NoFault (L.faults link.old) (L.faults link.new) }
     ensures alone { LinkAlone (L.faults link.old) (L.faults link.new) }
     ensures hidden { L.hidden link.new ≡ L.hidden link.old }
 {

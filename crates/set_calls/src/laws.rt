@@ -21,7 +21,7 @@ use set_items::{
 pub fn calls_end_by_their_causes()
     ensures partly { (c : SetCall) (items : List Item) (m : Mail) (life : LinkLife) (after : CallState) (events : List Event) → ChecksFit c
         → RunsItems c items (call_begun m life) (Err (Ends ServerPartialFail)) events after → IsEndedBy FailedPartly ServerPartialFail c items (call_begun m life) after events }
-    ensures unavailable { (c : SetCall) (items : List Item) (m : Mail) (life : LinkLife) (after : CallState) (events : List Event)
+    ensures unavailable { (c : SetCall) (items : List Item) (m : Mail) (life : LinkLife) (after : CallState) (events : List Event) → ChecksFit c
         → RunsItems c items (call_begun m life) (Err (Ends ServerUnavailable)) events after → IsEndedBy WasUnavailable ServerUnavailable c items (call_begun m life) after events }
 {
     items_end_by_their_causes();

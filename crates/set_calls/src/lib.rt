@@ -2,11 +2,9 @@
 #![tactic(auto)]
 
 mod call;
-mod checks;
 mod items;
 mod laws;
 
 pub use call::{Call, CallEnd};
-pub use checks::Checks;
 pub use items::run_items;
 pub use laws::{calls_end_by_their_causes, no_append_is_repeated};

@@ -1,5 +1,5 @@
 -- Causes of each error end a call with it; in a life that had ended no command is cut off.
-use Rattle.std.proofs.Common.{◌≡◌, ◌≢◌, ◌⊎◌, ◌||◌, ◌&&◌, ◌++◌, ℕ, Bool, true, false, length, List, [], ◌∷◌, Option, Some, None, Result, Err, fold, refl, sym, ◌∙◌, ap, subst, inl, inr}
+use Rattle.std.proofs.Common.{◌≡◌, ◌⊎◌, ◌||◌, ◌&&◌, ◌++◌, ℕ, Bool, true, false, length, List, [], ◌∷◌, Option, Some, None, Result, Err, fold, refl, sym, ◌∙◌, ap, subst, inl, inr}
 use Rattle.std.proofs.lemmas.List.Folds.{list_any-append}
 use Rattle.gate_world.specs.declared.event.Event.{Event}
 use Rattle.imap_types.specs.declared.command.Command.{Command}
@@ -18,13 +18,13 @@ use Rattle.imap_client.specs.Refusals.{refusal_end}
 use Rattle.imap_client.specs.declared.plan.Due.{Due}
 use Rattle.imap_client.specs.declared.plan.Refusal.{Refusal}
 use Rattle.imap_client.specs.declared.plan.Due.TheVariants as due
-use Rattle.jmap_arguments.specs.declared.method_error.MethodError.TheVariants.{ServerUnavailable, ServerPartialFail}
+use Rattle.jmap_arguments.specs.declared.method_error.MethodError.TheVariants.{ServerPartialFail}
 use Rattle.told_changes.specs.Landings.{told_landing}
 use Rattle.told_changes.specs.Told.{told, is_changing}
 use Rattle.set_jobs.specs.declared.done.Done.{Done}
 use Rattle.set_jobs.specs.declared.step.Step.{Step}
 use Rattle.set_jobs.specs.declared.step.Step.TheVariants as step
-use Rattle.set_items.specs.Causes.{Ending, FailedPartly, Torn, NoLanding, NotListed, CutOff, NotRead, LaterRefused, WasUnavailable, HasCreated, IsLanding, IsList, exchanges_of}
+use Rattle.set_items.specs.Causes.{Ending, FailedPartly, Torn, NoLanding, NotListed, CutOff, NotRead, LaterRefused, HasCreated, IsLanding, IsList, exchanges_of}
 use Rattle.set_items.specs.Commands.{FitsChange, IsFit, MustBeObeyed}
 use Rattle.set_items.specs.Ends.{ItemEnd, Comes, Ends, OutOfMemory, any_change, is_change, is_cut_off, item_end, broken_end, done_end}
 use Rattle.set_jobs.specs.declared.job.Job.{Job}
@@ -33,7 +33,7 @@ use Rattle.set_items.specs.Items.{stage_after, doing_after, obeyed, refused, ref
 use Rattle.set_items.specs.Talks.{DoesItem, RunsSteps, ending_of, has_changed}
 use Rattle.set_items.proofs.Endings.{Says, broken_changed, created_changes, going_not_partly, item_mail, says_after, says_begun}
 use Rattle.set_items.proofs.Leaving.{Knowing, Knows, knows_answers, knows_begun, name_is}
-use Rattle.set_items.proofs.Staging.{OverSettled, OverPartly, over_where, item_more, is_not_ok, or_true_right, and_true, and_both, both_false, ran_answers}
+use Rattle.set_items.proofs.Staging.{OverSettled, OverPartly, over_where, item_more, is_not_ok, or_true_right, and_true, and_both, ran_answers}
 
 -- ---- truth values
 
@@ -57,15 +57,6 @@ none_cut : (d : Due) → is_cut_off d false ≡ false
 none_cut (due.Send c) = and_none (is_changing c)
 none_cut due.Done = refl
 none_cut (due.Fails w) = refl
-
-whole_if : (k torn : Bool) → (k ≡ true → torn ≡ false) → (k && torn) ≡ false
-whole_if true torn whole = whole refl
-whole_if false torn whole = refl
-
-whole_cut : (d : Due) (torn : Bool) → ((c : Command) → d ≡ due.Send c → is_changing c ≡ true → torn ≡ false) → is_cut_off d torn ≡ false
-whole_cut (due.Send c) torn whole = whole_if (is_changing c) torn (whole c refl)
-whole_cut due.Done torn whole = refl
-whole_cut (due.Fails w) torn whole = refl
 
 -- ---- a life that had ended
 
@@ -116,32 +107,6 @@ ended_before job call before after life left client events d over =
     call_changed call s r.exchanges r.follows.after left r.result r.follows.last r.follows.ends (ap (λ (l : LinkLife). l.goes_on) none.1 ∙ over) (ap any_change none.0)
     (λ partly. going_not_partly job.steps false job.done (sym (ap (λ (xs : List Exchange). (item_at s xs).stage) none.0) ∙ partly)) d.ends_is
 
--- ---- nothing was changed
-
-broken_none : (w : LinkEnd) → w ≢ end.Memory → broken_end w false ≡ Ends ServerUnavailable
-broken_none end.Memory n = absurd (n refl)
-broken_none end.Lost n = refl
-broken_none (end.Bad at) n = refl
-broken_none end.Stray n = refl
-broken_none end.Bye n = refl
-broken_none end.TooMuch n = refl
-broken_none end.Refused n = refl
-broken_none end.NoQresync n = refl
-broken_none end.Lacks n = refl
-
-none_changed : (e : Ending) → any_change (exchanges_of e) ≡ false → is_cut_off e.due e.torn ≡ false → has_changed e ≡ false
-none_changed e unchanged whole =
-    let both = both_false (any_change e.before) (any_change e.own) (sym (list_any-append is_change e.before e.own) ∙ unchanged) in
-    ap (λ v. v || (any_change e.own || is_cut_off e.due e.torn)) both.0 ∙ (ap (λ v. v || is_cut_off e.due e.torn) both.1 ∙ whole)
-
-pub unavailable_ends : (job : Job) (call : List Exchange) (before after : Mail) (life left : LinkLife) (client : ClientState) (ends : ItemEnd) (events : List Event)
-    (d : DoesItem job call before after life left client ends events) → WasUnavailable (ending_of call d.runs) → ends ≡ Ends ServerUnavailable
-unavailable_ends job call before after life left client ends events d was =
-    let e : Ending = ending_of call d.runs in
-    let stage : ItemStage = (item_at (item_start job before) d.runs.exchanges).stage in
-    d.ends_is ∙ (ap (λ (r : Result (Unit {0}) LinkEnd). item_end stage r (has_changed e)) was.result_is
-    ∙ (ap (λ (b : Bool). broken_end was.why b) (none_changed e was.unchanged (whole_cut e.due e.torn was.whole)) ∙ broken_none was.why was.no_want))
-
 -- ---- something was changed
 
 broken_some : (w : LinkEnd) → (broken_end w true ≡ OutOfMemory) ⊎ (broken_end w true ≡ Ends ServerPartialFail)
@@ -156,7 +121,7 @@ broken_some end.NoQresync = inr refl
 broken_some end.Lacks = inr refl
 
 -- a plan that has something due ends with an error
-err_where : (now : Due) (life left : LinkLife) (result : Result (Unit {0}) LinkEnd) (events : List Event) → IsEnd now life left result events → (now ≡ due.Done → ⊥)
+pub err_where : (now : Due) (life left : LinkLife) (result : Result (Unit {0}) LinkEnd) (events : List Event) → IsEnd now life left result events → (now ≡ due.Done → ⊥)
     → (e : LinkEnd) × (result ≡ Err e)
 err_where now life left result events (Finished done ok none same) undone = absurd (undone done)
 err_where now life left result events (Failed w is failed hangs same) undone = (refusal_end w, failed)
@@ -185,10 +150,10 @@ changed_joined e was = joined (any_change e.before) (any_change e.own) (is_cut_o
 changed_cut : (e : Ending) → is_cut_off e.due e.torn ≡ true → has_changed e ≡ true
 changed_cut e cut = or_true_right (any_change e.before) (any_change e.own || is_cut_off e.due e.torn) (or_true_right (any_change e.own) (is_cut_off e.due e.torn) cut)
 
-send_done : (c : Command) → due.Send c ≡ due.Done → ⊥
+pub send_done : (c : Command) → due.Send c ≡ due.Done → ⊥
 send_done c e = absurd (cc)
 
-fails_done : (w : Refusal) → due.Fails w ≡ due.Done → ⊥
+pub fails_done : (w : Refusal) → due.Fails w ≡ due.Done → ⊥
 fails_done w e = absurd (cc)
 
 -- by what was due then
@@ -218,7 +183,7 @@ done_partly stage m life left result events changed ends (Wanting failed hangs s
     inl (e ∙ ap (λ (r : Result (Unit {0}) LinkEnd). item_end stage r changed) failed)
 
 -- the last exchange was due after those before it
-asked_last : (s : ItemState) (xs : List Exchange) (x : Exchange) → Answers s (xs ++ x ∷ []) → item_due (item_at s xs).stage (item_at s xs).mail ≡ due.Send x.command
+pub asked_last : (s : ItemState) (xs : List Exchange) (x : Exchange) → Answers s (xs ++ x ∷ []) → item_due (item_at s xs).stage (item_at s xs).mail ≡ due.Send x.command
 asked_last s [] x a = a.0
 asked_last s (y ∷ ys) x a = asked_last (item_step s y) ys x a.1
 
@@ -317,7 +282,7 @@ refused_partly (Failing w) m x b asked must refusal says was = absurd (cc)
 
 -- ---- its last answer is a LIST without the folder that was made
 
-answers_front : (s : ItemState) (xs : List Exchange) (x : Exchange) → Answers s (xs ++ x ∷ []) → Answers s xs
+pub answers_front : (s : ItemState) (xs : List Exchange) (x : Exchange) → Answers s (xs ++ x ∷ []) → Answers s xs
 answers_front s [] x a = tt
 answers_front s (y ∷ ys) x a = (a.0, answers_front (item_step s y) ys x a.1)
 

@@ -1,5 +1,5 @@
 -- Why an item ends a call.
-use Rattle.std.proofs.Common.{◌≡◌, ◌≢◌, ◌++◌, ◌||◌, ◌&&◌, ℕ, ℤ, Bool, true, false, length, List, [], ◌∷◌, Option, Some, None, Result, Ok, Err, fold, refl, sym, ◌∙◌, ap, subst}
+use Rattle.std.proofs.Common.{◌≡◌, ◌≢◌, ◌++◌, ◌||◌, ◌&&◌, ℕ, ℤ, Bool, true, false, length, List, [], ◌∷◌, Option, Some, None, Result, fold, refl, sym, ◌∙◌, ap, subst}
 use Rattle.std.proofs.lemmas.List.Folds.{list_any-append}
 use Rattle.gate_world.specs.declared.event.Event.{Event}
 use Rattle.imap_types.specs.declared.code.Code.{Code}
@@ -18,7 +18,7 @@ use Rattle.imap_client.specs.Refusals.{refusal_end}
 use Rattle.imap_client.specs.Selecting.{tells_validity}
 use Rattle.imap_client.specs.declared.plan.Due.{Due}
 use Rattle.imap_client.specs.declared.plan.Due.TheVariants as due
-use Rattle.jmap_arguments.specs.declared.method_error.MethodError.TheVariants.{ServerUnavailable, ServerPartialFail}
+use Rattle.jmap_arguments.specs.declared.method_error.MethodError.TheVariants.{ServerPartialFail}
 use Rattle.told_changes.specs.declared.landing.Landing.{Landing}
 use Rattle.told_changes.specs.Landings.{told_landing}
 use Rattle.told_changes.specs.Told.{told, is_changing}
@@ -32,12 +32,12 @@ use Rattle.set_items.specs.Items.{ItemStage, Doing, Settled, Partly, Failing, It
 use Rattle.set_items.specs.Items.{stage_after, doing_after, obeyed, refused, changed_stage, selected_stage, made_folder, listed_stage, moved_stage, made_stage, deleted_stage}
 use Rattle.set_items.specs.Items.{change_refused, refused_if, shows, is_deleted, in_selected, step_due, deleted_flag}
 use Rattle.set_items.specs.Ends.{Comes, Ends, OutOfMemory, item_end, done_end, broken_end, any_change, is_cut_off}
-use Rattle.set_items.specs.Causes.{Ending, IsLanding, FailedPartly, Torn, NoLanding, NotListed, CutOff, NotRead, LaterRefused, WasUnavailable, HasCreated, IsList, exchanges_of}
+use Rattle.set_items.specs.Causes.{Ending, ItemLife, IsLanding, FailedPartly, Torn, NoLanding, NotListed, CutOff, NotRead, LaterRefused, HasCreated, IsList, exchanges_of}
 use Rattle.set_items.specs.Commands.{IsFit, MustBeObeyed}
 use Rattle.set_items.specs.Talks.{DoesItem, RunsSteps, ending_of}
 use Rattle.set_items.proofs.Leaving.{Knowing, Knows, knows_begun, knows_ran, must_be}
 use Rattle.set_items.proofs.Staging.{item_more, change_more, OverSettled, OverPartly, over_where, ok_is, not_ok}
-use Rattle.set_items.proofs.Staging.{both_false, or_true_left, or_true_right, and_true, and_false, and_both}
+use Rattle.set_items.proofs.Staging.{or_true_left, or_true_right, and_true, and_both}
 
 -- ---- whether something was changed
 
@@ -149,7 +149,7 @@ data IsPartial (heard : List Exchange) (b : Bool) (before : Mail) (x : Exchange)
   ByList : (name : List ℕ) → HasCreated name heard → IsList x.command → x.status ≡ status.Ok → named after.folders name ≡ None → IsPartial heard b before x after
   ByRefusal : b ≡ true → MustBeObeyed x.command → x.status ≢ status.Ok → IsPartial heard b before x after
 
-sent_is : (c d : Command) → due.Send c ≡ due.Send d → c ≡ d
+pub sent_is : (c d : Command) → due.Send c ≡ due.Send d → c ≡ d
 sent_is c d e = ap sent' e
   where
     sent' : Due → Command
@@ -262,32 +262,32 @@ partial_after heard (Failing w) before x after b k asked says e = absurd (cc)
 -- ---- an item that is done, and failed in part
 
 -- the item began so, after these exchanges of the call, and ended with these
-abbrev ended : List Exchange → ItemState → List Exchange → Result (Unit {0}) LinkEnd → Bool → Ending
-ended call s xs result torn = record { before = call; mail = s.mail; own = xs; due = item_plan s xs; result = result; torn = torn }
+abbrev pub ended : List Exchange → ItemState → List Exchange → ItemLife → Bool → Ending
+ended call s xs life torn = record { before = call; mail = s.mail; own = xs; due = item_plan s xs; life = life; torn = torn }
 
 -- the mail of an item is what its exchanges told
 pub item_mail : (s : ItemState) (xs : List Exchange) → (item_at s xs).mail ≡ fold told s.mail xs
 item_mail s [] = refl
 item_mail s (x ∷ xs) = item_mail (item_step s x) xs
 
-by_last : (call : List Exchange) (s : ItemState) (heard : List Exchange) (x : Exchange) (result : Result (Unit {0}) LinkEnd) (torn : Bool)
+by_last : (call : List Exchange) (s : ItemState) (heard : List Exchange) (x : Exchange) (lives : ItemLife) (torn : Bool)
     → IsPartial heard (any_change heard) (item_at s heard).mail x (told (item_at s heard).mail x)
-    → FailedPartly (ended call s (heard ++ x ∷ []) result torn)
-by_last call s heard x result torn (ByLanding lands is none) =
+    → FailedPartly (ended call s (heard ++ x ∷ []) lives torn)
+by_last call s heard x lives torn (ByLanding lands is none) =
     NoLanding (record { earlier = heard; last = x; own_is = refl }) lands is (subst (λ (m : Mail). told_landing m x ≡ None) (item_mail s heard) none)
-by_last call s heard x result torn (ByList name made is ok none) = NotListed (record { earlier = heard; last = x; own_is = refl }) name made is ok
+by_last call s heard x lives torn (ByList name made is ok none) = NotListed (record { earlier = heard; last = x; own_is = refl }) name made is ok
     (subst (λ (m : Mail). named m.folders name ≡ None) (ap (λ (t : ItemState). t.mail) (sym (item_more s heard x)) ∙ item_mail s (heard ++ x ∷ [])) none)
-by_last call s heard x result torn (ByRefusal was is fails) = LaterRefused (record { earlier = heard; last = x; own_is = refl }) was is fails
+by_last call s heard x lives torn (ByRefusal was is fails) = LaterRefused (record { earlier = heard; last = x; own_is = refl }) was is fails
 
-partly_done : (call : List Exchange) (s : ItemState) {life after : LinkLife} {xs : List Exchange} {events : List Event} (result : Result (Unit {0}) LinkEnd) (torn : Bool)
+partly_done : (call : List Exchange) (s : ItemState) {life after : LinkLife} {xs : List Exchange} {events : List Event} (lives : ItemLife) (torn : Bool)
     → Knows [] s.stage → Says s.stage false → (s.stage ≡ Partly → ⊥) → Ran (item_plan s) life xs after events → (item_at s xs).stage ≡ Partly
-    → FailedPartly (ended call s xs result torn)
-partly_done call s result torn k says begun Begun is = absurd (begun is)
-partly_done call s result torn k says begun (Then {heard = heard} next ran) is =
+    → FailedPartly (ended call s xs lives torn)
+partly_done call s lives torn k says begun Begun is = absurd (begun is)
+partly_done call s lives torn k says begun (Then {heard = heard} next ran) is =
     let x : Exchange = next.exchange in
     let asked : item_due (item_at s heard).stage (item_at s heard).mail ≡ due.Send x.command = next.asked ∙ ap due.Send (sym next.completes.command_is) in
     let last : (item_step (item_at s heard) x).stage ≡ Partly = subst (λ (t : ItemState). t.stage ≡ Partly) (item_more s heard x) is in
-    by_last call s heard x result torn
+    by_last call s heard x lives torn
     (partial_after heard (item_at s heard).stage (item_at s heard).mail x (told (item_at s heard).mail x) (any_change heard) (knows_ran s k ran) asked
     (says_ran s says ran) last)
 
@@ -310,12 +310,12 @@ any_joined call xs t is none =
     list_any-append is_change call xs
     ∙ (ap (λ v. any_change call || v) (sym (or_nil (any_change xs)) ∙ ap (λ v. any_change xs || v) (sym none)) ∙ is)
 
-cut : (call : List Exchange) (s : ItemState) (xs : List Exchange) (result : Result (Unit {0}) LinkEnd) (torn : Bool) (c : Command) (now : Due) → item_plan s xs ≡ now
+cut : (call : List Exchange) (s : ItemState) (xs : List Exchange) (lives : ItemLife) (torn : Bool) (c : Command) (now : Due) → item_plan s xs ≡ now
     → now ≡ due.Send c → (any_change call || (any_change xs || is_cut_off now torn)) ≡ true
-    → FailedPartly (ended call s xs result torn)
-cut call s xs result torn c now plan_is is changed =
+    → FailedPartly (ended call s xs lives torn)
+cut call s xs lives torn c now plan_is is changed =
     let torn_is : is_cut_off now torn ≡ (is_changing c && torn) = ap (λ d. is_cut_off d torn) is in
-    elim (is_cut_off now torn) as (λ t. is_cut_off now torn ≡ t → FailedPartly (ended call s xs result torn)) [
+    elim (is_cut_off now torn) as (λ t. is_cut_off now torn ≡ t → FailedPartly (ended call s xs lives torn)) [
       | true ↦ λ t. (let both = and_both (is_changing c) torn (sym torn_is ∙ t) in Torn c (plan_is ∙ is) both.0 both.1)
       | false ↦ λ t. CutOff c (any_joined call xs (is_cut_off now torn) changed t) (plan_is ∙ is)
     ] refl
@@ -323,14 +323,14 @@ cut call s xs result torn c now plan_is is changed =
 partly_by : (call : List Exchange) (s : ItemState) (life after left : LinkLife) (xs : List Exchange) (so_far last : List Event) (result : Result (Unit {0}) LinkEnd) (torn : Bool)
     → Knows [] s.stage → Says s.stage false → (s.stage ≡ Partly → ⊥) → Ran (item_plan s) life xs after so_far → IsEnd (item_plan s xs) after left result last
     → Ends ServerPartialFail ≡ item_end (item_at s xs).stage result (any_change call || (any_change xs || is_cut_off (item_plan s xs) torn))
-    → FailedPartly (ended call s xs result torn)
+    → FailedPartly (ended call s xs (record { begun = life; reached = after; left = left; last = last }) torn)
 partly_by call s life after left xs so_far last result torn k says begun ran (Finished now ok none same) ends =
     let at : ItemState = item_at s xs in
     let changed : Bool = any_change call || (any_change xs || is_cut_off (item_plan s xs) torn) in
     let done : Ends ServerPartialFail ≡ done_end at.stage = ends ∙ ap (λ (r : Result (Unit {0}) LinkEnd). item_end at.stage r changed) ok in
     elim (over_where at.stage at.mail now) [
       | OverSettled d is ↦ absurd (comes_not_ends d (sym (done ∙ ap done_end is)))
-      | OverPartly is ↦ partly_done call s result torn k says begun ran is
+      | OverPartly is ↦ partly_done call s _ torn k says begun ran is
     ]
   where
     comes_not_ends : (d : Done) → Comes d ≡ Ends ServerPartialFail → ⊥
@@ -344,11 +344,11 @@ partly_by call s life after left xs so_far last result torn k says begun ran (Fa
 partly_by call s life after left xs so_far last result torn k says begun ran (Broken c e now is breaks) ends =
     let changed : Bool = any_change call || (any_change xs || is_cut_off (item_plan s xs) torn) in
     let broke : Ends ServerPartialFail ≡ broken_end e changed = ends ∙ ap (λ (r : Result (Unit {0}) LinkEnd). item_end (item_at s xs).stage r changed) is in
-    cut call s xs result torn c (item_plan s xs) refl now (broken_changed e changed broke)
+    cut call s xs _ torn c (item_plan s xs) refl now (broken_changed e changed broke)
 partly_by call s life after left xs so_far last result torn k says begun ran (LifeHadEnded c now over is none same) ends =
     let changed : Bool = any_change call || (any_change xs || is_cut_off (item_plan s xs) torn) in
     let broke : Ends ServerPartialFail ≡ broken_end end.Lost changed = ends ∙ ap (λ (r : Result (Unit {0}) LinkEnd). item_end (item_at s xs).stage r changed) is in
-    cut call s xs result torn c (item_plan s xs) refl now (broken_changed end.Lost changed broke)
+    cut call s xs _ torn c (item_plan s xs) refl now (broken_changed end.Lost changed broke)
 partly_by call s life after left xs so_far last result torn k says begun ran (Wanting is hangs same) ends =
     let changed : Bool = any_change call || (any_change xs || is_cut_off (item_plan s xs) torn) in
     let broke : Ends ServerPartialFail ≡ OutOfMemory = ends ∙ ap (λ (r : Result (Unit {0}) LinkEnd). item_end (item_at s xs).stage r changed) is in
@@ -365,68 +365,19 @@ partly job call before after life left client events d fit =
     partly_by call (item_start job before) life r.follows.after left r.exchanges r.follows.so_far r.follows.last r.result (ends_torn r.follows.ends)
     (knows_begun job before fit) (says_begun job.steps job.done) (going_not_partly job.steps false job.done) r.follows.ran r.follows.ends d.ends_is
 
--- ---- nothing was changed
+-- ---- nothing was OK, so that a command was torn
 
-broken_unchanged : (e : LinkEnd) (changed : Bool) → Ends ServerUnavailable ≡ broken_end e changed → (changed ≡ false) × (e ≢ end.Memory)
-broken_unchanged end.Lost false is = (refl, λ f. absurd (cc))
-broken_unchanged (end.Bad at) false is = (refl, λ f. absurd (cc))
-broken_unchanged end.Stray false is = (refl, λ f. absurd (cc))
-broken_unchanged end.Bye false is = (refl, λ f. absurd (cc))
-broken_unchanged end.TooMuch false is = (refl, λ f. absurd (cc))
-broken_unchanged end.Refused false is = (refl, λ f. absurd (cc))
-broken_unchanged end.NoQresync false is = (refl, λ f. absurd (cc))
-broken_unchanged end.Lacks false is = (refl, λ f. absurd (cc))
-broken_unchanged end.Memory false is = absurd (cc)
-broken_unchanged end.Lost true is = absurd (cc)
-broken_unchanged (end.Bad at) true is = absurd (cc)
-broken_unchanged end.Stray true is = absurd (cc)
-broken_unchanged end.Bye true is = absurd (cc)
-broken_unchanged end.TooMuch true is = absurd (cc)
-broken_unchanged end.Refused true is = absurd (cc)
-broken_unchanged end.NoQresync true is = absurd (cc)
-broken_unchanged end.Lacks true is = absurd (cc)
-broken_unchanged end.Memory true is = absurd (cc)
-
-done_not_unavailable : (stage : ItemStage) → Ends ServerUnavailable ≡ done_end stage → ⊥
-done_not_unavailable (Settled done) e = absurd (cc)
-done_not_unavailable Partly e = absurd (cc)
-done_not_unavailable (Doing s ss changed done) e = absurd (cc)
-done_not_unavailable (Failing w) e = absurd (cc)
-
-unavailable_by : (call : List Exchange) (s : ItemState) (xs : List Exchange) (result : Result (Unit {0}) LinkEnd) (torn : Bool) (now : Due) → item_plan s xs ≡ now
-    → Ends ServerUnavailable ≡ item_end (item_at s xs).stage result (any_change call || (any_change xs || is_cut_off now torn))
-    → WasUnavailable (ended call s xs result torn)
-unavailable_by call s xs (Ok u) torn now is ends = absurd (done_not_unavailable (item_at s xs).stage ends)
-unavailable_by call s xs (Err e) torn now is ends =
-    let by = broken_unchanged e (any_change call || (any_change xs || is_cut_off now torn)) ends in
-    let first = both_false (any_change call) (any_change xs || is_cut_off now torn) by.0 in
-    let second = both_false (any_change xs) (is_cut_off now torn) first.1 in
-    record {
-      unchanged = list_any-append is_change call xs ∙ (ap (λ v. v || any_change xs) first.0 ∙ second.0);
-      whole = λ c asked changes. and_false (is_changing c) torn (sym (ap (λ d. is_cut_off d torn) (sym is ∙ asked)) ∙ second.1) changes;
-      why = e;
-      result_is = refl;
-      no_want = by.1;
-    }
-
-pub unavailable : (job : Job) (call : List Exchange) (before after : Mail) (life left : LinkLife) (client : ClientState) (events : List Event)
-    (d : DoesItem job call before after life left client (Ends ServerUnavailable) events) → WasUnavailable (ending_of call d.runs)
-unavailable job call before after life left client events d =
-    let r : RunsSteps job before life left client events = d.runs in
-    unavailable_by call (item_start job before) r.exchanges r.result (ends_torn r.follows.ends) (item_plan (item_start job before) r.exchanges) refl d.ends_is
-
--- nothing was OK, so that a command was torn
 last_changes : (xs earlier : List Exchange) (x : Exchange) → xs ≡ earlier ++ x ∷ [] → is_change x ≡ true → any_change xs ≡ true
 last_changes xs earlier x is change =
     ap any_change is ∙ (change_more earlier x ∙ or_true_right (any_change earlier) (is_change x || false) (or_true_left (is_change x) false change))
 
-earlier_changes : (xs earlier : List Exchange) (x : Exchange) → xs ≡ earlier ++ x ∷ [] → any_change earlier ≡ true → any_change xs ≡ true
+pub earlier_changes : (xs earlier : List Exchange) (x : Exchange) → xs ≡ earlier ++ x ∷ [] → any_change earlier ≡ true → any_change xs ≡ true
 earlier_changes xs earlier x is change = ap any_change is ∙ (change_more earlier x ∙ or_true_left (any_change earlier) (is_change x || false) change)
 
 none_joined : (call xs : List Exchange) → any_change call ≡ false → any_change xs ≡ false → any_change (call ++ xs) ≡ false
 none_joined call xs a b = list_any-append is_change call xs ∙ (ap (λ v. v || any_change xs) a ∙ b)
 
-not_both : (v : Bool) → v ≡ false → v ≡ true → ⊥
+pub not_both : (v : Bool) → v ≡ false → v ≡ true → ⊥
 not_both true e f = absurd (cc)
 not_both false e f = absurd (cc)
 

@@ -35,11 +35,11 @@ use Rattle.set_items.proofs.Staging.{item_more, ok_is}
 -- ---- the steps that are left
 
 -- these are left, or none
-abbrev Left : List Step → ItemStage → Type 0
+abbrev pub Left : List Step → ItemStage → Type 0
 Left ss (Doing t ts changed done) = ss ≡ t ∷ ts
 Left ss _ = Unit {0}
 
-left_going : (ss : List Step) (changed : Bool) (done : Done) → Left ss (going ss changed done)
+pub left_going : (ss : List Step) (changed : Bool) (done : Done) → Left ss (going ss changed done)
 left_going [] changed done = tt
 left_going (s ∷ ss) changed done = refl
 
@@ -76,7 +76,7 @@ left_folder ss changed told_it None = tt
 left_folder ss changed true (Some h) = left_going ss changed _
 left_folder ss changed false (Some h) = tt
 
-left_obeyed : (s : Step) (ss : List Step) (changed : Bool) (done : Done) (before : Mail) (x : Exchange) (after : Mail) → Left ss (obeyed s ss changed done before x after)
+pub left_obeyed : (s : Step) (ss : List Step) (changed : Bool) (done : Done) (before : Mail) (x : Exchange) (after : Mail) → Left ss (obeyed s ss changed done before x after)
 left_obeyed (step.Select folder mark) ss changed done before x after = left_selected ss changed done (tells_validity x.responses) (shows after mark)
 left_obeyed step.Unselect ss changed done before x after = left_going ss changed done
 left_obeyed (step.Change c) ss changed done before x after = left_changed c ss changed done before x
@@ -267,7 +267,7 @@ knows_doing false step.Unselect ss changed done before x after heard ok asked k 
 knows_doing false (step.List name special_use) ss changed done before x after heard ok asked k = tt
 knows_doing false (step.SelectMade name) ss changed done before x after heard ok asked k = tt
 
-knows_after : (stage : ItemStage) (before : Mail) (x : Exchange) (after : Mail) (heard : List Exchange) → item_due stage before ≡ due.Send x.command → Knows heard stage
+pub knows_after : (stage : ItemStage) (before : Mail) (x : Exchange) (after : Mail) (heard : List Exchange) → item_due stage before ≡ due.Send x.command → Knows heard stage
     → Knows (heard ++ x ∷ []) (stage_after stage before x after)
 knows_after (Doing s ss changed done) before x after heard asked k = knows_doing (is_ok x.status) s ss changed done before x after heard refl asked k
 knows_after (Settled done) before x after heard asked k = tt

@@ -3,6 +3,8 @@ mod Refusing
 mod Leaving
 mod Endings
 mod Broken
+mod Failing
+mod Unavailable
 mod Appending
 mod Rows
 mod Lasts

@@ -4,6 +4,8 @@ use Rattle.imap_types.specs.declared.command.Command.{Command}
 use Rattle.imap_types.specs.declared.command.Command.TheVariants as command
 use Rattle.imap_types.specs.declared.response.Status.TheVariants as status
 use Rattle.told_folder.specs.declared.exchange.Exchange.{Exchange}
+use Rattle.told_folder.specs.declared.message.Folder.{Folder}
+use Rattle.told_mail.specs.Mail.{Mail, folder_in}
 use Rattle.told_changes.specs.declared.landing.Landing.{Landing}
 use Rattle.told_changes.specs.Landings.{told_landing}
 use Rattle.set_jobs.specs.declared.done.Done.{Done}
@@ -80,10 +82,11 @@ abbrev pub made_then : Option (List ℕ) → Command → Option (List ℕ)
 made_then made (command.Create name) = Some name
 made_then made c = made
 
--- what is changed has to be obeyed, and the folder that is listed was made before
+-- what is changed has to be obeyed, and the folder that is listed, or selected by its name, was made before
 abbrev pub FitsStep : Option (List ℕ) → Step → Type 0
 FitsStep made (step.Change c) = FitsChange made c
 FitsStep made (step.List name special_use) = made ≡ Some name
+FitsStep made (step.SelectMade name) = made ≡ Some name
 FitsStep made _ = Unit {0}
 
 abbrev pub made_by : Option (List ℕ) → Step → Option (List ℕ)
@@ -96,3 +99,24 @@ FitsAfter made (s ∷ ss) = FitsStep made s × FitsAfter (made_by made s) ss
 
 abbrev pub IsFit : Job → Type 0
 IsFit job = FitsAfter None job.steps
+
+-- a folder that is selected by its number is held
+abbrev pub SelectsHeld : Mail → Step → Type 0
+SelectsHeld m (step.Select folder mark) = (f : Folder) × (folder_in m.folders folder ≡ Some f)
+SelectsHeld m _ = Unit {0}
+
+abbrev pub IsNoSelect : Step → Type 0
+IsNoSelect (step.Select folder mark) = ⊥
+IsNoSelect _ = Unit {0}
+
+abbrev pub SelectNone : List Step → Type 0
+SelectNone [] = Unit {0}
+SelectNone (s ∷ ss) = IsNoSelect s × SelectNone ss
+
+-- the first step alone selects a folder by its number, one that is held
+abbrev pub FirstSelectsHeld : Mail → List Step → Type 0
+FirstSelectsHeld m [] = Unit {0}
+FirstSelectsHeld m (s ∷ ss) = SelectsHeld m s × SelectNone ss
+
+abbrev pub BeginsHeld : Mail → Job → Type 0
+BeginsHeld m job = FirstSelectsHeld m job.steps

@@ -25,12 +25,12 @@ pub record RunsSteps (job : Job) (before : Mail) (life left : LinkLife) (client 
 -- what it was that ended the call, where it did, after these exchanges of the call
 abbrev pub ending_of : {job : Job} {before : Mail} {life left : LinkLife} {client : ClientState} {events : List Event} → List Exchange
     → RunsSteps job before life left client events → Ending
-ending_of {job = job} {before = before} call r = record {
+ending_of {job = job} {before = before} {life = life} {left = left} call r = record {
   before = call;
   mail = before;
   own = r.exchanges;
   due = item_plan (item_start job before) r.exchanges;
-  result = r.result;
+  life = record { begun = life; reached = r.follows.after; left = left; last = r.follows.last };
   torn = ends_torn r.follows.ends;
 }
 

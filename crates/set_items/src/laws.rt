@@ -13,14 +13,15 @@ ghost use Rattle.set_items.specs.Items.{ItemState, Settled, item_at, item_plan, 
 ghost use Rattle.set_items.specs.Ends.{ItemEnd, Ends, OutOfMemory, any_change, is_cut_off};
 ghost use Rattle.set_items.specs.Causes.{FailedPartly, WasUnavailable};
 ghost use Rattle.set_items.specs.Talks.{DoesItem, ending_of};
-ghost use Rattle.set_items.specs.Commands.{appends_in, appends_of, IsFit, MakesNothing, MakesBy, MustBeObeyed};
+ghost use Rattle.set_items.specs.Commands.{appends_in, appends_of, BeginsHeld, IsFit, MakesNothing, MakesBy, MustBeObeyed};
 
 /// An item ends its call with serverPartialFail or serverUnavailable only by the causes of each.
 pub fn items_end_by_their_causes()
     ensures partly { (job : Job) (call : List Exchange) (before after : Mail) (life left : LinkLife) (client : ClientState) (events : List Event)
         (d : DoesItem job call before after life left client (Ends ServerPartialFail) events) → IsFit job → FailedPartly (ending_of call d.runs) }
     ensures unavailable { (job : Job) (call : List Exchange) (before after : Mail) (life left : LinkLife) (client : ClientState) (events : List Event)
-        (d : DoesItem job call before after life left client (Ends ServerUnavailable) events) → WasUnavailable (ending_of call d.runs) }
+        (d : DoesItem job call before after life left client (Ends ServerUnavailable) events) → IsFit job → BeginsHeld before job
+        → WasUnavailable (ending_of call d.runs) }
 {}
 
 /// Each of these causes ends the call with its error, unless memory ran out.
@@ -29,7 +30,8 @@ pub fn causes_end_items()
         (d : DoesItem job call before after life left client ends events) → IsFit job → FailedPartly (ending_of call d.runs)
         → (ends ≡ OutOfMemory) ⊎ (ends ≡ Ends ServerPartialFail) }
     ensures unavailable { (job : Job) (call : List Exchange) (before after : Mail) (life left : LinkLife) (client : ClientState) (ends : ItemEnd) (events : List Event)
-        (d : DoesItem job call before after life left client ends events) → WasUnavailable (ending_of call d.runs) → ends ≡ Ends ServerUnavailable }
+        (d : DoesItem job call before after life left client ends events) → IsFit job → WasUnavailable (ending_of call d.runs)
+        → (ends ≡ OutOfMemory) ⊎ (ends ≡ Ends ServerUnavailable) }
 {}
 
 /// Of an item that has one APPEND among its steps one APPEND is sent at most.

@@ -1,2 +1,3 @@
--- Checks is what an item of each method has to pass.
+-- Checks is what an item of each method has to pass, and what is drawn for it.
 pub mod Checks
+pub mod reading

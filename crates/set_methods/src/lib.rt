@@ -1,8 +1,8 @@
 //! What an item of Email/set and of Mailbox/set has to pass (RFC 8621 sections 2.5 and 4.6).
 #![tactic(auto)]
 
-mod email_set;
-mod mailbox_set;
+mod checks;
+mod emails;
+mod mailboxes;
 
-pub use email_set::EmailSetChecks;
-pub use mailbox_set::MailboxSetChecks;
+pub use checks::{Passed, Ready, SetChecks};

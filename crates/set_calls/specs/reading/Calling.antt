@@ -1,5 +1,6 @@
 -- What the code's call stands for, and where the code is in it.
-use Rattle.std.specs.Prelude.{◌≡◌, ◌≢◌, ◌+◌, ◌++◌, ◌⊎◌, ℕ, Bool, IfOk, List, [], fold, map, Result, Ok, Err, Vec}
+use Rattle.std.specs.Prelude.{◌≡◌, ◌≢◌, ◌+◌, ◌++◌, ◌⊎◌, ℕ, Bool, IfOk, OnErr, List, [], ◌∷◌, fold, map, Option, Result, Ok, Err, Vec}
+use Rattle.std.specs.declared.alloc.AllocError.{AllocError}
 use Rattle.std.specs.declared.alloc.Global.{Global}
 use Rattle.gate_world.specs.Causes.{RoseBy}
 use Rattle.gate_world.specs.declared.event.Event.{Event}
@@ -16,14 +17,15 @@ use Rattle.set_order.specs.Ordered as spec
 use Rattle.set_order.specs.declared.item.Item.{Item}
 use Rattle.set_order.specs.reading.Creating.{HasKeys}
 use Rattle.set_order.specs.reading.Items.{item_data}
-use Rattle.set_given.specs.Given.{Given}
 use Rattle.set_given.specs.declared.made.MadeFolders.{MadeFolders}
 use Rattle.set_given.specs.reading.Makings.{IsMade}
 use Rattle.set_items.specs.declared.item.ItemEnd.{ItemEnd}
 use Rattle.set_items.specs.declared.item.ItemEnd.TheVariants.{Comes, Ends, OutOfMemory}
 use Rattle.set_items.specs.Ends.{any_change}
 use Rattle.set_items.specs.Talks.{AllReadKnown}
-use Rattle.set_calls.specs.Calls.{SetCall, CallState, TakesItem, StopsAt}
+use Rattle.set_methods.specs.Checks.{Drawn}
+use Rattle.set_methods.specs.reading.Choosing.{rules_of}
+use Rattle.set_calls.specs.Calls.{SetCall, CallState, IsDrawnFor, IsPrepared, TakesItem, StopsAt, drawing}
 use Rattle.set_calls.specs.declared.call.Call.{Call}
 use Rattle.set_calls.specs.declared.call.CallEnd.{CallEnd}
 use Rattle.set_calls.specs.declared.call.CallEnd.TheVariants as ends
@@ -44,11 +46,11 @@ abbrev pub came_data : Result (Vec (Item × Done) Global) CallEnd → Result (Li
 came_data (Ok done) = Ok (map done_data done.items)
 came_data (Err e) = Err (call_end e)
 
-pub record IsCall {C : Type 0} (checked : C → Given → spec.Item → Result Job SetError) (code : Call C) (c : SetCall) : Type 0 where
+pub record IsCall (code : Call) (c : SetCall) : Type 0 where
   pub state : IsStateOf c.history code.state.now
   pub created : c.created ≡ code.created.now
   pub making : HasKeys code.making.now c.making
-  pub check : c.check ≡ checked code.checks.now
+  pub rules : c.rules ≡ rules_of code.checks
 
 -- The client stands in what is left of the life, this mail is told, these folders were made, and something was changed or wasn't.
 pub record IsAt (client : ClientState) (mail : Mail) (made : MadeFolders) (changed : Bool) (s : CallState) : Type 0 where
@@ -71,8 +73,22 @@ pub record Leaves (client : ClientState) (mirror told_now : Told) (changed : Boo
   pub lost_is : after.lost ≡ before.lost + lost
   pub rose : RoseBy lost was now
 
--- An item came to something; or it ended the call, or there was no memory for its checks.
+-- What an item came to before a command was sent for it; or there was no memory for that.
+pub record IsPreparedSo (c : SetCall) (s : CallState) (item : spec.Item) (came : Result (Result Job SetError) AllocError) (events : List Event) : Type 0 where
+  pub drawn : Option Drawn
+  pub events_are : events ≡ drawing drawn
+  pub is : IfOk came (λ made. IsPrepared c s item drawn made)
+  pub lacks : OnErr came (IsDrawnFor c s (item ∷ []) drawn)
+
+-- There was no memory before a command was sent for an item.
+pub record LacksItem (c : SetCall) (item : spec.Item) (before : CallState) (events : List Event) (after : CallState) : Type 0 where
+  pub drawn : Option Drawn
+  pub draws : IsDrawnFor c before (item ∷ []) drawn
+  pub events_are : events ≡ drawing drawn
+  pub same : after ≡ before
+
+-- An item came to something; or it ended the call, or there was no memory before a command was sent for it.
 abbrev pub ItemCame : SetCall → spec.Item → CallState → Result Done CallEnd → List Event → CallState → Type 0
 ItemCame c item before (Ok done) events after = TakesItem c item before done events after
 ItemCame c item before (Err e) events after =
-    StopsAt c item before (call_end e) events after ⊎ ((e ≡ ends.Memory) × (events ≡ []) × (after ≡ before))
+    StopsAt c item before (call_end e) events after ⊎ ((e ≡ ends.Memory) × LacksItem c item before events after)

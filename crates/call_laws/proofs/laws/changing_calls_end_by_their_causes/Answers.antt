@@ -6,8 +6,8 @@ returns-clause-partly c call items before events after fit changes =
     partly call items before events after (λ is m life now doing runs. c.calls_end_by_their_causes.ensures.partly call is m life now doing fit runs) changes
 
 pub returns-clause-unavailable : goal.returns-clause-unavailable
-returns-clause-unavailable c call items before events after changes =
-    unavailable call items before events after (λ is m life now doing runs. c.calls_end_by_their_causes.ensures.unavailable call is m life now doing runs) changes
+returns-clause-unavailable c call items before events after fit changes =
+    unavailable call items before events after (λ is m life now doing runs. c.calls_end_by_their_causes.ensures.unavailable call is m life now doing fit runs) changes
 
 pub returns-clause-fail : goal.returns-clause-fail
 returns-clause-fail c call items before events after changes = fail call items before events after changes

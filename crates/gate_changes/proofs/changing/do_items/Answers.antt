@@ -24,7 +24,7 @@ returns-clause-run g c =
     let holds : HoldsSource before source was mid = subst (λ (s : SourceState). HoldsSource before s was mid) (sym same) lent.3 in
     let life = in_life call before source c.lend-served.result.0 was mid over holds lent.0 lent.1 lent.2 in
     let state = state_is call before source c.lend-served.result.0 was mid over holds lent.0 lent.1 lent.2 c.state.result.now c.state.ensures in
-    let went = run call over.life (record { state = state; created = created; making = making; check = check }) life in
+    let went = run call over.life (record { state = state; created = created; making = making; rules = check }) life in
     let done =
     items_done call before source c.lend-served.result.0 was mid over holds lent.0 lent.1 lent.2 c.run_items-came.new.mirror c.run_items-came.new.client now c.new.result
     c.take_back-client.new.self came.standing_is

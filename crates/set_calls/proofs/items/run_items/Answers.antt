@@ -53,17 +53,17 @@ left_after done items i so =
 pub returns-in_err-done-clause-tape : goal.returns-in_err-done-clause-tape
 returns-in_err-done-clause-tape g c =
     let end = err_from_is_err_and c.from_residual.result c.from_residual.ensures.1 in
-    none _ _ (wants g.C.Checks.checked c.args.call.now c.args.client.now c.args.mirror.now (g.L.Taped.faults c.args.link.now).link (map item_data c.args.items.now)
+    none _ _ (wants c.args.call.now c.args.client.now c.args.mirror.now (g.L.Taped.faults c.args.link.now).link (map item_data c.args.items.now)
     (map item_data c.args.items.now) [] c.args.client.now c.args.mirror.now c.new-made.result _ (g.L.Taped.faults c.args.link.now).link c.from_residual.result [] refl
     (end.1 ∙ ap (λ (e : CallEnd). Err e) end.2)
-    (begins g.C.Checks.checked c.args.call.now c.args.client.now c.args.mirror.now (g.L.Taped.faults c.args.link.now).link c.new-made.result c.new-made.ensures))
+    (begins c.args.call.now c.args.client.now c.args.mirror.now (g.L.Taped.faults c.args.link.now).link c.new-made.result c.new-made.ensures))
 
 pub loop-item-init : goal.loop-item-init
 loop-item-init g c =
     record {
-      told = none _ _ (subst (λ (done : List (Item × Done)). SoFar g.C.Checks.checked c.args.call.now c.args.client.now c.args.mirror.now (g.L.Taped.faults c.args.link.now).link
+      told = none _ _ (subst (λ (done : List (Item × Done)). SoFar c.args.call.now c.args.client.now c.args.mirror.now (g.L.Taped.faults c.args.link.now).link
           c.args.client.now c.args.mirror.now c.new-made.result _ done (g.L.Taped.faults c.args.link.now).link []) (sym c.in_ok-done.ensures.items)
-          (begins g.C.Checks.checked c.args.call.now c.args.client.now c.args.mirror.now (g.L.Taped.faults c.args.link.now).link c.new-made.result c.new-made.ensures));
+          (begins c.args.call.now c.args.client.now c.args.mirror.now (g.L.Taped.faults c.args.link.now).link c.new-made.result c.new-made.ensures));
       items = ap (λ (done : List (Item × Done)). items_of (map done_data done)) c.in_ok-done.ensures.items;
       counts = counts_same c.args.mirror.now;
       next = next_same c.args.mirror.now.mail c.each_is_mail.ensures;
@@ -81,7 +81,7 @@ returns-in_err-came-clause-tape g c =
     let within : i < length items = omega (arith, c.loop-item-test.true) in
     let all : items_of (map done_data l.done.items) ++ item_data c.item-item.result ∷ map item_data (drop (i + 1) items) ≡ map item_data items =
     ap (λ (is : List spec.Item). is ++ item_data c.item-item.result ∷ map item_data (drop (i + 1) items)) l.invariant.items ∙ around items i c.item-item.result within c.item-item.is in
-    join _ l.invariant.told c.in_err-came.ensures.tape (λ es fs so says. stops g.C.Checks.checked c.args.call.now c.args.client.now c.args.mirror.now (g.L.Taped.faults c.args.link.now).link
+    join _ l.invariant.told c.in_err-came.ensures.tape (λ es fs so says. stops c.args.call.now c.args.client.now c.args.mirror.now (g.L.Taped.faults c.args.link.now).link
     (map item_data items) (map item_data (drop (i + 1) items)) l.done.items (item_data c.item-item.result) c.in_err-came.field-0.0 (Err c.in_err-came.field-0.0)
     c.from_residual-in_err-came.result l.client l.mirror l.made l.changed c.take_item.new.client c.take_item.new.mirror c.take_item.new.changed (g.L.Taped.faults l.link).link
     (g.L.Taped.faults c.take_item.new.link).link es fs all refl (end.1 ∙ ap (λ (e : CallEnd). Err e) end.2) so says)
@@ -95,7 +95,7 @@ returns-in_err-note_made-clause-tape g c =
     let within : i < length items = omega (arith, c.loop-item-test.true) in
     let all : items_of (map done_data (l.done.items ++ (c.item-item.result, c.in_ok-came.came) ∷ [])) ++ map item_data (drop (i + 1) items) ≡ map item_data items =
     left_after (l.done.items ++ (c.item-item.result, c.in_ok-came.came) ∷ []) items (i + 1) (done_more l.done.items items i c.item-item.result c.in_ok-came.came within c.item-item.is l.invariant.items) in
-    join _ l.invariant.told c.in_ok-came.ensures.tape (λ es fs so says. wants_after g.C.Checks.checked c.args.call.now c.args.client.now c.args.mirror.now (g.L.Taped.faults c.args.link.now).link
+    join _ l.invariant.told c.in_ok-came.ensures.tape (λ es fs so says. wants_after c.args.call.now c.args.client.now c.args.mirror.now (g.L.Taped.faults c.args.link.now).link
     (map item_data items) (map item_data (drop (i + 1) items)) l.done.items c.item-item.result c.in_ok-came.came l.client l.mirror l.made l.changed c.take_item.new.client
     c.take_item.new.mirror c.take_item.new.changed (g.L.Taped.faults l.link).link (g.L.Taped.faults c.take_item.new.link).link c.from_residual-in_err-note_made.result es fs all
     (end.1 ∙ ap (λ (e : CallEnd). Err e) end.2) so says)
@@ -108,7 +108,7 @@ returns-in-Err-clause-tape g c =
     let within : i < length items = omega (arith, c.loop-item-test.true) in
     let all : items_of (map done_data (l.done.items ++ (c.item-item.result, c.in_ok-came.came) ∷ [])) ++ map item_data (drop (i + 1) items) ≡ map item_data items =
     left_after (l.done.items ++ (c.item-item.result, c.in_ok-came.came) ∷ []) items (i + 1) (done_more l.done.items items i c.item-item.result c.in_ok-came.came within c.item-item.is l.invariant.items) in
-    join _ l.invariant.told c.in_ok-came.ensures.tape (λ es fs so says. wants_after g.C.Checks.checked c.args.call.now c.args.client.now c.args.mirror.now (g.L.Taped.faults c.args.link.now).link
+    join _ l.invariant.told c.in_ok-came.ensures.tape (λ es fs so says. wants_after c.args.call.now c.args.client.now c.args.mirror.now (g.L.Taped.faults c.args.link.now).link
     (map item_data items) (map item_data (drop (i + 1) items)) l.done.items c.item-item.result c.in_ok-came.came l.client l.mirror l.made l.changed c.take_item.new.client
     c.take_item.new.mirror c.take_item.new.changed (g.L.Taped.faults l.link).link (g.L.Taped.faults c.take_item.new.link).link (Err ends.Memory) es fs all refl so says)
 
@@ -119,10 +119,10 @@ loop-item-preserved g c =
     let i : ℕ = l.item-index in
     let within : i < length items = omega (arith, c.loop-item-test.true) in
     record {
-      told = subst (λ (done : List (Item × Done)). Adds (g.L.Taped.tape c.args.link.now) (g.L.Taped.tape c.take_item.new.link) (SoFar {C = g.row.C.Denot} g.C.Checks.checked c.args.call.now
+      told = subst (λ (done : List (Item × Done)). Adds (g.L.Taped.tape c.args.link.now) (g.L.Taped.tape c.take_item.new.link) (SoFar c.args.call.now
           c.args.client.now c.args.mirror.now (g.L.Taped.faults c.args.link.now).link c.take_item.new.client c.take_item.new.mirror c.note_made.new.made c.take_item.new.changed done
           (g.L.Taped.faults c.take_item.new.link).link)) (sym c.in-Ok.ensures.items)
-          (join _ l.invariant.told c.in_ok-came.ensures.tape (λ es fs so says. one_more g.C.Checks.checked c.args.call.now c.args.client.now c.args.mirror.now
+          (join _ l.invariant.told c.in_ok-came.ensures.tape (λ es fs so says. one_more c.args.call.now c.args.client.now c.args.mirror.now
           (g.L.Taped.faults c.args.link.now).link l.done.items c.item-item.result c.in_ok-came.came l.client l.mirror l.made c.note_made.new.made l.changed c.take_item.new.client
           c.take_item.new.mirror c.take_item.new.changed (g.L.Taped.faults l.link).link (g.L.Taped.faults c.take_item.new.link).link es fs c.in_ok-note_made.ensures so says));
       items = ap (λ (done : List (Item × Done)). items_of (map done_data done)) c.in-Ok.ensures.items
@@ -143,5 +143,5 @@ returns-clause-tape g c =
     let items : List Item = c.args.items.now in
     let all : items_of (map done_data l.done.items) ≡ map item_data items =
     l.invariant.items ∙ ap (λ (is : List Item). map item_data is) (take_all l.item-index items (omega (arith, c.loop-item-test.false))) in
-    widen _ l.invariant.told (λ es so. all_done g.C.Checks.checked c.args.call.now c.args.client.now c.args.mirror.now (g.L.Taped.faults c.args.link.now).link (map item_data items) l.done
+    widen _ l.invariant.told (λ es so. all_done c.args.call.now c.args.client.now c.args.mirror.now (g.L.Taped.faults c.args.link.now).link (map item_data items) l.done
     l.client l.mirror l.made l.changed (g.L.Taped.faults l.link).link es all so)

@@ -1,5 +1,5 @@
 use Rattle.std.proofs.Common.{◌≡◌, false, map, take}
-use Rattle.gate_world.specs.Causes.{LinkAlone}
+use Rattle.gate_world.specs.Causes.{LinkAlone, NoFault}
 use Rattle.gate_world.specs.Tape.{Adds}
 use Rattle.told_mail.specs.Mail.{IsNextMail}
 use Rattle.imap_client.specs.Rounds.{CountsOn}
@@ -13,12 +13,12 @@ abbrev pub invariant-loop-item : goal.invariant-loop-item
 invariant-loop-item g l =
     record {
       told : Adds (g.L.Taped.tape l.fn.link) (g.L.Taped.tape l.link)
-          (SoFar {C = g.row.C.Denot} g.C.Checks.checked l.call l.fn.client l.fn.mirror (g.L.Taped.faults l.fn.link).link l.client l.mirror l.made l.changed l.done.items
+          (SoFar l.call l.fn.client l.fn.mirror (g.L.Taped.faults l.fn.link).link l.client l.mirror l.made l.changed l.done.items
           (g.L.Taped.faults l.link).link);
       items : items_of (map done_data l.done.items) ≡ map item_data (take l.item-index l.items);
       counts : CountsOn l.fn.mirror l.mirror;
       next : IsNextMail l.fn.mirror.mail l.mirror.mail;
-      idle : l.fn.client.alive ≡ false → (l.client ≡ l.fn.client) × (l.link ≡ l.fn.link);
+      idle : l.fn.client.alive ≡ false → (l.client ≡ l.fn.client) × NoFault (g.L.Taped.faults l.fn.link) (g.L.Taped.faults l.link);
       alone : LinkAlone (g.L.Taped.faults l.fn.link) (g.L.Taped.faults l.link);
       hidden : g.L.Taped.hidden l.link ≡ g.L.Taped.hidden l.fn.link;
     }

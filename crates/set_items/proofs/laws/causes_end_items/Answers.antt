@@ -1,4 +1,5 @@
-use Rattle.set_items.proofs.Broken.{partly_ends, unavailable_ends}
+use Rattle.set_items.proofs.Broken.{partly_ends}
+use Rattle.set_items.proofs.Unavailable.{unavailable_ends}
 use Rattle.set_items.proofs.laws.causes_end_items.Goals as goal
 
 pub returns-clause-partly : goal.returns-clause-partly

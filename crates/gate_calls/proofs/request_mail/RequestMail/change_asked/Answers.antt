@@ -6,7 +6,7 @@ use Rattle.gate_machine.specs.declared.mail_status.MailStatus.TheVariants.{Stand
 use Rattle.set_arguments.specs.reading.Asked.{asked_data}
 use Rattle.gate_calls.specs.RequestMail.{moment_of}
 use Rattle.gate_calls.proofs.ChangingMail.{changed}
-use Rattle.gate_calls.proofs.request_mail.RequestMail.change_by.Goals as goal
+use Rattle.gate_calls.proofs.request_mail.RequestMail.change_asked.Goals as goal
 
 pub returns : goal.returns
 returns g c = record {
@@ -24,7 +24,7 @@ returns g c = record {
       (record { alone = c.answer_change-answer.ensures.alone; hidden = c.answer_change-answer.ensures.hidden })
       c.answer_change-answer.result.answer
       (widen _ c.answer_change-answer.ensures.run (λ es run all h start was is ids served came.
-      run all h start was (is ∙ c.requires.checks) ids served
+      run all h start was (is ∙ sym c.checks_of.ensures) ids served
       (subst (λ (x : ClientState). CameTo c.args.self.now.machine x Stands was (g.L.Taped.faults c.args.link.now) start.progress) (sym c.replace-client.ensures.value) came)));
   whole = c.answer_change-answer.ensures.whole;
 }

@@ -1,0 +1,2 @@
+-- What the code's checks stand for.
+pub mod Choosing

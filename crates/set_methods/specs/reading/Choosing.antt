@@ -1,0 +1,8 @@
+-- Which checks the code's choice stands for.
+use Rattle.set_methods.specs.Checks.{Rules, EmailRules, MailboxRules}
+use Rattle.set_methods.specs.declared.checks.SetChecks.{SetChecks}
+use Rattle.set_methods.specs.declared.checks.SetChecks.TheVariants.{Email, Mailbox}
+
+abbrev pub rules_of : SetChecks → Rules
+rules_of Email = EmailRules
+rules_of (Mailbox removes) = MailboxRules removes
