@@ -11,7 +11,8 @@ use Rattle.set_given.specs.Given.{Given, folder_named}
 use Rattle.set_patches.specs.Patches.{Patch, patch_in, members_list, member_keys, is_invalid_patch, is_true, is_null}
 use Rattle.set_patches.specs.declared.patches.Pointer.{Pointer}
 use Rattle.set_patches.specs.declared.patches.Pointer.TheVariants.{Whole, Within, Deeper}
-use Rattle.email_checks.specs.Keywords.{is_keyword, keyword_in, sorted_names, with_name, without_name}
+use Rattle.jmap_values.specs.Keywords.{is_keyword}
+use Rattle.email_checks.specs.Keywords.{keyword_in, sorted_names, with_name, without_name}
 
 abbrev pub keys_of : Data → List (List ℕ)
 keys_of (object ms) = member_keys ms

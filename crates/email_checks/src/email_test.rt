@@ -4,11 +4,11 @@ ghost use Rattle.serde_json.specs.View.{view, members_view};
 ghost use Rattle.set_given.specs.Given.{Given as GivenFacts};
 ghost use Rattle.set_given.specs.reading.Givens.{IsGiven};
 ghost use Rattle.set_patches.specs.Patches.{is_null, is_true};
+ghost use Rattle.jmap_values.specs.Keywords.{is_keyword};
 ghost use Rattle.email_checks.specs.Asked as spec;
-ghost use Rattle.email_checks.specs.Keywords.{is_keyword};
 ghost use Rattle.email_checks.specs.reading.Tests.{TestsEmail};
 
-use crate::keywords::is_keyword;
+use jmap_values::is_keyword;
 use serde_json::{Map, Value};
 use set_given::{Given, folder_named};
 use set_patches::{Pointer, PropertyTest};
@@ -46,7 +46,7 @@ fn are_keywords(members: &Map<String, Value>) -> bool
     ensures { result ≡ spec.are_right is_keyword (members_view members.now.entries) }
 {
     for (key, value) in members.iter() {
-        if !(is_keyword(key.as_str()) && is_true(value)) {
+        if !(is_keyword(key.as_bytes()) && is_true(value)) {
             return false;
         }
     }
@@ -101,7 +101,7 @@ fn is_right_within(given: &Given<'_, '_>, property: &str, key: &str, value: &Val
     ensures { (g : GivenFacts) → IsGiven given.now g → result ≡ spec.is_right_within g property.now key.now (view value.now) }
 {
     if property == "keywords" {
-        return is_keyword(key) && is_set_or_taken(value);
+        return is_keyword(key.as_bytes()) && is_set_or_taken(value);
     }
     if property == "mailboxIds" {
         return is_null(value) || (names_folder(given, key) && is_true(value));

@@ -66,7 +66,7 @@ fn lacks_flag_right(folder: &Folder, flags: &Names) -> bool
 }
 
 /// Whether a message can be moved into the folder: a validity was told of it, so that the UID there can be known.
-fn can_be_moved_into(folder: &Folder) -> bool
+pub fn can_be_moved_into(folder: &Folder) -> bool
     ensures { result ≡ spec.can_be_moved_into folder.now }
 {
     rights_of(folder).may_add_items && folder.validity != 0

@@ -1,6 +1,5 @@
-// Keywords that are asked, and the flags that stand for them (RFC 8621 section 4.1.1).
+// Sets of keywords that are asked, and the flags that stand for them (RFC 8621 section 4.1.1).
 ghost use Rattle.std.specs.Prelude.{◌≡◌, ◌++◌, ◌∷◌, [], IfOk, OnOk, map};
-ghost use Rattle.std.specs.List.{list_all};
 ghost use Rattle.serde_json.specs.View.{view, members_view};
 ghost use Rattle.mail_maps.specs.Keywords.{has_name};
 ghost use Rattle.mail_maps.specs.reading.Sets.{set_items};
@@ -13,34 +12,8 @@ use serde_json::{Map, Value};
 use std::alloc::{AllocError, Global};
 use std::collections::BTreeSet;
 
-/// The most octets of a keyword (RFC 8621 section 4.1.1).
-const MAX_KEYWORD_OCTETS: usize = 255;
-
-fn is_keyword_octet(octet: u8) -> bool
-    ensures { result ≡ spec.is_keyword_octet octet }
-{
-    match octet {
-        b'(' | b')' | b'{' | b']' | b'%' | b'*' | b'"' | b'\\' => false,
-        _ => b'!' <= octet && octet <= b'~',
-    }
-}
-
-fn are_keyword_octets(octets: &[u8]) -> bool
-    ensures { result ≡ list_all spec.is_keyword_octet octets.now }
-{
-    octets.iter().all(|octet| is_keyword_octet(*octet))
-}
-
-/// Whether the text is a keyword.
-pub(crate) fn is_keyword(text: &str) -> bool
-    ensures { result ≡ spec.is_keyword text.now }
-{
-    let octets = text.as_bytes();
-    !octets.is_empty() && octets.len() <= MAX_KEYWORD_OCTETS && are_keyword_octets(octets)
-}
-
 /// The flag of a keyword.
-fn flag_of(keyword: &[u8]) -> &[u8]
+pub fn flag_of(keyword: &[u8]) -> &[u8]
     ensures { result.now ≡ spec.flag_of keyword.now }
 {
     if keyword == b"$seen".as_slice() {
@@ -81,7 +54,7 @@ fn put_keyword(
 }
 
 /// The keywords that an object has, as a set.
-pub(crate) fn keywords_in(
+pub fn keywords_in(
     alloc: Global,
     members: &Map<String, Value>,
 ) -> Result<BTreeSet<Vec<u8>>, AllocError>

@@ -127,17 +127,18 @@ in_four_digits z = if int_le z (pos 253402300799) then Some z else None
 abbrev pub seconds_on : Day → Clock → ℕ → Option ℤ
 seconds_on day clock more = option_map (λ m. m.seconds +ℤ pos (after_59 clock + more)) (moment_of day clock (pos 0))
 
--- the first whole second from a time in UTC on, with the digits of a fraction
-unfoldable pub utc_second : Day → Clock → List ℕ → Option ℤ
-utc_second day clock digits = and_then_in (seconds_on day clock (rounded_up digits)) in_four_digits
-
 abbrev pub is_utc : List ℕ → Bool
 is_utc t = bytes_eq t (codes "Z")
 
--- The first whole second from a UTCDate on, since 1970-01-01T00:00:00Z. Its zone is "Z", and the second is of the years 0 to 9999.
-unfoldable pub utc_seconds_in : List ℕ → Option ℤ
-utc_seconds_in t =
+-- The first whole second from a UTCDate on, since 1970-01-01T00:00:00Z: what is received at a whole second is before that just where it is before the date.
+-- Its zone is "Z".
+unfoldable pub first_second_from : List ℕ → Option ℤ
+first_second_from t =
     and_then_in (date_at t) (λ date.
     and_then_in (time_after date.rest) (λ time.
     and_then_in (fraction_at time.rest) (λ fraction.
-    if is_utc fraction.1 then utc_second (day_of date) (clock_of time) fraction.0 else None)))
+    if is_utc fraction.1 then seconds_on (day_of date) (clock_of time) (rounded_up fraction.0) else None)))
+
+-- the same of the years 0 to 9999
+unfoldable pub utc_seconds_in : List ℕ → Option ℤ
+utc_seconds_in t = and_then_in (first_second_from t) in_four_digits

@@ -114,16 +114,6 @@ fn seconds_on(day: Day, clock: Clock, more: u32) -> Option<i64>
     }
 }
 
-/// The first whole second from a time of a day in UTC on, where it is no later than the year 9999. The digits are those of a
-/// fraction.
-#[tactic(auto, unfolding(crate::specs::Dates::utc_second))]
-fn utc_second(day: Day, clock: Clock, digits: &[u8]) -> Option<i64>
-    ensures { result ≡ dates.utc_second day clock digits.now }
-{
-    let second = seconds_on(day, clock, rounded_up(digits))?;
-    in_four_digits(second)
-}
-
 /// Whether the zone is UTC by its letter.
 fn is_utc(zone: &[u8]) -> bool
     ensures { result ≡ dates.is_utc zone.now }
@@ -131,17 +121,25 @@ fn is_utc(zone: &[u8]) -> bool
     zone == b"Z".as_slice()
 }
 
-/// The first whole second from a date in UTC on, in seconds since 1970-01-01T00:00:00Z, where it is no later than the year 9999.
-#[tactic(auto, unfolding(crate::specs::Dates::utc_seconds_in))]
-pub fn utc_seconds(text: &[u8]) -> Option<i64>
-    ensures { result ≡ dates.utc_seconds_in text.now }
+/// The first whole second from a date in UTC on, in seconds since 1970-01-01T00:00:00Z.
+#[tactic(auto, unfolding(crate::specs::Dates::first_second_from))]
+pub fn first_second_from(text: &[u8]) -> Option<i64>
+    ensures { result ≡ dates.first_second_from text.now }
 {
     let date = three_numbers(YEAR_DIGITS, b'-', text)?;
     let time = three_numbers(2, b':', after(b'T', date.rest)?)?;
     let (digits, rest) = fraction_at(time.rest)?;
     if is_utc(rest) {
-        utc_second(day_of(&date), clock_of(&time), digits)
+        seconds_on(day_of(&date), clock_of(&time), rounded_up(digits))
     } else {
         None
     }
+}
+
+/// The same where it is no later than the year 9999.
+#[tactic(auto, unfolding(crate::specs::Dates::utc_seconds_in))]
+pub fn utc_seconds(text: &[u8]) -> Option<i64>
+    ensures { result ≡ dates.utc_seconds_in text.now }
+{
+    in_four_digits(first_second_from(text)?)
 }

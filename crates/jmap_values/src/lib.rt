@@ -5,5 +5,5 @@ pub mod dates;
 pub mod keywords;
 pub(crate) mod zones;
 
-pub use dates::{moment_of_date, utc_seconds};
+pub use dates::{first_second_from, moment_of_date, utc_seconds};
 pub use keywords::is_keyword;

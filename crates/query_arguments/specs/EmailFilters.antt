@@ -13,9 +13,8 @@ use Rattle.query_arguments.specs.declared.email_condition.EmailCondition.TheVari
 use Rattle.query_arguments.specs.declared.reading.Reading.{Reading}
 use Rattle.query_arguments.specs.declared.reading.Reading.TheVariants.{Wrong, Unsupported, Means}
 use Rattle.search_words.specs.SearchWords.{words_asked}
-use Rattle.query_arguments.specs.Dates.{utc_seconds_of}
 use Rattle.query_arguments.specs.Readings.{means}
-use Rattle.query_arguments.specs.Values.{number_of_id, mailboxes_of_ids, list_of_texts, natural_of, keyword_given}
+use Rattle.query_arguments.specs.Values.{number_of_id, mailboxes_of_ids, list_of_texts, natural_of, second_from, keyword_given}
 
 -- the words of a search text, of which there may be too many
 abbrev pub header_has : List ℕ → Option (List (List ℕ)) → Reading EmailCondition
@@ -50,8 +49,8 @@ abbrev pub email_condition_in : List ℕ → Data → Reading EmailCondition
 email_condition_in key d =
     if bytes_eq key (codes "inMailbox") then of_record (λ id. condition.InMailbox (number_of_id mailbox_letter id)) (as_str d)
     else if bytes_eq key (codes "inMailboxOtherThan") then of_record (λ ids. condition.InMailboxOtherThan (mailboxes_of_ids ids)) (list_of_texts d)
-    else if bytes_eq key (codes "before") then of_record condition.Before (utc_seconds_of d)
-    else if bytes_eq key (codes "after") then of_record condition.After (utc_seconds_of d)
+    else if bytes_eq key (codes "before") then of_record condition.Before (second_from d)
+    else if bytes_eq key (codes "after") then of_record condition.After (second_from d)
     else if bytes_eq key (codes "minSize") then of_record condition.MinSize (natural_of d)
     else if bytes_eq key (codes "maxSize") then of_record condition.MaxSize (natural_of d)
     else if bytes_eq key (codes "allInThreadHaveKeyword") then means (Thread quantity.All) (keyword_given d)

@@ -8,5 +8,4 @@ pub mod EmailFilters
 pub mod MailboxFilters
 pub mod Sorts
 pub mod Values
-pub mod Dates
 pub mod Readings

@@ -1,15 +1,16 @@
--- Values in filters: ids, numbers and keywords.
-use Rattle.std.specs.Prelude.{ℕ, ◌^◌, ◌==◌, ◌&&◌, nat_lt, nat_le, Bool, not, if◌then◌else◌, ℤ}
-use Rattle.std.specs.Prelude.{List, [], ◌∷◌, map, length, bytes_eq, codes, decimal, Option, Some, None, option_and_then}
+-- Values in filters: ids, numbers, dates and keywords.
+use Rattle.std.specs.Prelude.{ℕ, ◌^◌, ◌==◌, ◌&&◌, nat_lt, if◌then◌else◌, ℤ}
+use Rattle.std.specs.Prelude.{List, [], ◌∷◌, map, bytes_eq, decimal, Option, Some, None, option_and_then}
 use Rattle.std.specs.Char.{to_ascii_lowercase}
 use Rattle.std.specs.BTreeSet.{BTreeSet}
-use Rattle.std.specs.List.{filter_map, list_all, list_any}
+use Rattle.std.specs.List.{filter_map}
 use Rattle.std.specs.Str.Parse.{digits_value}
 use Rattle.mail_maps.specs.Threads.{distinct}
-use Rattle.text_words.specs.Octets.{is_between}
 use Rattle.serde_json.specs.Data.{Data}
 use Rattle.serde_json.specs.Find.{as_str, as_array, as_number}
 use Rattle.email_properties.specs.Kinds.{at_least_zero}
+use Rattle.jmap_values.specs.Dates.{first_second_from}
+use Rattle.jmap_values.specs.Keywords.{is_keyword}
 use Rattle.jmap_arguments.specs.Arguments.{texts_in, whole_in}
 use Rattle.jmap_arguments.specs.Ids.{mailbox_letter}
 
@@ -49,15 +50,13 @@ integer_of d = option_and_then whole_in (as_number d)
 abbrev pub natural_of : Data → Option ℕ
 natural_of d = option_and_then at_least_zero (integer_of d)
 
--- ---- keywords (RFC 8621 section 4.1.1)
+-- ---- dates
 
--- an octet that a keyword may have: 33 to 126 without ( ) { ] % * " \
-abbrev pub is_keyword_octet : ℕ → Bool
-is_keyword_octet c = is_between 33 126 c && not (list_any (λ n. n == c) (codes "(){]%*\"\\"))
+-- the first whole second from a date in UTC on (RFC 8620 section 1.4)
+abbrev pub second_from : Data → Option ℤ
+second_from d = option_and_then first_second_from (as_str d)
 
--- 1 to 255 of these
-abbrev pub is_keyword : List ℕ → Bool
-is_keyword t = nat_le 1 (length t) && nat_le (length t) 255 && list_all is_keyword_octet t
+-- ---- keywords
 
 -- in lower case
 abbrev pub keyword_in : List ℕ → Option (List ℕ)

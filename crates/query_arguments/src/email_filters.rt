@@ -4,16 +4,16 @@ ghost use Rattle.serde_json.specs.Find.{as_str};
 ghost use Rattle.serde_json.specs.View.{view};
 ghost use Rattle.jmap_arguments.specs.Ids.{mailbox_letter};
 ghost use Rattle.search_words.specs.SearchWords.{words_asked};
-ghost use Rattle.query_arguments.specs.Dates as dates;
 ghost use Rattle.query_arguments.specs.EmailFilters as spec;
 ghost use Rattle.query_arguments.specs.EmailFilters.{of_record};
 ghost use Rattle.query_arguments.specs.Readings as readings;
 ghost use Rattle.query_arguments.specs.Values as values;
 
-use crate::dates::utc_seconds_of;
 use crate::email_condition::EmailCondition;
 use crate::reading::Reading;
-use crate::values::{keyword_given, list_of_texts, mailbox_number, natural_of, numbers_of_ids};
+use crate::values::{
+    keyword_given, list_of_texts, mailbox_number, natural_of, numbers_of_ids, second_from,
+};
 use octets::{Bytes, Names};
 use query_conditions::{Quantity, RecordCondition, TextField};
 use search_words::search_words;
@@ -52,18 +52,18 @@ fn in_mailbox_other_than(
 }
 
 fn received_before(value: &Value) -> Reading<EmailCondition>
-    ensures { result ≡ of_record (λ time. RecordCondition.Before time) (dates.utc_seconds_of (view value.now)) }
+    ensures { result ≡ of_record (λ time. RecordCondition.Before time) (values.second_from (view value.now)) }
 {
-    match utc_seconds_of(value) {
+    match second_from(value) {
         None => Reading::Wrong,
         Some(time) => record(RecordCondition::Before(time)),
     }
 }
 
 fn received_after(value: &Value) -> Reading<EmailCondition>
-    ensures { result ≡ of_record (λ time. RecordCondition.After time) (dates.utc_seconds_of (view value.now)) }
+    ensures { result ≡ of_record (λ time. RecordCondition.After time) (values.second_from (view value.now)) }
 {
-    match utc_seconds_of(value) {
+    match second_from(value) {
         None => Reading::Wrong,
         Some(time) => record(RecordCondition::After(time)),
     }

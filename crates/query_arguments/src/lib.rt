@@ -7,7 +7,6 @@ mod email_condition;
 mod filter;
 
 // Values, filters and orders as JSON.
-mod dates;
 mod email_filters;
 mod filters;
 mod mailbox_filters;

@@ -1,7 +1,6 @@
-// Values in filters: ids, numbers, keywords and texts.
+// Values in filters: ids, numbers, dates, keywords and texts.
 ghost use Rattle.std.specs.Prelude.{◌≡◌, ◌∷◌, [], IfOk, OnOk, map, option_map};
 ghost use Rattle.std.specs.Char.{to_ascii_lowercase};
-ghost use Rattle.std.specs.List.{list_all};
 ghost use Rattle.std.specs.Ordering.{nat_cmp};
 ghost use Rattle.mail_maps.specs.Keywords.{sorted_into};
 ghost use Rattle.serde_json.specs.Find.{as_str};
@@ -10,13 +9,11 @@ ghost use Rattle.jmap_arguments.specs.Ids.{mailbox_letter};
 ghost use Rattle.query_arguments.specs.Values as values;
 
 use jmap_arguments::{MAILBOX_LETTER, read_id, texts_in, whole_in};
+use jmap_values::{first_second_from, is_keyword};
 use octets::Bytes;
 use serde_json::Value;
 use std::alloc::{AllocError, Global};
 use std::collections::BTreeSet;
-
-/// The most octets of a keyword (RFC 8621 section 4.1.1).
-const MAX_KEYWORD_OCTETS: usize = 255;
 
 /// The number of the Mailbox whose id this is.
 pub(crate) fn mailbox_number(id: &str) -> Option<u64>
@@ -74,25 +71,11 @@ pub(crate) fn natural_of(value: &Value) -> Option<u64>
     }
 }
 
-fn is_keyword_octet(octet: u8) -> bool
-    ensures { result ≡ values.is_keyword_octet octet }
+/// The first whole second from a date in UTC on, in seconds since 1970-01-01T00:00:00Z.
+pub(crate) fn second_from(value: &Value) -> Option<i64>
+    ensures { result ≡ values.second_from (view value.now) }
 {
-    match octet {
-        b'(' | b')' | b'{' | b']' | b'%' | b'*' | b'"' | b'\\' => false,
-        _ => b'!' <= octet && octet <= b'~',
-    }
-}
-
-fn are_keyword_octets(octets: &[u8]) -> bool
-    ensures { result ≡ list_all values.is_keyword_octet octets.now }
-{
-    octets.iter().all(|octet| is_keyword_octet(*octet))
-}
-
-fn is_keyword(octets: &[u8]) -> bool
-    ensures { result ≡ values.is_keyword octets.now }
-{
-    !octets.is_empty() && octets.len() <= MAX_KEYWORD_OCTETS && are_keyword_octets(octets)
+    first_second_from(value.as_str()?.as_bytes())
 }
 
 fn lower_case(alloc: Global, octets: &[u8]) -> Result<Bytes, AllocError>

@@ -10,4 +10,4 @@ mod pending;
 pub use creations::{creation_in, id_named};
 pub use item::Item;
 pub use laws::items_have_one_order;
-pub use order::ordered_items;
+pub use order::{creation_ids, ordered_items};

@@ -19,7 +19,7 @@ use std::alloc::{AllocError, Global};
 use std::collections::BTreeSet;
 
 /// The creation ids of what a call is to make.
-pub(crate) fn keys_of<'a>(
+pub fn creation_ids<'a>(
     alloc: Global,
     create: &Vec<Keyed<'a>>,
 ) -> Result<BTreeSet<&'a str>, AllocError>
@@ -135,7 +135,7 @@ pub fn ordered_items<'a>(
 ) -> Result<Vec<Item<'a>>, AllocError>
     ensures { IfOk result (λ items. ItemsOf method created.now (asked_data asked.now) (map item_data items.items)) }
 {
-    let making = keys_of(alloc, &asked.create)?;
+    let making = creation_ids(alloc, &asked.create)?;
     let mut items = Vec::new(alloc);
     add_made(alloc, method, &mut items, &asked.create)?;
     add_updates(&mut items, &asked.update)?;

@@ -1,7 +1,7 @@
 use Rattle.std.proofs.Common.{◌≡◌}
 use Rattle.serde_json.specs.View.{members_view}
 use Rattle.email_checks.specs.Asked.{are_right}
-use Rattle.email_checks.specs.Keywords.{is_keyword}
+use Rattle.jmap_values.specs.Keywords.{is_keyword}
 use Rattle.email_checks.proofs.email_test.are_keywords.Given as goal
 
 -- the answer for all is that for those that are left
