@@ -7,11 +7,10 @@ use Rattle.header_addresses.specs.declared.address.Address.{Address}
 use Rattle.header_addresses.specs.Names.{IsAddressesForm}
 use Rattle.header_addresses.proofs.FormLemmas.{one_addresses}
 use Rattle.serde_json.specs.Data.{Data, Items, item}
-use Rattle.serde_json.specs.Find.{as_array}
 use Rattle.mail_drafts.specs.Mailboxes.{unnamed, ReadsAlone}
-use Rattle.draft_reading.specs.Mailboxes.{Named, named_in, AreAlone, AreAddresses}
+use Rattle.draft_reading.specs.Mailboxes.{Named, named_in, AreAlone}
 use Rattle.draft_reading.specs.Values.{each_in}
-use Rattle.draft_reading.specs.reading.Addresses.{are_unnamed, IsMailbox, IsNoMailbox, AreMailboxes, AreNoMailboxes, AreNoAddresses}
+use Rattle.draft_reading.specs.reading.Addresses.{are_unnamed, IsMailbox, IsNoMailbox, AreNoMailboxes}
 use Rattle.draft_reading.proofs.ItemLemmas.{IsSoFar, so_far_more, so_far_none}
 
 -- ---- whether an email reads alone
@@ -86,15 +85,3 @@ pub mailbox_more : (all : Items) (done new : List Named) (d : Data) (left : Item
 mailbox_more all done new d left n so is same =
     let P : List Named → Type 0 = λ ms. ReadSoFar all ms left in
     subst P (sym same) (record { typed = so_far_more named_in all done d left n so.typed is.typed; alone = alone_more done n so.alone is.alone })
-
--- ---- a list of addresses
-
-pub addresses_of : (d : Data) (ds : Items) (list : List Named) → as_array d ≡ Some ds → AreMailboxes ds list → AreAddresses d list
-addresses_of d ds list is a = record { typed = ap (λ (o : Option Items). option_and_then (each_in named_in) o) is ∙ a.typed; alone = a.alone }
-
-pub no_addresses_of : (d : Data) (ds : Items) → as_array d ≡ Some ds → AreNoMailboxes ds → AreNoAddresses d
-no_addresses_of d ds is none list a =
-    none list (record { typed = ap (λ (o : Option Items). option_and_then (each_in named_in) o) (sym is) ∙ a.typed; alone = a.alone })
-
-pub no_list : (d : Data) → as_array d ≡ None → AreNoAddresses d
-no_list d is list a = let e : None ≡ Some list = ap (λ (o : Option Items). option_and_then (each_in named_in) o) (sym is) ∙ a.typed in absurd (cc)

@@ -1,8 +1,8 @@
 -- Items of a list that are read one after another.
 use Rattle.std.proofs.Common.{◌≡◌, ℕ, ◌+◌, ◌<◌, suc, List, [], ◌∷◌, ◌++◌, Option, Some, None, option_map, drop, length, get_or, refl, sym, ap, ◌∙◌, drop-cons, add-one}
 use Rattle.std.specs.Prelude.{option_and_then}
-use Rattle.std.proofs.lemmas.List.{append_assoc, append-nil}
-use Rattle.serde_json.specs.Data.{Data, Items, no_items, item}
+use Rattle.std.proofs.lemmas.List.{append_assoc}
+use Rattle.serde_json.specs.Data.{Data, Items, item}
 use Rattle.serde_json.specs.View.{view, items_view}
 use Rattle.serde_json.specs.declared.value.Value.{Value}
 use Rattle.draft_reading.specs.Values.{each_in}
@@ -33,7 +33,3 @@ module _ {X : Type 0} where
   pub so_far_none : (read : Data → Option X) (all : Items) (done : List X) (d : Data) (left : Items) → IsSoFar read all done (item d left) → read d ≡ None → each_in read all ≡ None
   so_far_none read all done d left so is =
       so ∙ ap (λ (o : Option X). option_map (λ (xs : List X). done ++ xs) (option_and_then (λ (y : X). option_map (λ (ys : List X). y ∷ ys) (each_in read left)) o)) is
-
-  -- all are read
-  pub so_far_all : (read : Data → Option X) (all : Items) (done : List X) → IsSoFar read all done no_items → each_in read all ≡ Some done
-  so_far_all read all done so = so ∙ ap Some (append-nil done)

@@ -1,5 +1,5 @@
 -- Properties are read in one way.
-use Rattle.std.proofs.Common.{◌≡◌, ℕ, List, [], ◌∷◌, Option, cond, Ordering, Less, Equal, Greater, nat_cmp, refl, sym, ap, ◌∙◌}
+use Rattle.std.proofs.Common.{◌≡◌, ℕ, List, [], ◌∷◌, Option, cond, Ordering, Less, Equal, Greater, nat_cmp, refl, ap, ◌∙◌}
 use Rattle.std.specs.Cmp.Lexicographic.{slice_cmp}
 use Rattle.std.specs.List.{AllZip, filter}
 use Rattle.std.specs.Ordering.{ordering_reverse}
@@ -7,7 +7,6 @@ use Rattle.std.specs.Prelude.{is_none}
 use Rattle.std.proofs.lemmas.Cmp.{nat_list_cmp_total}
 use Rattle.std.proofs.lemmas.Map.Lookups.{exact_bytes}
 use Rattle.serde_json.specs.Data.{Members}
-use Rattle.blob_store.specs.Uploads.{upload_with}
 use Rattle.jmap_arguments.specs.Gets.{distinct_ids}
 use Rattle.mail_drafts.specs.declared.attachment.Attachment.{Attachment}
 use Rattle.mail_drafts.specs.declared.draft.Draft.{Draft}

@@ -1,6 +1,6 @@
 -- The parts of an Email that is to be created (RFC 8621 sections 4.1.4 and 4.6).
 use Rattle.std.specs.Prelude.{ℕ, Bool, true, false, not, ◌&&◌, List, [], ◌∷◌, Option, Some, None, option_map, option_and_then, is_some, codes, if◌then◌else◌}
-use Rattle.serde_json.specs.Data.{Data, null, boolean, string, Members}
+use Rattle.serde_json.specs.Data.{Data, boolean, Members}
 use Rattle.serde_json.specs.Find.{get, get_member, as_str, as_object}
 use Rattle.text_words.specs.Cuts.{front}
 use Rattle.text_words.specs.Octets.{is_same_text}

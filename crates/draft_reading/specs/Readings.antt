@@ -1,5 +1,5 @@
 -- What the properties of an Email that is to be created are read as: a draft, or why there is none (RFC 8621 section 4.6).
-use Rattle.std.specs.Prelude.{◌≡◌, ◌≢◌, ℕ, Bool, List, [], ◌∷◌, Option, Some, None, codes, map, is_none, unwrap_or, option_map, option_and_then}
+use Rattle.std.specs.Prelude.{◌≡◌, ◌≢◌, ℕ, Bool, List, [], Option, Some, codes, map, is_none, unwrap_or, option_map, option_and_then}
 use Rattle.std.specs.List.{AllZip, filter}
 use Rattle.serde_json.specs.Data.{Data, Members}
 use Rattle.serde_json.specs.Find.{get_member, as_str}
@@ -11,7 +11,7 @@ use Rattle.mail_drafts.specs.declared.draft.Draft.{Draft}
 use Rattle.mail_drafts.specs.declared.error.BuildError.{BuildError}
 use Rattle.mail_drafts.specs.declared.error.BuildError.TheVariants.{BadValue, BlobNotFound, TooLarge, Memory}
 use Rattle.draft_reading.specs.Values.{id_in, date_in, list_in, filled}
-use Rattle.draft_reading.specs.Mailboxes.{Named, named_in, said}
+use Rattle.draft_reading.specs.Mailboxes.{named_in, said}
 use Rattle.draft_reading.specs.Parts.{text_list_in, Attached, attachment_in}
 use Rattle.draft_reading.specs.Properties.{NoneRefused, IsFirstRefused}
 

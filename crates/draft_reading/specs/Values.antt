@@ -1,6 +1,6 @@
 -- Values of JSON by what they stand for, or None where they are of another type (RFC 8621 section 4).
 use Rattle.std.specs.Prelude.{ℕ, Bool, true, false, ◌&&◌, List, [], ◌∷◌, Option, Some, None, option_map, option_and_then, is_some, if◌then◌else◌}
-use Rattle.serde_json.specs.Data.{Data, null, boolean, number, string, array, object, Items, no_items, item, Members, no_members, member}
+use Rattle.serde_json.specs.Data.{Data, null, boolean, Items, no_items, item, Members, no_members, member}
 use Rattle.serde_json.specs.Find.{as_str, as_array, as_object}
 use Rattle.jmap_values.specs.Dates.{moment_in, utc_seconds_in}
 use Rattle.header_dates.specs.declared.date.Moment.{Moment}

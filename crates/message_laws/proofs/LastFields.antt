@@ -131,28 +131,30 @@ no_address : (d : Draft) (now : ℤ) (word : ℕ) (fs : List Field) (a : AreDraf
     (gs : List Field) → AreAddressFields name list gs → last n gs ≡ None
 no_address d now word fs a n name e list gs is = absent_of (AreAddressTexts (begun name)) name n e list gs is
 
-no_from : (d : Draft) (now : ℤ) (word : ℕ) (fs : List Field) (a : AreDraftFields d now word fs) (n : List ℕ) → IsOther n → last n a.from ≡ None
-no_from d now word fs a n o = no_address d now word fs a n (codes "From") o.0 d.from a.from a.is_from
-
 no_part : (d : Draft) (n : List ℕ) → IsOther n → last n (mime_version ∷ (draft_part d).fields) ≡ None
 no_part d n o = part_absent n o.6 o.7 o.8 d.text d.html d.attachments
 
--- the rows behind those of ids: who gets the message, and the fields behind those of a draft
-abbrev recipients : {d : Draft} {now : ℤ} {word : ℕ} {fs : List Field} → AreDraftFields d now word fs → List (List Field)
-recipients {d} a = a.sender ∷ a.reply_to ∷ a.to ∷ a.cc ∷ a.bcc ∷ (mime_version ∷ (draft_part d).fields) ∷ []
+-- the rows of addresses, and those behind them
+abbrev addresses : {d : Draft} {now : ℤ} {word : ℕ} {fs : List Field} → AreDraftFields d now word fs → List (List Field) → List (List Field)
+addresses a more = a.from ∷ a.sender ∷ a.reply_to ∷ a.to ∷ a.cc ∷ a.bcc ∷ more
 
-no_recipient : (d : Draft) (now : ℤ) (word : ℕ) (fs : List Field) (a : AreDraftFields d now word fs) (n : List ℕ) → IsOther n → AllAbsent n (recipients a)
-no_recipient d now word fs a n o =
+no_addresses : (d : Draft) (now : ℤ) (word : ℕ) (fs : List Field) (a : AreDraftFields d now word fs) (n : List ℕ) → IsOther n → (more : List (List Field)) → AllAbsent n more
+    → AllAbsent n (addresses a more)
+no_addresses d now word fs a n o more rest =
     let none = no_address d now word fs a n in (
-      none (codes "Sender") o.1 d.sender a.sender a.is_sender,
+      none (codes "From") o.0 d.from a.from a.is_from,
       (
-        none (codes "Reply-To") o.2 d.reply_to a.reply_to a.is_reply_to,
+        none (codes "Sender") o.1 d.sender a.sender a.is_sender,
         (
-          none (codes "To") o.3 d.to a.to a.is_to,
-          (none (codes "Cc") o.4 d.cc a.cc a.is_cc, (none (codes "Bcc") o.5 d.bcc a.bcc a.is_bcc, (no_part d n o, tt))),
+          none (codes "Reply-To") o.2 d.reply_to a.reply_to a.is_reply_to,
+          (none (codes "To") o.3 d.to a.to a.is_to, (none (codes "Cc") o.4 d.cc a.cc a.is_cc, (none (codes "Bcc") o.5 d.bcc a.bcc a.is_bcc, rest))),
         ),
       ),
     )
+
+-- the row behind those of a draft
+abbrev of_part : Draft → List (List Field)
+of_part d = (mime_version ∷ (draft_part d).fields) ∷ []
 
 no_date : (d : Draft) (now : ℤ) (word : ℕ) (fs : List Field) (a : AreDraftFields d now word fs) (n : List ℕ) → is_same_text (codes "Date") n ≡ false → last n a.date ≡ None
 no_date d now word fs a n e = absent (IsDateText (date_or_now now d.date)) (codes "Date") n e a.date a.is_date
@@ -175,7 +177,7 @@ no_references d now word fs a n e = absent_of AreIdTexts (codes "References") n 
 -- the fields of the message, row by row
 rows : (d : Draft) (now : ℤ) (word : ℕ) (fs : List Field) (a : AreDraftFields d now word fs) (n : List ℕ)
     → last n (message_fields fs d)
-    ≡ last n (joined a.date (a.from ∷ a.subject ∷ a.message_id ∷ a.in_reply_to ∷ a.references ∷ recipients a))
+    ≡ last n (joined a.date (addresses a (a.subject ∷ a.message_id ∷ a.in_reply_to ∷ a.references ∷ of_part d)))
 rows d now word fs a n = ap (λ (gs : List Field). last n (gs ++ mime_version ∷ (draft_part d).fields)) a.whole
 
 pub only_date : (d : Draft) (now : ℤ) (word : ℕ) (fs : List Field) (a : AreDraftFields d now word fs) → last (codes "Date") (message_fields fs d) ≡ last (codes "Date") a.date
@@ -183,16 +185,9 @@ only_date d now word fs a =
     let n = codes "Date" in
     let o : IsOther n = (refl, refl, refl, refl, refl, refl, refl, refl, refl) in
     rows d now word fs a n
-    ∙ behind n a.date (a.from ∷ a.subject ∷ a.message_id ∷ a.in_reply_to ∷ a.references ∷ recipients a) (
-      no_from d now word fs a n o,
-      (
-        no_subject d now word fs a n refl,
-        (
-          no_own_id d now word fs a n refl,
-          (no_reply d now word fs a n refl, (no_references d now word fs a n refl, no_recipient d now word fs a n o)),
-        ),
-      ),
-    )
+    ∙ behind n a.date (addresses a (a.subject ∷ a.message_id ∷ a.in_reply_to ∷ a.references ∷ of_part d))
+    (no_addresses d now word fs a n o (a.subject ∷ a.message_id ∷ a.in_reply_to ∷ a.references ∷ of_part d)
+    (no_subject d now word fs a n refl, (no_own_id d now word fs a n refl, (no_reply d now word fs a n refl, (no_references d now word fs a n refl, (no_part d n o, tt))))))
 
 pub only_subject : (d : Draft) (now : ℤ) (word : ℕ) (fs : List Field) (a : AreDraftFields d now word fs)
     → last (codes "Subject") (message_fields fs d) ≡ last (codes "Subject") a.subject
@@ -200,8 +195,9 @@ only_subject d now word fs a =
     let n = codes "Subject" in
     let o : IsOther n = (refl, refl, refl, refl, refl, refl, refl, refl, refl) in
     rows d now word fs a n
-    ∙ among n a.date (a.from ∷ []) a.subject (a.message_id ∷ a.in_reply_to ∷ a.references ∷ recipients a) (no_date d now word fs a n refl) (no_from d now word fs a n o, tt)
-    (no_own_id d now word fs a n refl, (no_reply d now word fs a n refl, (no_references d now word fs a n refl, no_recipient d now word fs a n o)))
+    ∙ among n a.date (addresses a []) a.subject (a.message_id ∷ a.in_reply_to ∷ a.references ∷ of_part d) (no_date d now word fs a n refl)
+    (no_addresses d now word fs a n o [] tt)
+    (no_own_id d now word fs a n refl, (no_reply d now word fs a n refl, (no_references d now word fs a n refl, (no_part d n o, tt))))
 
 pub only_message_id : (d : Draft) (now : ℤ) (word : ℕ) (fs : List Field) (a : AreDraftFields d now word fs)
     → last (codes "Message-ID") (message_fields fs d) ≡ last (codes "Message-ID") a.message_id
@@ -209,9 +205,9 @@ only_message_id d now word fs a =
     let n = codes "Message-ID" in
     let o : IsOther n = (refl, refl, refl, refl, refl, refl, refl, refl, refl) in
     rows d now word fs a n
-    ∙ among n a.date (a.from ∷ a.subject ∷ []) a.message_id (a.in_reply_to ∷ a.references ∷ recipients a) (no_date d now word fs a n refl)
-    (no_from d now word fs a n o, (no_subject d now word fs a n refl, tt))
-    (no_reply d now word fs a n refl, (no_references d now word fs a n refl, no_recipient d now word fs a n o))
+    ∙ among n a.date (addresses a (a.subject ∷ [])) a.message_id (a.in_reply_to ∷ a.references ∷ of_part d) (no_date d now word fs a n refl)
+    (no_addresses d now word fs a n o (a.subject ∷ []) (no_subject d now word fs a n refl, tt))
+    (no_reply d now word fs a n refl, (no_references d now word fs a n refl, (no_part d n o, tt)))
 
 pub only_in_reply_to : (d : Draft) (now : ℤ) (word : ℕ) (fs : List Field) (a : AreDraftFields d now word fs)
     → last (codes "In-Reply-To") (message_fields fs d) ≡ last (codes "In-Reply-To") a.in_reply_to
@@ -219,9 +215,9 @@ only_in_reply_to d now word fs a =
     let n = codes "In-Reply-To" in
     let o : IsOther n = (refl, refl, refl, refl, refl, refl, refl, refl, refl) in
     rows d now word fs a n
-    ∙ among n a.date (a.from ∷ a.subject ∷ a.message_id ∷ []) a.in_reply_to (a.references ∷ recipients a) (no_date d now word fs a n refl)
-    (no_from d now word fs a n o, (no_subject d now word fs a n refl, (no_own_id d now word fs a n refl, tt)))
-    (no_references d now word fs a n refl, no_recipient d now word fs a n o)
+    ∙ among n a.date (addresses a (a.subject ∷ a.message_id ∷ [])) a.in_reply_to (a.references ∷ of_part d) (no_date d now word fs a n refl)
+    (no_addresses d now word fs a n o (a.subject ∷ a.message_id ∷ []) (no_subject d now word fs a n refl, (no_own_id d now word fs a n refl, tt)))
+    (no_references d now word fs a n refl, (no_part d n o, tt))
 
 pub only_references : (d : Draft) (now : ℤ) (word : ℕ) (fs : List Field) (a : AreDraftFields d now word fs)
     → last (codes "References") (message_fields fs d) ≡ last (codes "References") a.references
@@ -229,6 +225,6 @@ only_references d now word fs a =
     let n = codes "References" in
     let o : IsOther n = (refl, refl, refl, refl, refl, refl, refl, refl, refl) in
     rows d now word fs a n
-    ∙ among n a.date (a.from ∷ a.subject ∷ a.message_id ∷ a.in_reply_to ∷ []) a.references (recipients a) (no_date d now word fs a n refl)
-    (no_from d now word fs a n o, (no_subject d now word fs a n refl, (no_own_id d now word fs a n refl, (no_reply d now word fs a n refl, tt))))
-    (no_recipient d now word fs a n o)
+    ∙ among n a.date (addresses a (a.subject ∷ a.message_id ∷ a.in_reply_to ∷ [])) a.references (of_part d) (no_date d now word fs a n refl)
+    (no_addresses d now word fs a n o (a.subject ∷ a.message_id ∷ a.in_reply_to ∷ []) (no_subject d now word fs a n refl, (no_own_id d now word fs a n refl, (no_reply d now word fs a n refl, tt))))
+    (no_part d n o, tt)

@@ -71,16 +71,16 @@ fields_printed : (d : Draft) (now : ℤ) (word : ℕ) (fs : List Field) → AreD
 fields_printed d now word fs f =
     let m = date_or_now now d.date in
     let p_from = fields_append (f.date) f.from (field_printed (IsDateText m) (codes "Date") (named (codes "Date") refl refl) (λ ps is. date_pieces d now ps is) f.date f.is_date) (field_of_printed (AreAddressTexts (begun (codes "From"))) (codes "From") (named (codes "From") refl refl) (λ list ps is. addresses_printed (begun (codes "From")) list ps is) d.from f.from f.is_from) in
-    let p_subject = fields_append (f.date ++ f.from) f.subject p_from (field_of_printed (IsSubject (begun (codes "Subject"))) (codes "Subject") (named (codes "Subject") refl refl) (λ s ps is. subject_printed (begun (codes "Subject")) s ps is) d.subject f.subject f.is_subject) in
-    let p_message_id = fields_append (f.date ++ f.from ++ f.subject) f.message_id p_subject (field_printed (AreIdTexts (ids_or_drawn word d.message_id)) (codes "Message-ID") (named (codes "Message-ID") refl refl) (λ ps is. own_ids d word ps is) f.message_id f.is_message_id) in
-    let p_in_reply_to = fields_append (f.date ++ f.from ++ f.subject ++ f.message_id) f.in_reply_to p_message_id (ids_printed_of (codes "In-Reply-To") (named (codes "In-Reply-To") refl refl) d.in_reply_to d.in_reply_to_is f.in_reply_to f.is_in_reply_to) in
-    let p_references = fields_append (f.date ++ f.from ++ f.subject ++ f.message_id ++ f.in_reply_to) f.references p_in_reply_to (ids_printed_of (codes "References") (named (codes "References") refl refl) d.references d.references_is f.references f.is_references) in
-    let p_sender = fields_append (f.date ++ f.from ++ f.subject ++ f.message_id ++ f.in_reply_to ++ f.references) f.sender p_references (field_of_printed (AreAddressTexts (begun (codes "Sender"))) (codes "Sender") (named (codes "Sender") refl refl) (λ list ps is. addresses_printed (begun (codes "Sender")) list ps is) d.sender f.sender f.is_sender) in
-    let p_reply_to = fields_append (f.date ++ f.from ++ f.subject ++ f.message_id ++ f.in_reply_to ++ f.references ++ f.sender) f.reply_to p_sender (field_of_printed (AreAddressTexts (begun (codes "Reply-To"))) (codes "Reply-To") (named (codes "Reply-To") refl refl) (λ list ps is. addresses_printed (begun (codes "Reply-To")) list ps is) d.reply_to f.reply_to f.is_reply_to) in
-    let p_to = fields_append (f.date ++ f.from ++ f.subject ++ f.message_id ++ f.in_reply_to ++ f.references ++ f.sender ++ f.reply_to) f.to p_reply_to (field_of_printed (AreAddressTexts (begun (codes "To"))) (codes "To") (named (codes "To") refl refl) (λ list ps is. addresses_printed (begun (codes "To")) list ps is) d.to f.to f.is_to) in
-    let p_cc = fields_append (f.date ++ f.from ++ f.subject ++ f.message_id ++ f.in_reply_to ++ f.references ++ f.sender ++ f.reply_to ++ f.to) f.cc p_to (field_of_printed (AreAddressTexts (begun (codes "Cc"))) (codes "Cc") (named (codes "Cc") refl refl) (λ list ps is. addresses_printed (begun (codes "Cc")) list ps is) d.cc f.cc f.is_cc) in
-    let p_bcc = fields_append (f.date ++ f.from ++ f.subject ++ f.message_id ++ f.in_reply_to ++ f.references ++ f.sender ++ f.reply_to ++ f.to ++ f.cc) f.bcc p_cc (field_of_printed (AreAddressTexts (begun (codes "Bcc"))) (codes "Bcc") (named (codes "Bcc") refl refl) (λ list ps is. addresses_printed (begun (codes "Bcc")) list ps is) d.bcc f.bcc f.is_bcc) in
-    subst (λ (x : List Field). ArePrintedFields x) (sym f.whole) p_bcc
+    let p_sender = fields_append (f.date ++ f.from) f.sender p_from (field_of_printed (AreAddressTexts (begun (codes "Sender"))) (codes "Sender") (named (codes "Sender") refl refl) (λ list ps is. addresses_printed (begun (codes "Sender")) list ps is) d.sender f.sender f.is_sender) in
+    let p_reply_to = fields_append (f.date ++ f.from ++ f.sender) f.reply_to p_sender (field_of_printed (AreAddressTexts (begun (codes "Reply-To"))) (codes "Reply-To") (named (codes "Reply-To") refl refl) (λ list ps is. addresses_printed (begun (codes "Reply-To")) list ps is) d.reply_to f.reply_to f.is_reply_to) in
+    let p_to = fields_append (f.date ++ f.from ++ f.sender ++ f.reply_to) f.to p_reply_to (field_of_printed (AreAddressTexts (begun (codes "To"))) (codes "To") (named (codes "To") refl refl) (λ list ps is. addresses_printed (begun (codes "To")) list ps is) d.to f.to f.is_to) in
+    let p_cc = fields_append (f.date ++ f.from ++ f.sender ++ f.reply_to ++ f.to) f.cc p_to (field_of_printed (AreAddressTexts (begun (codes "Cc"))) (codes "Cc") (named (codes "Cc") refl refl) (λ list ps is. addresses_printed (begun (codes "Cc")) list ps is) d.cc f.cc f.is_cc) in
+    let p_bcc = fields_append (f.date ++ f.from ++ f.sender ++ f.reply_to ++ f.to ++ f.cc) f.bcc p_cc (field_of_printed (AreAddressTexts (begun (codes "Bcc"))) (codes "Bcc") (named (codes "Bcc") refl refl) (λ list ps is. addresses_printed (begun (codes "Bcc")) list ps is) d.bcc f.bcc f.is_bcc) in
+    let p_subject = fields_append (f.date ++ f.from ++ f.sender ++ f.reply_to ++ f.to ++ f.cc ++ f.bcc) f.subject p_bcc (field_of_printed (IsSubject (begun (codes "Subject"))) (codes "Subject") (named (codes "Subject") refl refl) (λ s ps is. subject_printed (begun (codes "Subject")) s ps is) d.subject f.subject f.is_subject) in
+    let p_message_id = fields_append (f.date ++ f.from ++ f.sender ++ f.reply_to ++ f.to ++ f.cc ++ f.bcc ++ f.subject) f.message_id p_subject (field_printed (AreIdTexts (ids_or_drawn word d.message_id)) (codes "Message-ID") (named (codes "Message-ID") refl refl) (λ ps is. own_ids d word ps is) f.message_id f.is_message_id) in
+    let p_in_reply_to = fields_append (f.date ++ f.from ++ f.sender ++ f.reply_to ++ f.to ++ f.cc ++ f.bcc ++ f.subject ++ f.message_id) f.in_reply_to p_message_id (ids_printed_of (codes "In-Reply-To") (named (codes "In-Reply-To") refl refl) d.in_reply_to d.in_reply_to_is f.in_reply_to f.is_in_reply_to) in
+    let p_references = fields_append (f.date ++ f.from ++ f.sender ++ f.reply_to ++ f.to ++ f.cc ++ f.bcc ++ f.subject ++ f.message_id ++ f.in_reply_to) f.references p_in_reply_to (ids_printed_of (codes "References") (named (codes "References") refl refl) d.references d.references_is f.references f.is_references) in
+    subst (λ (x : List Field). ArePrintedFields x) (sym f.whole) p_references
 
 -- ---- leaves
 

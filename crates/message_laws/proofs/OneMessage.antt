@@ -37,17 +37,17 @@ one_row d now word fs gs a b =
     let in_reply_to = one_field_of AreIdTexts (codes "In-Reply-To") one_ids d.in_reply_to a.in_reply_to b.in_reply_to a.is_in_reply_to b.is_in_reply_to in
     let references = one_field_of AreIdTexts (codes "References") one_ids d.references a.references b.references a.is_references b.is_references in
     a.whole
-    ∙ ap (λ (fs : List Field). fs ++ a.from ++ a.subject ++ a.message_id ++ a.in_reply_to ++ a.references ++ a.sender ++ a.reply_to ++ a.to ++ a.cc ++ a.bcc) date
-    ∙ ap (λ (fs : List Field). b.date ++ fs ++ a.subject ++ a.message_id ++ a.in_reply_to ++ a.references ++ a.sender ++ a.reply_to ++ a.to ++ a.cc ++ a.bcc) from
-    ∙ ap (λ (fs : List Field). b.date ++ b.from ++ fs ++ a.message_id ++ a.in_reply_to ++ a.references ++ a.sender ++ a.reply_to ++ a.to ++ a.cc ++ a.bcc) subject
-    ∙ ap (λ (fs : List Field). b.date ++ b.from ++ b.subject ++ fs ++ a.in_reply_to ++ a.references ++ a.sender ++ a.reply_to ++ a.to ++ a.cc ++ a.bcc) message_id
-    ∙ ap (λ (fs : List Field). b.date ++ b.from ++ b.subject ++ b.message_id ++ fs ++ a.references ++ a.sender ++ a.reply_to ++ a.to ++ a.cc ++ a.bcc) in_reply_to
-    ∙ ap (λ (fs : List Field). b.date ++ b.from ++ b.subject ++ b.message_id ++ b.in_reply_to ++ fs ++ a.sender ++ a.reply_to ++ a.to ++ a.cc ++ a.bcc) references
-    ∙ ap (λ (fs : List Field). b.date ++ b.from ++ b.subject ++ b.message_id ++ b.in_reply_to ++ b.references ++ fs ++ a.reply_to ++ a.to ++ a.cc ++ a.bcc) sender
-    ∙ ap (λ (fs : List Field). b.date ++ b.from ++ b.subject ++ b.message_id ++ b.in_reply_to ++ b.references ++ b.sender ++ fs ++ a.to ++ a.cc ++ a.bcc) reply_to
-    ∙ ap (λ (fs : List Field). b.date ++ b.from ++ b.subject ++ b.message_id ++ b.in_reply_to ++ b.references ++ b.sender ++ b.reply_to ++ fs ++ a.cc ++ a.bcc) to
-    ∙ ap (λ (fs : List Field). b.date ++ b.from ++ b.subject ++ b.message_id ++ b.in_reply_to ++ b.references ++ b.sender ++ b.reply_to ++ b.to ++ fs ++ a.bcc) cc
-    ∙ ap (λ (fs : List Field). b.date ++ b.from ++ b.subject ++ b.message_id ++ b.in_reply_to ++ b.references ++ b.sender ++ b.reply_to ++ b.to ++ b.cc ++ fs) bcc
+    ∙ ap (λ (fs : List Field). fs ++ a.from ++ a.sender ++ a.reply_to ++ a.to ++ a.cc ++ a.bcc ++ a.subject ++ a.message_id ++ a.in_reply_to ++ a.references) date
+    ∙ ap (λ (fs : List Field). b.date ++ fs ++ a.sender ++ a.reply_to ++ a.to ++ a.cc ++ a.bcc ++ a.subject ++ a.message_id ++ a.in_reply_to ++ a.references) from
+    ∙ ap (λ (fs : List Field). b.date ++ b.from ++ fs ++ a.reply_to ++ a.to ++ a.cc ++ a.bcc ++ a.subject ++ a.message_id ++ a.in_reply_to ++ a.references) sender
+    ∙ ap (λ (fs : List Field). b.date ++ b.from ++ b.sender ++ fs ++ a.to ++ a.cc ++ a.bcc ++ a.subject ++ a.message_id ++ a.in_reply_to ++ a.references) reply_to
+    ∙ ap (λ (fs : List Field). b.date ++ b.from ++ b.sender ++ b.reply_to ++ fs ++ a.cc ++ a.bcc ++ a.subject ++ a.message_id ++ a.in_reply_to ++ a.references) to
+    ∙ ap (λ (fs : List Field). b.date ++ b.from ++ b.sender ++ b.reply_to ++ b.to ++ fs ++ a.bcc ++ a.subject ++ a.message_id ++ a.in_reply_to ++ a.references) cc
+    ∙ ap (λ (fs : List Field). b.date ++ b.from ++ b.sender ++ b.reply_to ++ b.to ++ b.cc ++ fs ++ a.subject ++ a.message_id ++ a.in_reply_to ++ a.references) bcc
+    ∙ ap (λ (fs : List Field). b.date ++ b.from ++ b.sender ++ b.reply_to ++ b.to ++ b.cc ++ b.bcc ++ fs ++ a.message_id ++ a.in_reply_to ++ a.references) subject
+    ∙ ap (λ (fs : List Field). b.date ++ b.from ++ b.sender ++ b.reply_to ++ b.to ++ b.cc ++ b.bcc ++ b.subject ++ fs ++ a.in_reply_to ++ a.references) message_id
+    ∙ ap (λ (fs : List Field). b.date ++ b.from ++ b.sender ++ b.reply_to ++ b.to ++ b.cc ++ b.bcc ++ b.subject ++ b.message_id ++ fs ++ a.references) in_reply_to
+    ∙ ap (λ (fs : List Field). b.date ++ b.from ++ b.sender ++ b.reply_to ++ b.to ++ b.cc ++ b.bcc ++ b.subject ++ b.message_id ++ b.in_reply_to ++ fs) references
     ∙ sym b.whole
 
 pub one_message : (d : Draft) (now : ℤ) (word : ℕ) (s t : List ℕ) → IsMessageText d now word s → IsMessageText d now word t → s ≡ t

@@ -61,63 +61,63 @@ whole fs e none fields mime text h f g k =
 pub draft_fields : (d : Draft) (now : ℤ) (word : ℕ) (t0 t1 t2 t3 t4 t5 t6 t7 t8 t9 t10 t11 : List ℕ)
     → AddsFields (IsWrittenField (IsDateText (date_or_now now d.date)) (codes "Date")) t0 t1
     → AddsFields (AreAddressFields (codes "From") d.from) t1 t2
-    → AddsFields (IsWrittenFieldOf (IsSubject (begun (codes "Subject"))) (codes "Subject") d.subject) t2 t3
-    → AddsFields (IsWrittenField (AreIdTexts (ids_or_drawn word d.message_id)) (codes "Message-ID")) t3 t4
-    → AddsFields (AreIdFields (codes "In-Reply-To") d.in_reply_to) t4 t5
-    → AddsFields (AreIdFields (codes "References") d.references) t5 t6
-    → AddsFields (AreAddressFields (codes "Sender") d.sender) t6 t7
-    → AddsFields (AreAddressFields (codes "Reply-To") d.reply_to) t7 t8
-    → AddsFields (AreAddressFields (codes "To") d.to) t8 t9
-    → AddsFields (AreAddressFields (codes "Cc") d.cc) t9 t10
-    → AddsFields (AreAddressFields (codes "Bcc") d.bcc) t10 t11
+    → AddsFields (AreAddressFields (codes "Sender") d.sender) t2 t3
+    → AddsFields (AreAddressFields (codes "Reply-To") d.reply_to) t3 t4
+    → AddsFields (AreAddressFields (codes "To") d.to) t4 t5
+    → AddsFields (AreAddressFields (codes "Cc") d.cc) t5 t6
+    → AddsFields (AreAddressFields (codes "Bcc") d.bcc) t6 t7
+    → AddsFields (IsWrittenFieldOf (IsSubject (begun (codes "Subject"))) (codes "Subject") d.subject) t7 t8
+    → AddsFields (IsWrittenField (AreIdTexts (ids_or_drawn word d.message_id)) (codes "Message-ID")) t8 t9
+    → AddsFields (AreIdFields (codes "In-Reply-To") d.in_reply_to) t9 t10
+    → AddsFields (AreIdFields (codes "References") d.references) t10 t11
     → AddsFields (AreDraftFields d now word) t0 t11
-draft_fields d now word t0 t1 t2 t3 t4 t5 t6 t7 t8 t9 t10 t11 a_date a_from a_subject a_message_id a_in_reply_to a_references a_sender a_reply_to a_to a_cc a_bcc =
+draft_fields d now word t0 t1 t2 t3 t4 t5 t6 t7 t8 t9 t10 t11 a_date a_from a_sender a_reply_to a_to a_cc a_bcc a_subject a_message_id a_in_reply_to a_references =
     let f2 = a_date.fields ++ a_from.fields in
     let e2 = more_added (a_date.fields) a_from.fields t0 t1 t2 a_date.text_is a_from.text_is in
-    let f3 = f2 ++ a_subject.fields in
-    let e3 = more_added (f2) a_subject.fields t0 t2 t3 e2 a_subject.text_is in
-    let f4 = f3 ++ a_message_id.fields in
-    let e4 = more_added (f3) a_message_id.fields t0 t3 t4 e3 a_message_id.text_is in
-    let f5 = f4 ++ a_in_reply_to.fields in
-    let e5 = more_added (f4) a_in_reply_to.fields t0 t4 t5 e4 a_in_reply_to.text_is in
-    let f6 = f5 ++ a_references.fields in
-    let e6 = more_added (f5) a_references.fields t0 t5 t6 e5 a_references.text_is in
-    let f7 = f6 ++ a_sender.fields in
-    let e7 = more_added (f6) a_sender.fields t0 t6 t7 e6 a_sender.text_is in
-    let f8 = f7 ++ a_reply_to.fields in
-    let e8 = more_added (f7) a_reply_to.fields t0 t7 t8 e7 a_reply_to.text_is in
-    let f9 = f8 ++ a_to.fields in
-    let e9 = more_added (f8) a_to.fields t0 t8 t9 e8 a_to.text_is in
-    let f10 = f9 ++ a_cc.fields in
-    let e10 = more_added (f9) a_cc.fields t0 t9 t10 e9 a_cc.text_is in
-    let f11 = f10 ++ a_bcc.fields in
-    let e11 = more_added (f10) a_bcc.fields t0 t10 t11 e10 a_bcc.text_is in
+    let f3 = f2 ++ a_sender.fields in
+    let e3 = more_added (f2) a_sender.fields t0 t2 t3 e2 a_sender.text_is in
+    let f4 = f3 ++ a_reply_to.fields in
+    let e4 = more_added (f3) a_reply_to.fields t0 t3 t4 e3 a_reply_to.text_is in
+    let f5 = f4 ++ a_to.fields in
+    let e5 = more_added (f4) a_to.fields t0 t4 t5 e4 a_to.text_is in
+    let f6 = f5 ++ a_cc.fields in
+    let e6 = more_added (f5) a_cc.fields t0 t5 t6 e5 a_cc.text_is in
+    let f7 = f6 ++ a_bcc.fields in
+    let e7 = more_added (f6) a_bcc.fields t0 t6 t7 e6 a_bcc.text_is in
+    let f8 = f7 ++ a_subject.fields in
+    let e8 = more_added (f7) a_subject.fields t0 t7 t8 e7 a_subject.text_is in
+    let f9 = f8 ++ a_message_id.fields in
+    let e9 = more_added (f8) a_message_id.fields t0 t8 t9 e8 a_message_id.text_is in
+    let f10 = f9 ++ a_in_reply_to.fields in
+    let e10 = more_added (f9) a_in_reply_to.fields t0 t9 t10 e9 a_in_reply_to.text_is in
+    let f11 = f10 ++ a_references.fields in
+    let e11 = more_added (f10) a_references.fields t0 t10 t11 e10 a_references.text_is in
     record {
       fields = f11;
       are = record {
         date = a_date.fields;
         from = a_from.fields;
-        subject = a_subject.fields;
-        message_id = a_message_id.fields;
-        in_reply_to = a_in_reply_to.fields;
-        references = a_references.fields;
         sender = a_sender.fields;
         reply_to = a_reply_to.fields;
         to = a_to.fields;
         cc = a_cc.fields;
         bcc = a_bcc.fields;
+        subject = a_subject.fields;
+        message_id = a_message_id.fields;
+        in_reply_to = a_in_reply_to.fields;
+        references = a_references.fields;
         whole = refl;
         is_date = a_date.are;
         is_from = a_from.are;
-        is_subject = a_subject.are;
-        is_message_id = a_message_id.are;
-        is_in_reply_to = a_in_reply_to.are;
-        is_references = a_references.are;
         is_sender = a_sender.are;
         is_reply_to = a_reply_to.are;
         is_to = a_to.are;
         is_cc = a_cc.are;
         is_bcc = a_bcc.are;
+        is_subject = a_subject.are;
+        is_message_id = a_message_id.are;
+        is_in_reply_to = a_in_reply_to.are;
+        is_references = a_references.are;
       };
       text_is = e11;
     }

@@ -42,29 +42,28 @@ AreAddressFields name list fields = IsWrittenFieldOf (AreAddressTexts (begun nam
 abbrev pub AreIdFields : List ℕ → Option (List (List ℕ)) → List Field → Type 0
 AreIdFields name ids fields = IsWrittenFieldOf AreIdTexts name ids fields
 
--- The fields of a draft; `now` is the present second, and `word` was drawn for its id. Lists of recipients, which may be long, come
--- last.
+-- The fields of a draft; `now` is the present second, and `word` was drawn for its id.
 pub record AreDraftFields (d : Draft) (now : ℤ) (word : ℕ) (fields : List Field) : Type 0 where
   pub date : List Field
   pub from : List Field
-  pub subject : List Field
-  pub message_id : List Field
-  pub in_reply_to : List Field
-  pub references : List Field
   pub sender : List Field
   pub reply_to : List Field
   pub to : List Field
   pub cc : List Field
   pub bcc : List Field
-  pub whole : fields ≡ date ++ from ++ subject ++ message_id ++ in_reply_to ++ references ++ sender ++ reply_to ++ to ++ cc ++ bcc
+  pub subject : List Field
+  pub message_id : List Field
+  pub in_reply_to : List Field
+  pub references : List Field
+  pub whole : fields ≡ date ++ from ++ sender ++ reply_to ++ to ++ cc ++ bcc ++ subject ++ message_id ++ in_reply_to ++ references
   pub is_date : IsWrittenField (IsDateText (date_or_now now d.date)) (codes "Date") date
   pub is_from : AreAddressFields (codes "From") d.from from
-  pub is_subject : IsWrittenFieldOf (IsSubject (begun (codes "Subject"))) (codes "Subject") d.subject subject
-  pub is_message_id : IsWrittenField (AreIdTexts (ids_or_drawn word d.message_id)) (codes "Message-ID") message_id
-  pub is_in_reply_to : AreIdFields (codes "In-Reply-To") d.in_reply_to in_reply_to
-  pub is_references : AreIdFields (codes "References") d.references references
   pub is_sender : AreAddressFields (codes "Sender") d.sender sender
   pub is_reply_to : AreAddressFields (codes "Reply-To") d.reply_to reply_to
   pub is_to : AreAddressFields (codes "To") d.to to
   pub is_cc : AreAddressFields (codes "Cc") d.cc cc
   pub is_bcc : AreAddressFields (codes "Bcc") d.bcc bcc
+  pub is_subject : IsWrittenFieldOf (IsSubject (begun (codes "Subject"))) (codes "Subject") d.subject subject
+  pub is_message_id : IsWrittenField (AreIdTexts (ids_or_drawn word d.message_id)) (codes "Message-ID") message_id
+  pub is_in_reply_to : AreIdFields (codes "In-Reply-To") d.in_reply_to in_reply_to
+  pub is_references : AreIdFields (codes "References") d.references references

@@ -129,13 +129,13 @@ pub(crate) fn push_draft_fields(
 {
     push_date_field(alloc, text, draft.date, now)?;
     push_address_field(alloc, text, "From", &draft.from)?;
-    push_subject_field(alloc, text, &draft.subject)?;
-    push_message_id(alloc, text, &draft.message_id, word)?;
-    push_id_field(alloc, text, "In-Reply-To", &draft.in_reply_to)?;
-    push_id_field(alloc, text, "References", &draft.references)?;
     push_address_field(alloc, text, "Sender", &draft.sender)?;
     push_address_field(alloc, text, "Reply-To", &draft.reply_to)?;
     push_address_field(alloc, text, "To", &draft.to)?;
     push_address_field(alloc, text, "Cc", &draft.cc)?;
-    push_address_field(alloc, text, "Bcc", &draft.bcc)
+    push_address_field(alloc, text, "Bcc", &draft.bcc)?;
+    push_subject_field(alloc, text, &draft.subject)?;
+    push_message_id(alloc, text, &draft.message_id, word)?;
+    push_id_field(alloc, text, "In-Reply-To", &draft.in_reply_to)?;
+    push_id_field(alloc, text, "References", &draft.references)
 }

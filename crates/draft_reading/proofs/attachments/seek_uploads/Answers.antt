@@ -1,4 +1,4 @@
-use Rattle.std.proofs.Common.{◌≡◌, ℕ, ◌+◌, ◌++◌, ◌∷◌, [], List, Option, Some, None, Vec, Global, map, take, sym, ap, ◌∙◌, subst}
+use Rattle.std.proofs.Common.{ℕ, ◌∷◌, [], List, Vec, Global, map, take, sym, ap, ◌∙◌, subst}
 use Rattle.std.specs.Borrow.{Bor}
 use Rattle.std.proofs.lemmas.List.{map-append}
 use Rattle.blob_store.specs.Uploads.{upload_with}

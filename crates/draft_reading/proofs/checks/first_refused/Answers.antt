@@ -1,4 +1,4 @@
-use Rattle.std.proofs.Common.{◌≡◌, [], ◌∷◌, ℕ, List, true, string_bytes, rules, refl, sym, subst}
+use Rattle.std.proofs.Common.{◌≡◌, [], ℕ, List, true, string_bytes, rules, refl, sym, subst}
 use Rattle.serde_json.specs.View.{view, members_view}
 use Rattle.serde_json.proofs.Views.{Entry}
 use Rattle.draft_reading.specs.Properties.{IsAllowed, IsFirstRefused}

@@ -1,6 +1,5 @@
-use Rattle.std.proofs.Common.{◌≡◌, List, map, ap, ◌∙◌, subst}
+use Rattle.std.proofs.Common.{List, map, ap, ◌∙◌, subst}
 use Rattle.std.specs.List.{AllZip}
-use Rattle.serde_json.specs.View.{members_view}
 use Rattle.draft_reading.specs.Parts.{Attached}
 use Rattle.draft_reading.specs.Readings.{IsUpload}
 use Rattle.draft_reading.specs.reading.Views.{attached_view}
