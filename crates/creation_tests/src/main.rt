@@ -1,0 +1,21 @@
+//! Emails that are to be created: reads rows from standard input, what a store tells, uploads and properties, and prints what each
+//! creation comes to. The legend stands at the top of the file `stdin`, and what has to come of its rows in the file `stdout`.
+#![tactic(auto)]
+
+// The mail, and what is named.
+mod call;
+
+// What comes of a creation.
+mod printed;
+
+// Rows.
+mod rows;
+
+use rows::Rows;
+use std::io;
+use test_rows::answer_rows;
+
+fn main(rt: HostRuntime) -> io::Result<()> {
+    let mut rows = Rows::new(rt.alloc())?;
+    answer_rows(&rt, &mut rows)
+}

@@ -1,0 +1,4 @@
+pub mod NamedLemmas
+pub mod CheckLemmas
+pub mod DrawLemmas
+pub mod LawLemmas
