@@ -1,6 +1,7 @@
 -- The steps of the items of calls.
 use Rattle.std.proofs.Common.{arith, ◌≡◌, ◌≤◌, ℕ, Bool, List, Option, Some, None, Result, Ok, Err, ap, sym}
 use Rattle.serde_json.specs.Data.{Members}
+use Rattle.told_mail.specs.Mail.{Mail}
 use Rattle.set_arguments.specs.Arguments.{SetAsked}
 use Rattle.set_arguments.specs.declared.set_method.SetMethod.{SetMethod}
 use Rattle.set_arguments.specs.declared.set_method.SetMethod.TheVariants.{EmailSet, MailboxSet}
@@ -9,32 +10,31 @@ use Rattle.set_jobs.specs.declared.job.Job.{Job}
 use Rattle.set_order.specs.Ordered.{Item, Create, Circle, Update, Destroy}
 use Rattle.set_given.specs.Given.{Given}
 use Rattle.email_checks.specs.Emails.{update_email, destroy_email}
+use Rattle.email_creation.specs.Appends.{Written}
+use Rattle.email_creation.specs.declared.ready.ReadyCreation.{ReadyCreation}
 use Rattle.mailbox_checks.specs.Create.{create_mailbox}
 use Rattle.mailbox_checks.specs.Destroy.{destroy_mailbox}
 use Rattle.mailbox_checks.specs.Update.{update_mailbox}
-use Rattle.set_methods.specs.Checks.{Drawn, Prepares, check_email, check_mailbox, with_steps}
-use Rattle.set_methods.specs.declared.checks.Passed.TheVariants.{Steps}
+use Rattle.set_items.specs.Commands.{BeginsHeld}
+use Rattle.set_methods.specs.Checks.{Drawn, Makes, Prepares, check_other, check_mailbox, with_steps}
+use Rattle.set_methods.specs.declared.checks.Passed.TheVariants.{Drawing, Steps}
 use Rattle.gate_calls.specs.ItemChecks.{item_checks}
 
 no_job : {Y : Type 0} (e : SetError) (job : Job) → ◌≡◌ {A = Result Job SetError} (Err e) (Ok job) → Y
 no_job e job is = absurd (cc)
 
 -- what holds of each job that an item of either method is
-pub record HoldsOfJobs (P : Given → Job → Type 0) : Type 0 where
-  pub email_update : (g : Given) (text : List ℕ) (patch : Members) (job : Job) → update_email g text patch ≡ Ok job → P g job
-  pub email_destroy : (g : Given) (text : List ℕ) (job : Job) → destroy_email g text ≡ Ok job → P g job
-  pub mailbox_create : (g : Given) (ms : Members) (job : Job) → create_mailbox g ms ≡ Ok job → P g job
-  pub mailbox_update : (g : Given) (text : List ℕ) (patch : Members) (job : Job) → update_mailbox g text patch ≡ Ok job → P g job
-  pub mailbox_destroy : (g : Given) (removes : Bool) (text : List ℕ) (job : Job) → destroy_mailbox g removes text ≡ Ok job → P g job
+pub record HoldsOfJobs (P : SetMethod → Given → Item → Job → Type 0) : Type 0 where
+  -- what is made of a creation of an Email
+  pub email_create : (g : Given) (key : List ℕ) (ms : Members) (ready : ReadyCreation) (drawn : Drawn) (job : Job) → Makes ready drawn (Ok job) → P EmailSet g (Create key ms) job
+  pub email_update : (g : Given) (text : List ℕ) (patch : Members) (job : Job) → update_email g text patch ≡ Ok job → P EmailSet g (Update text patch) job
+  pub email_destroy : (g : Given) (text : List ℕ) (job : Job) → destroy_email g text ≡ Ok job → P EmailSet g (Destroy text) job
+  pub mailbox_create : (g : Given) (key : List ℕ) (ms : Members) (job : Job) → create_mailbox g ms ≡ Ok job → P MailboxSet g (Create key ms) job
+  pub mailbox_update : (g : Given) (text : List ℕ) (patch : Members) (job : Job) → update_mailbox g text patch ≡ Ok job → P MailboxSet g (Update text patch) job
+  pub mailbox_destroy : (g : Given) (removes : Bool) (text : List ℕ) (job : Job) → destroy_mailbox g removes text ≡ Ok job → P MailboxSet g (Destroy text) job
 
-email_job : {P : Given → Job → Type 0} → HoldsOfJobs P → (g : Given) (item : Item) (job : Job) → check_email g item ≡ Ok job → P g job
-email_job holds g (Create key ms) job is = no_job _ job is
-email_job holds g (Circle key) job is = no_job _ job is
-email_job holds g (Update text patch) job is = holds.email_update g text patch job is
-email_job holds g (Destroy text) job is = holds.email_destroy g text job is
-
-mailbox_job : {P : Given → Job → Type 0} → HoldsOfJobs P → (removes : Bool) (g : Given) (item : Item) (job : Job) → check_mailbox removes g item ≡ Ok job → P g job
-mailbox_job holds removes g (Create key ms) job is = holds.mailbox_create g ms job is
+mailbox_job : {P : SetMethod → Given → Item → Job → Type 0} → HoldsOfJobs P → (removes : Bool) (g : Given) (item : Item) (job : Job) → check_mailbox removes g item ≡ Ok job → P MailboxSet g item job
+mailbox_job holds removes g (Create key ms) job is = holds.mailbox_create g key ms job is
 mailbox_job holds removes g (Circle key) job is = no_job _ job is
 mailbox_job holds removes g (Update text patch) job is = holds.mailbox_update g text patch job is
 mailbox_job holds removes g (Destroy text) job is = holds.mailbox_destroy g removes text job is
@@ -43,11 +43,30 @@ passed : (job : Job) (came : Result Job SetError) → Ok (Steps job) ≡ with_st
 passed job (Ok other) is = let same : Steps job ≡ Steps other = cc in let job_is : job ≡ other = cc in ap (λ (j : Job). Ok j) (sym job_is)
 passed job (Err e) is = absurd (cc)
 
-pub each_job : {P : Given → Job → Type 0} → HoldsOfJobs P → (m : SetMethod) (a : SetAsked) (g : Given) (item : Item) (drawn : Option Drawn) (job : Job)
-    → Prepares (item_checks m a) g item drawn (Ok job) → P g job
-each_job holds EmailSet a g item None job is = email_job holds g item job (passed job (check_email g item) is)
-each_job holds MailboxSet a g item None job is = mailbox_job holds a.removes g item job (passed job (check_mailbox a.removes g item) is)
-each_job holds m a g item (Some drawn) job (ready, checks, made) = absurd made
+-- where steps are known nothing is drawn
+not_drawn : {Y : Type 0} (ready : ReadyCreation) (came : Result Job SetError) → Ok (Drawing ready) ≡ with_steps came → Y
+not_drawn ready (Ok job) is = absurd (let same : Drawing ready ≡ Steps job = cc in cc)
+not_drawn ready (Err e) is = absurd (cc)
+
+pub each_job : {P : SetMethod → Given → Item → Job → Type 0} → HoldsOfJobs P → (uploads : List (List ℕ)) (m : SetMethod) (a : SetAsked) (g : Given) (item : Item) (drawn : Option Drawn)
+    (job : Job) → Prepares (item_checks uploads m a) g item drawn (Ok job) → P m g item job
+each_job holds uploads EmailSet a g (Create key ms) None job is = absurd is
+each_job holds uploads EmailSet a g (Circle key) None job is = no_job _ job (passed job (check_other g (Circle key)) is)
+each_job holds uploads EmailSet a g (Update text patch) None job is = holds.email_update g text patch job (passed job (update_email g text patch) is)
+each_job holds uploads EmailSet a g (Destroy text) None job is = holds.email_destroy g text job (passed job (destroy_email g text) is)
+each_job holds uploads EmailSet a g (Create key ms) (Some drawn) job (ready, checks, made) = holds.email_create g key ms ready drawn job made
+each_job holds uploads EmailSet a g (Circle key) (Some drawn) job (ready, checks, made) = not_drawn ready (check_other g (Circle key)) checks
+each_job holds uploads EmailSet a g (Update text patch) (Some drawn) job (ready, checks, made) = not_drawn ready (update_email g text patch) checks
+each_job holds uploads EmailSet a g (Destroy text) (Some drawn) job (ready, checks, made) = not_drawn ready (destroy_email g text) checks
+each_job holds uploads MailboxSet a g item None job is = mailbox_job holds a.removes g item job (passed job (check_mailbox a.removes g item) is)
+each_job holds uploads MailboxSet a g item (Some drawn) job (ready, checks, made) = not_drawn ready (check_mailbox a.removes g item) checks
+
+-- a creation selects no folder
+pub begins : (m : Mail) (ready : ReadyCreation) (drawn : Drawn) (job : Job) → Makes ready drawn (Ok job) → BeginsHeld m job
+begins m ready drawn job (Written message is within) = (tt, tt)
 
 pub at_most : (m n : ℕ) → m ≡ 0 → m ≤ n
 at_most m n is = omega (arith, is)
+
+pub one_at_most : (m : ℕ) → m ≡ 1 → m ≤ 1
+one_at_most m is = omega (arith, is)

@@ -51,15 +51,15 @@ begun_by : (h : MailHistory) (p : Progress) (k : KnownMail) → mail_at p ≡ Ok
     → HasGoneOn h k.history
 begun_by h p k told (j, is, goes) = subst (λ (x : MailHistory). HasGoneOn x k.history) (sym (known_history p.standing p.machine.known h j told is)) goes
 
-asked_goes : ChangesGoOn → (m : SetMethod) (a : SetAsked) (d h : MailHistory) (before : ChangeState) (result : Result Data MethodError) (events : List Event) (after : ChangeState)
-    → ChangesAsked item_checks m a d before result events after → mail_at before.progress ≡ Ok h → IsServedThen h after.progress
+asked_goes : ChangesGoOn → {uploads : List (List ℕ)} (m : SetMethod) (a : SetAsked) (d h : MailHistory) (before : ChangeState) (result : Result Data MethodError) (events : List Event) (after : ChangeState)
+    → ChangesAsked (item_checks uploads) m a d before result events after → mail_at before.progress ≡ Ok h → IsServedThen h after.progress
 asked_goes law m a d h before result events after (answering.Mismatch is result_is none same) told =
     same_served h before.progress after.progress (ap (λ (s : ChangeState). s.progress) same) (stays before.progress h told)
 asked_goes law m a d h before result events after (answering.Changes items came is items_are changes answers) told = λ k ready.
     begun_by h before.progress k told (law _ items before.progress came events after.progress changes k ready)
 
-change_goes : ChangesGoOn → (m : SetMethod) (d : Data) (mail : Mailing) (h : MailHistory) (before : ChangeState) (result : Result Data MethodError) (events : List Event)
-    (after : ChangeState) → DoesChange item_checks m d mail before result events after → mail_at before.progress ≡ Ok h → IsServedThen h after.progress
+change_goes : ChangesGoOn → {uploads : List (List ℕ)} (m : SetMethod) (d : Data) (mail : Mailing) (h : MailHistory) (before : ChangeState) (result : Result Data MethodError) (events : List Event)
+    (after : ChangeState) → DoesChange (item_checks uploads) m d mail before result events after → mail_at before.progress ≡ Ok h → IsServedThen h after.progress
 change_goes law m d mail h before result events after (answering.Refused e is result_is none same) told =
     same_served h before.progress after.progress (ap (λ (s : ChangeState). s.progress) same) (stays before.progress h told)
 change_goes law m d mail h before result events after (answering.Untold a e is mail_is result_is none same) told =

@@ -1,5 +1,5 @@
 -- Where the link life of a request ended.
-use Rattle.std.proofs.Common.{arith, ◌≡◌, ◌≢◌, ◌⊎◌, ◌∙◌, ◌+◌, ℕ, Bool, true, false, List, [], Option, Result, Ok, Err, inl, inr, refl, sym, ap}
+use Rattle.std.proofs.Common.{arith, ◌≡◌, ◌≢◌, ◌⊎◌, ◌∙◌, ◌+◌, ℕ, Bool, true, false, List, Option, Result, Ok, Err, inl, inr, refl, sym, ap}
 use Rattle.gate_world.specs.declared.event.Event.{Event}
 use Rattle.told_mail.specs.Mail.{Mail}
 use Rattle.serde_json.specs.Data.{Data}
@@ -112,7 +112,7 @@ FetchesLaw = (folder uid : ℕ) (before after : Mail) (life left : LinkLife) (cl
     → FetchesBody folder uid before after life left client (Ok octets) events → life.goes_on ≡ true → left.goes_on ≡ true
 
 abbrev pub UnavailableLaw : Type 0
-UnavailableLaw = (m : SetMethod) (a : SetAsked) (h : MailHistory) (created : Ids) → EndsSo WasUnavailable ServerUnavailable (call_of item_checks m a h created)
+UnavailableLaw = (uploads : List (List ℕ)) (m : SetMethod) (a : SetAsked) (h : MailHistory) (created : Ids) → EndsSo WasUnavailable ServerUnavailable (call_of (item_checks uploads) m a h created)
 
 pub record LivesLaws : Type 0 where
   pub fetches : FetchesLaw
@@ -163,15 +163,15 @@ change_ends h (changing.FailedInPart mid doing ending does hangs whole is error)
 still : {p q : Progress} → q ≡ p → is_up p.left ≡ true → is_up q.left ≡ false → ⊥
 still {q = q} is up over = not_both (is_up q.left) (ap (λ (x : Progress). is_up x.left) is ∙ up) over
 
-set_ends : LivesLaws → {m : SetMethod} {d : Data} {mail : Mailing} {s t : ChangeState} {result : Result Data MethodError} {events : List Event} (h : MailHistory)
-    (does : DoesChange item_checks m d mail s result events t) → is_up s.progress.left ≡ true → mail_at t.progress ≡ Ok h → is_up t.progress.left ≡ false
+set_ends : LivesLaws → {uploads : List (List ℕ)} {m : SetMethod} {d : Data} {mail : Mailing} {s t : ChangeState} {result : Result Data MethodError} {events : List Event} (h : MailHistory)
+    (does : DoesChange (item_checks uploads) m d mail s result events t) → is_up s.progress.left ≡ true → mail_at t.progress ≡ Ok h → is_up t.progress.left ≡ false
     → SetEndsLife does
 set_ends laws h (answering.Refused e is result_is none same) up told over = absurd (still (ap (λ (x : ChangeState). x.progress) same) up over)
 set_ends laws h (answering.Untold a e is mail_is result_is none same) up told over = absurd (still (ap (λ (x : ChangeState). x.progress) same) up over)
 set_ends laws h (answering.Asked a j is mail_is (answering.Mismatch current result_is none same)) up told over =
     absurd (still (ap (λ (x : ChangeState). x.progress) same) up over)
 set_ends laws {m = m} {s = s} h (answering.Asked a j is mail_is (answering.Changes items came current items_are does answers)) up told over =
-    change_ends h does (laws.unavailable m a j s.created) up told over
+    change_ends h does (laws.unavailable _ m a j s.created) up told over
 
 -- ---- a call that reads
 

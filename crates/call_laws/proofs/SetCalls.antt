@@ -41,18 +41,18 @@ pub record ErrorLaws : Type 0 where
       → ChangesMail call items before (Err ServerFail) events after → HasNoPlaces call items before
   pub others : (call : SetCall) (items : List Item) (before : Progress) (e : MethodError) (events : List Event) (after : Progress)
       → ChangesMail call items before (Err e) events after → (e ≡ ServerPartialFail) ⊎ (e ≡ ServerUnavailable) ⊎ (e ≡ ServerFail)
-  pub fit : (m : SetMethod) (a : SetAsked) (h : MailHistory) (created : Ids) → ChecksFit (call_of item_checks m a h created)
+  pub fit : (uploads : List (List ℕ)) (m : SetMethod) (a : SetAsked) (h : MailHistory) (created : Ids) → ChecksFit (call_of (item_checks uploads) m a h created)
 
-ends_by : ErrorLaws → (m : SetMethod) (a : SetAsked) (h : MailHistory) (before : ChangeState) (items : List Item) (e : MethodError) (events : List Event) (after : Progress)
-    → ChangesMail (call_of item_checks m a h before.created) items before.progress (Err e) events after → EndsInError m a h before items e
-ends_by laws m a h before items e events after does =
-    let call : SetCall = call_of item_checks m a h before.created in
+ends_by : ErrorLaws → (uploads : List (List ℕ)) (m : SetMethod) (a : SetAsked) (h : MailHistory) (before : ChangeState) (items : List Item) (e : MethodError) (events : List Event) (after : Progress)
+    → ChangesMail (call_of (item_checks uploads) m a h before.created) items before.progress (Err e) events after → EndsInError uploads m a h before items e
+ends_by laws uploads m a h before items e events after does =
+    let call : SetCall = call_of (item_checks uploads) m a h before.created in
     elim (laws.others call items before.progress e events after does) [
-      | inl is ↦ subst (EndsInError m a h before items) (sym is) (InPart (laws.partly call items before.progress events after (laws.fit m a h before.created)
+      | inl is ↦ subst (EndsInError uploads m a h before items) (sym is) (InPart (laws.partly call items before.progress events after (laws.fit uploads m a h before.created)
           (subst (λ (x : MethodError). ChangesMail call items before.progress (Err x) events after) is does)))
-      | inr (inl is) ↦ subst (EndsInError m a h before items) (sym is) (Unavailable (laws.unavailable call items before.progress events after (laws.fit m a h before.created)
+      | inr (inl is) ↦ subst (EndsInError uploads m a h before items) (sym is) (Unavailable (laws.unavailable call items before.progress events after (laws.fit uploads m a h before.created)
           (subst (λ (x : MethodError). ChangesMail call items before.progress (Err x) events after) is does)))
-      | inr (inr is) ↦ subst (EndsInError m a h before items) (sym is) (NoPlaces (laws.fail call items before.progress events after
+      | inr (inr is) ↦ subst (EndsInError uploads m a h before items) (sym is) (NoPlaces (laws.fail call items before.progress events after
           (subst (λ (x : MethodError). ChangesMail call items before.progress (Err x) events after) is does)))
     ]
 
@@ -66,35 +66,35 @@ no_ok : {A E : Type 0} {Y : Type 0} (x : A) (e : E) → ◌≡◌ {A = Result A 
 no_ok x e is = absurd (cc)
 
 -- where its error is answered
-answered_by : ErrorLaws → (m : SetMethod) (a : SetAsked) (h : MailHistory) (before : ChangeState) (items : List Item) (came : Result (List (Item × Done)) MethodError)
+answered_by : ErrorLaws → (uploads : List (List ℕ)) (m : SetMethod) (a : SetAsked) (h : MailHistory) (before : ChangeState) (items : List Item) (came : Result (List (Item × Done)) MethodError)
     (result : Result Data MethodError) (e : MethodError) (events : List Event) (after : ChangeState) → result ≡ Err e
-    → ChangesMail (call_of item_checks m a h before.created) items before.progress came events after.progress → AnswersChange m h before came result after
-    → EndsInError m a h before items e
-answered_by laws m a h before items came result e events after error does (answering.Replies done known came_is ready result_is ids) =
+    → ChangesMail (call_of (item_checks uploads) m a h before.created) items before.progress came events after.progress → AnswersChange m h before came result after
+    → EndsInError uploads m a h before items e
+answered_by laws uploads m a h before items came result e events after error does (answering.Replies done known came_is ready result_is ids) =
     no_ok _ e (sym error ∙ result_is)
-answered_by laws m a h before items came result e events after error does (answering.Fails other came_is result_is ids) =
+answered_by laws uploads m a h before items came result e events after error does (answering.Fails other came_is result_is ids) =
     let same : other ≡ e = error_same other e (sym result_is ∙ error) in
-    ends_by laws m a h before items e events after.progress
-    (subst (λ (x : Result (List (Item × Done)) MethodError). ChangesMail (call_of item_checks m a h before.created) items before.progress x events after.progress)
+    ends_by laws uploads m a h before items e events after.progress
+    (subst (λ (x : Result (List (Item × Done)) MethodError). ChangesMail (call_of (item_checks uploads) m a h before.created) items before.progress x events after.progress)
     (came_is ∙ ap (λ (x : MethodError). Err x) same) does)
 
-change_by : ErrorLaws → {m : SetMethod} {d : Data} {before after : ChangeState} {result : Result Data MethodError} {events : List Event} (a : SetAsked) (h : MailHistory)
-    (e : MethodError) → DoesChange item_checks m d (Ok h) before result events after → result ≡ Err e → set_asked m d ≡ Ok a → is_current m a h ≡ true
-    → IsEndedByCause m a h before e
+change_by : ErrorLaws → {uploads : List (List ℕ)} {m : SetMethod} {d : Data} {before after : ChangeState} {result : Result Data MethodError} {events : List Event} (a : SetAsked) (h : MailHistory)
+    (e : MethodError) → DoesChange (item_checks uploads) m d (Ok h) before result events after → result ≡ Err e → set_asked m d ≡ Ok a → is_current m a h ≡ true
+    → IsEndedByCause uploads m a h before e
 change_by laws a h e (answering.Refused other refused result_is none same) error asked current = no_ok a other (sym refused ∙ asked)
 change_by laws a h e (answering.Untold b other is mail_is result_is none same) error asked current = no_ok h other (sym mail_is)
 change_by laws {m = m} a h e (answering.Asked b j is mail_is (answering.Mismatch stale result_is none same)) error asked current =
     let a_is : b ≡ a = ok_same b a (sym is ∙ asked) in
     let h_is : j ≡ h = ok_same j h (sym mail_is) in
     absurd (let no : true ≡ false = sym current ∙ (ap (λ (x : SetAsked). is_current m x h) (sym a_is) ∙ (ap (λ (x : MailHistory). is_current m b x) (sym h_is) ∙ stale)) in cc)
-change_by laws {m = m} {before = before} {after = after} {result = result} {events = events} a h e
+change_by laws {uploads = uploads} {m = m} {before = before} {after = after} {result = result} {events = events} a h e
     (answering.Asked b j is mail_is (answering.Changes items came current_is items_are does answers)) error asked current =
     let a_is : b ≡ a = ok_same b a (sym is ∙ asked) in
     let h_is : j ≡ h = ok_same j h (sym mail_is) in
-    subst (λ (x : MailHistory). IsEndedByCause m a x before e) h_is (subst (λ (x : SetAsked). IsEndedByCause m x j before e) a_is (record {
+    subst (λ (x : MailHistory). IsEndedByCause uploads m a x before e) h_is (subst (λ (x : SetAsked). IsEndedByCause uploads m x j before e) a_is (record {
       items = items;
       are_of = items_are;
-      ends = answered_by laws m b j before items came result e events after error does answers;
+      ends = answered_by laws uploads m b j before items came result e events after error does answers;
     }))
 
 -- ---- a call that reads is another one
@@ -116,12 +116,12 @@ pub call_by : ErrorLaws → {uses : Using} {uploads : List (List ℕ)} {earlier 
     {result : Result Data MethodError} {events : List Event} (e : MethodError) (m : SetMethod) (d : Data) (a : SetAsked) (h : MailHistory)
     → DoesCall uses uploads earlier call before asks result events after → result ≡ Err e → method_asked uses call.name ≡ Ok (Set m)
     → resolved_arguments earlier call.arguments ≡ Ok d → set_asked m d ≡ Ok a → mail_at before.progress ≡ Ok h → is_current m a h ≡ true
-    → IsEndedByCause m a h before e
+    → IsEndedByCause uploads m a h before e
 call_by laws e m d a h (Reads bodies answers asked asks_are ids) error named is right told current = absurd (reads_other m d h answers named is told)
-call_by laws {before = before} e m d a h (Changes n b j other there here does asks_are) error named is right told current =
+call_by laws {uploads = uploads} {before = before} e m d a h (Changes n b j other there here does asks_are) error named is right told current =
     let m_is : n ≡ m = method_same n m (ok_same (Set n) (Set m) (sym other ∙ named)) in
     let d_is : b ≡ d = ok_same b d (sym there ∙ is) in
     let h_is : j ≡ h = ok_same j h (sym here ∙ told) in
-    subst (λ (x : SetMethod). IsEndedByCause x a h before e) m_is (subst (λ (x : MailHistory). IsEndedByCause n a x before e) h_is
+    subst (λ (x : SetMethod). IsEndedByCause uploads x a h before e) m_is (subst (λ (x : MailHistory). IsEndedByCause uploads n a x before e) h_is
     (change_by laws a j e does error (ap (λ (x : SetMethod). set_asked x b) m_is ∙ (ap (λ (x : Data). set_asked m x) d_is ∙ right))
     (ap (λ (x : SetMethod). is_current x a j) m_is ∙ (ap (λ (x : MailHistory). is_current m a x) h_is ∙ current))))

@@ -1,5 +1,5 @@
 -- Why a call that changes mail ends with an error (RFC 8620 section 3.6.2).
-use Rattle.std.specs.Prelude.{◌≡◌, List, Some}
+use Rattle.std.specs.Prelude.{◌≡◌, ℕ, List, Some}
 use Rattle.gate_world.specs.declared.event.Event.{Event}
 use Rattle.imap_client.specs.LinkLife.{LinkLife}
 use Rattle.jmap_arguments.specs.declared.method_error.MethodError.{MethodError}
@@ -38,16 +38,16 @@ pub record HasNoPlaces (call : SetCall) (items : List Item) (before : Progress) 
   pub ready : mid.machine.known ≡ Some known
   pub spent : IsSpent known
 
--- A call of a method that changes mail, which asks this over what has become of the mail, ended with this error: by a cause of it.
-pub data EndsInError (m : SetMethod) (a : SetAsked) (h : MailHistory) (before : ChangeState) (items : List Item) : MethodError → Type 0 where
-  InPart : IsEndedIn FailedPartly ServerPartialFail (call_of item_checks m a h before.created) items before.progress
-      → EndsInError m a h before items ServerPartialFail
-  Unavailable : IsEndedIn WasUnavailable ServerUnavailable (call_of item_checks m a h before.created) items before.progress
-      → EndsInError m a h before items ServerUnavailable
-  NoPlaces : HasNoPlaces (call_of item_checks m a h before.created) items before.progress → EndsInError m a h before items ServerFail
+-- A call of a method that changes mail, which asks this over what has become of the mail and over these uploads, ended with this error: by a cause of it.
+pub data EndsInError (uploads : List (List ℕ)) (m : SetMethod) (a : SetAsked) (h : MailHistory) (before : ChangeState) (items : List Item) : MethodError → Type 0 where
+  InPart : IsEndedIn FailedPartly ServerPartialFail (call_of (item_checks uploads) m a h before.created) items before.progress
+      → EndsInError uploads m a h before items ServerPartialFail
+  Unavailable : IsEndedIn WasUnavailable ServerUnavailable (call_of (item_checks uploads) m a h before.created) items before.progress
+      → EndsInError uploads m a h before items ServerUnavailable
+  NoPlaces : HasNoPlaces (call_of (item_checks uploads) m a h before.created) items before.progress → EndsInError uploads m a h before items ServerFail
 
 -- its items are these, in the order of RFC 8620 section 5.3
-pub record IsEndedByCause (m : SetMethod) (a : SetAsked) (h : MailHistory) (before : ChangeState) (e : MethodError) : Type 0 where
+pub record IsEndedByCause (uploads : List (List ℕ)) (m : SetMethod) (a : SetAsked) (h : MailHistory) (before : ChangeState) (e : MethodError) : Type 0 where
   pub items : List Item
   pub are_of : ItemsOf m before.created a items
-  pub ends : EndsInError m a h before items e
+  pub ends : EndsInError uploads m a h before items e

@@ -46,13 +46,13 @@ ItemsEndLife {call = call} {items = items} {before = before} (changing.Committed
 ItemsEndLife (changing.SpentBy came mid spent doing ending does goes settles is hangs whole after_is result_is) = ⊥
 ItemsEndLife (changing.FailedInPart mid doing ending does hangs whole after_is is) = ⊥
 
-abbrev pub AskedEndsLife : {m : SetMethod} {a : SetAsked} {h : MailHistory} {before : ChangeState} {result : Result Data MethodError} {events : List Event}
-    {after : ChangeState} → ChangesAsked item_checks m a h before result events after → Type 0
+abbrev pub AskedEndsLife : {uploads : List (List ℕ)} {m : SetMethod} {a : SetAsked} {h : MailHistory} {before : ChangeState} {result : Result Data MethodError} {events : List Event}
+    {after : ChangeState} → ChangesAsked (item_checks uploads) m a h before result events after → Type 0
 AskedEndsLife (answering.Mismatch is result_is none same) = ⊥
 AskedEndsLife (answering.Changes items came is items_are changes answers) = ItemsEndLife changes
 
-abbrev pub SetEndsLife : {m : SetMethod} {d : Data} {mail : Mailing} {before : ChangeState} {result : Result Data MethodError} {events : List Event}
-    {after : ChangeState} → DoesChange item_checks m d mail before result events after → Type 0
+abbrev pub SetEndsLife : {uploads : List (List ℕ)} {m : SetMethod} {d : Data} {mail : Mailing} {before : ChangeState} {result : Result Data MethodError} {events : List Event}
+    {after : ChangeState} → DoesChange (item_checks uploads) m d mail before result events after → Type 0
 SetEndsLife (answering.Refused e is result_is none same) = ⊥
 SetEndsLife (answering.Untold a e is mail_is result_is none same) = ⊥
 SetEndsLife (answering.Asked a h is mail_is changes) = AskedEndsLife changes

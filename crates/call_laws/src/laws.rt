@@ -1,5 +1,5 @@
 // Laws of calls that change mail.
-ghost use Rattle.std.specs.Prelude.{◌≡◌, ◌≢◌, ◌⊎◌, ℕ, List, Err, Ok, Result, Some, false, true};
+ghost use Rattle.std.specs.Prelude.{◌≡◌, ◌≢◌, ◌⊎◌, ℕ, List, Err, Ok, Option, Result, Some, false, true};
 ghost use Rattle.gate_world.specs.declared.event.Event.{Event};
 ghost use Rattle.told_mail.specs.Mail.{Mail};
 ghost use Rattle.imap_client.specs.LinkLife.{LinkLife};
@@ -17,12 +17,14 @@ ghost use Rattle.set_jobs.specs.declared.done.Done.{Done};
 ghost use Rattle.set_jobs.specs.declared.job.Job.{Job};
 ghost use Rattle.set_order.specs.Ordered.{Item};
 ghost use Rattle.set_items.specs.Causes.{FailedPartly, WasUnavailable};
-ghost use Rattle.set_items.specs.Commands.{IsFit};
+ghost use Rattle.set_given.specs.Given.{Given};
+ghost use Rattle.set_items.specs.Commands.{IsFit, appends_of};
 ghost use Rattle.set_items.specs.Talks.{ending_of};
 ghost use Rattle.set_items.specs.declared.item.ItemEnd.{ItemEnd};
 ghost use Rattle.set_items.specs.declared.item.ItemEnd.TheVariants.{Comes, Ends, OutOfMemory};
 ghost use Rattle.set_calls.specs.Calls.{SetCall, CallState, DoesItems, StepsItem, StopsAt, call_begun};
 ghost use Rattle.set_calls.specs.Promises.{ChecksAppend, ChecksFit};
+ghost use Rattle.set_methods.specs.Checks.{Drawn, Prepares};
 ghost use Rattle.gate_machine.specs.Going.{HasGoneOn};
 ghost use Rattle.gate_machine.specs.History.{KnownMail};
 ghost use Rattle.gate_machine.specs.Progress.{Progress, is_up};
@@ -33,9 +35,11 @@ ghost use Rattle.gate_calls.specs.ItemChecks.{item_checks};
 ghost use Rattle.gate_calls.specs.Mailings.{mail_at};
 ghost use Rattle.gate_calls.specs.MethodNames.{method_asked};
 ghost use Rattle.gate_calls.specs.declared.method.Method.TheVariants.{Set};
+ghost use Rattle.call_laws.specs.Appends.{appends_due};
 ghost use Rattle.call_laws.specs.Ended.{HasNoPlaces, IsEndedByCause, IsEndedIn};
 ghost use Rattle.call_laws.specs.Lives.{SomeCallEndsLife};
 
+use email_creation::creations_append_once;
 use email_laws::{email_items_append_nothing, email_items_are_fit, email_items_begin_held};
 use gate_changes::changes_draw_no_epoch;
 use imap_client::finished_lives_go_on;
@@ -44,14 +48,17 @@ use set_calls::calls_end_by_their_causes;
 use set_items::causes_end_items;
 
 /// Whatever a call asks, its items have the steps that set_items' laws want of them: each command has to be obeyed but EXPUNGE, what is listed was made,
-/// and a folder that is selected at first is held. None of them sends an APPEND.
+/// and a folder that is selected at first is held. A creation of an Email sends one APPEND, and no other item sends any.
 pub fn items_are_fit()
-    ensures fit { (m : SetMethod) (a : SetAsked) (h : MailHistory) (created : Ids) → ChecksFit (call_of item_checks m a h created) }
-    ensures append { (m : SetMethod) (a : SetAsked) (h : MailHistory) (created : Ids) → ChecksAppend (call_of item_checks m a h created) }
+    ensures fit { (uploads : List (List ℕ)) (m : SetMethod) (a : SetAsked) (h : MailHistory) (created : Ids) → ChecksFit (call_of (item_checks uploads) m a h created) }
+    ensures each { (uploads : List (List ℕ)) (m : SetMethod) (a : SetAsked) (g : Given) (item : Item) (drawn : Option Drawn) (job : Job)
+        → Prepares (item_checks uploads m a) g item drawn (Ok job) → appends_of job.steps ≡ appends_due m item }
+    ensures append { (uploads : List (List ℕ)) (m : SetMethod) (a : SetAsked) (h : MailHistory) (created : Ids) → ChecksAppend (call_of (item_checks uploads) m a h created) }
 {
     email_items_are_fit();
     email_items_begin_held();
     email_items_append_nothing();
+    creations_append_once();
     mailbox_items_are_fit();
     mailbox_items_begin_held();
     mailbox_items_append_nothing();
@@ -78,7 +85,7 @@ pub fn set_calls_end_by_their_causes()
         (events : List Event) (after : CallsState) (m : SetMethod) (d : Data) (a : SetAsked) (h : MailHistory)
         → DoesCall uses uploads earlier call before asks (Err e) events after → method_asked uses call.name ≡ Ok (Set m)
         → resolved_arguments earlier call.arguments ≡ Ok d → set_asked m d ≡ Ok a → mail_at before.progress ≡ Ok h → is_current m a h ≡ true
-        → IsEndedByCause m a h before e }
+        → IsEndedByCause uploads m a h before e }
 {
     changing_calls_end_by_their_causes();
     items_are_fit();

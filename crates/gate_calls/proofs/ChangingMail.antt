@@ -25,7 +25,6 @@ use Rattle.gate_machine.proofs.Stages.{held_ready}
 use Rattle.gate_changes.specs.Answering as answering
 use Rattle.gate_changes.specs.Answering.{ChangesAsked, DoesChange, ItemChecks}
 use Rattle.gate_changes.specs.Changing as changing
-use Rattle.gate_changes.specs.Changing.{ChangesMail}
 use Rattle.gate_changes.specs.reading.Answers.{AnswersTo, IsServed, answer_data}
 use Rattle.gate_calls.specs.Calling.{CallsState, asks_of}
 use Rattle.gate_calls.specs.ItemChecks.{item_checks}
@@ -76,7 +75,7 @@ settled_life (settling.Lacks stands none is) stood life = absurd (let both : Out
 broken_stood : (p q : Progress) → p ≡ changing.broken_off q → p.standing ≡ Stands → ⊥
 broken_stood p q is stood = let both : Unserved Broken ≡ Stands = sym (ap (λ (x : Progress). x.standing) is) ∙ stood in cc
 
-change_life : {m : SetMethod} {a : SetAsked} {h : MailHistory} {s t : CallsState} {r : Result Data MethodError} {es : List Event} → ChangesAsked item_checks m a h s r es t
+change_life : {uploads : List (List ℕ)} {m : SetMethod} {a : SetAsked} {h : MailHistory} {s t : CallsState} {r : Result Data MethodError} {es : List Event} → ChangesAsked (item_checks uploads) m a h s r es t
     → t.progress.standing ≡ Stands → IsSome s.progress.left → IsSome t.progress.left
 change_life (answering.Mismatch is r_is none same) stood life = subst (λ (x : CallsState). IsSome x.progress.left) (sym same) life
 change_life (answering.Changes items came is those (changing.Committed came' mid does goes settles stands r_is) answers) stood life =
@@ -150,7 +149,7 @@ module _ (uploads : List (List ℕ)) (before after : RequestMoment) (m : SetMeth
   -- what is known of the code that does it
   abbrev pub Runs : Result Value MethodError → Type 0
   Runs came =
-      Adds before.tape after.tape (λ es. (all : ItemChecks) (h : MailHistory) (start : CallsState) (was : Faults) → all m a ≡ item_checks m a
+      Adds before.tape after.tape (λ es. (all : ItemChecks) (h : MailHistory) (start : CallsState) (was : Faults) → all m a ≡ item_checks uploads m a
       → start.created ≡ before.created → IsServed h start.progress → CameTo before.machine before.client Stands was before.faults start.progress
       → AnswersTo all m a h start came after.created after.machine after.client after.status was after.faults es)
 
@@ -164,10 +163,10 @@ module _ (uploads : List (List ℕ)) (before after : RequestMoment) (m : SetMeth
         run = widen _ run (λ es runs p was here.
             let serves = served stands known here in
             let start : CallsState = record { progress = p; created = before.created } in
-            let so = (runs item_checks serves.0 start was refl refl serves.2 (stood here)).answered there in
-            let does : ChangesAsked item_checks m a serves.0 start r es so.after =
-            subst (λ (x : Result Data MethodError). ChangesAsked item_checks m a serves.0 start x es so.after) came_is so.changes in
-            let change : DoesChange item_checks m d (Ok serves.0) start r es so.after = answering.Asked a serves.0 asked refl does in
+            let so = (runs (item_checks uploads) serves.0 start was refl refl serves.2 (stood here)).answered there in
+            let does : ChangesAsked (item_checks uploads) m a serves.0 start r es so.after =
+            subst (λ (x : Result Data MethodError). ChangesAsked (item_checks uploads) m a serves.0 start x es so.after) came_is so.changes in
+            let change : DoesChange (item_checks uploads) m d (Ok serves.0) start r es so.after = answering.Asked a serves.0 asked refl does in
             let method : DoesMethod uploads (Set m) d start (asks_of change) r es (record { progress = so.after.progress; created = so.after.created }) =
             request.ChangesMail m serves.0 refl serves.1 change refl in (
               asks_of change,
@@ -188,7 +187,7 @@ module _ (uploads : List (List ℕ)) (before after : RequestMoment) (m : SetMeth
         run = widen _ run (λ es runs p was here.
             let serves = served stands known here in
             let start : CallsState = record { progress = p; created = before.created } in
-            let so = (runs item_checks serves.0 start was refl refl serves.2 (stood here)).lacks out in (
+            let so = (runs (item_checks uploads) serves.0 start was refl refl serves.2 (stood here)).lacks out in (
               so.after,
               request.LacksChanging m serves.0 refl serves.1 (answering.LacksIn a serves.0 asked refl so.lacks),
               so.at.in_life,

@@ -300,9 +300,9 @@ truths : (a b : Bool) → a ≡ b → a ≡ false → b ≡ true → ⊥
 truths a b same is js = let both : false ≡ true = sym is ∙ same ∙ js in cc
 
 module _ (order : OrderLaw) where
-  one_over : {m : SetMethod} {a b : SetAsked} {g h : MailHistory} {s t after then : CallsState} {r q : Result Data MethodError} {es fs : List Event} (more later : List Asked)
+  one_over : {uploads : List (List ℕ)} {m : SetMethod} {a b : SetAsked} {g h : MailHistory} {s t after then : CallsState} {r q : Result Data MethodError} {es fs : List Event} (more later : List Asked)
       → b ≡ a → g ≡ h → HasRoom g → HasRoom h → s.created ≡ t.created → mail_at s.progress ≡ mail_at t.progress → HasPlaces (mail_at s.progress)
-      → (does : ChangesAsked item_checks m a g s r es after) (also : ChangesAsked item_checks m b h t q fs then) → asks_over does ++ more ≡ asks_over also ++ later
+      → (does : ChangesAsked (item_checks uploads) m a g s r es after) (also : ChangesAsked (item_checks uploads) m b h t q fs then) → asks_over does ++ more ≡ asks_over also ++ later
       → SameCall (asks_over does) (asks_over also) r q after then
   one_over more later asked history room too ids mail places (answering.Mismatch is r_is none same) (answering.Mismatch js q_is nothing stays) alike = (
     refl,
@@ -325,11 +325,11 @@ module _ (order : OrderLaw) where
       let reply = one_reply {after = after} {then = then} history ids one.came one.known answers answers_too in
       (one.asked, reply.0, reply.1, one.mail, one.room)
 
-  pub one_set : (m : SetMethod) (d : Data) (h : MailHistory) (s t after then : CallsState) (more later : List Asked) (r q : Result Data MethodError) (es fs : List Event)
+  pub one_set : (uploads : List (List ℕ)) (m : SetMethod) (d : Data) (h : MailHistory) (s t after then : CallsState) (more later : List Asked) (r q : Result Data MethodError) (es fs : List Event)
       → mail_at s.progress ≡ Ok h → mail_at t.progress ≡ Ok h → s.created ≡ t.created → HasRoom h
-      → (does : DoesChange item_checks m d (Ok h) s r es after) (also : DoesChange item_checks m d (Ok h) t q fs then)
+      → (does : DoesChange (item_checks uploads) m d (Ok h) s r es after) (also : DoesChange (item_checks uploads) m d (Ok h) t q fs then)
       → asks_of does ++ more ≡ asks_of also ++ later → SameCall (asks_of does) (asks_of also) r q after then
-  one_set m d h s t after then more later r q es fs here there ids room (answering.Refused e is r_is none same) (answering.Refused f js q_is nothing stays) alike = (
+  one_set uploads m d h s t after then more later r q es fs here there ids room (answering.Refused e is r_is none same) (answering.Refused f js q_is nothing stays) alike = (
     refl,
     r_is ∙ ap (λ (x : MethodError). let y : Result Data MethodError = Err x in y) (let both : (let x : Result SetAsked MethodError = Err e in x) ≡ Err f = sym is ∙ js in cc)
         ∙ sym q_is,
@@ -337,17 +337,17 @@ module _ (order : OrderLaw) where
     ap (λ (x : CallsState). mail_at x.progress) same ∙ here ∙ sym there ∙ sym (ap (λ (x : CallsState). mail_at x.progress) stays),
     subst (λ (m : Mailing). HasPlaces m) (sym (ap (λ (x : CallsState). mail_at x.progress) same ∙ here)) room,
   )
-  one_set m d h s t after then more later r q es fs here there ids room (answering.Refused e is r_is none same) (answering.Untold a f js mail_is q_is nothing stays) alike =
+  one_set uploads m d h s t after then more later r q es fs here there ids room (answering.Refused e is r_is none same) (answering.Untold a f js mail_is q_is nothing stays) alike =
       absurd (let both : (let x : Mailing = Ok h in x) ≡ Err f = mail_is in cc)
-  one_set m d h s t after then more later r q es fs here there ids room (answering.Refused e is r_is none same) (answering.Asked a g js mail_is changes) alike =
+  one_set uploads m d h s t after then more later r q es fs here there ids room (answering.Refused e is r_is none same) (answering.Asked a g js mail_is changes) alike =
       absurd (let both : (let x : Result SetAsked MethodError = Err e in x) ≡ Ok a = sym is ∙ js in cc)
-  one_set m d h s t after then more later r q es fs here there ids room (answering.Untold a e is mail_is r_is none same) also alike =
+  one_set uploads m d h s t after then more later r q es fs here there ids room (answering.Untold a e is mail_is r_is none same) also alike =
       absurd (let both : (let x : Mailing = Ok h in x) ≡ Err e = mail_is in cc)
-  one_set m d h s t after then more later r q es fs here there ids room (answering.Asked a g is mail_is changes) (answering.Refused f js q_is nothing stays) alike =
+  one_set uploads m d h s t after then more later r q es fs here there ids room (answering.Asked a g is mail_is changes) (answering.Refused f js q_is nothing stays) alike =
       absurd (let both : (let x : Result SetAsked MethodError = Err f in x) ≡ Ok a = sym js ∙ is in cc)
-  one_set m d h s t after then more later r q es fs here there ids room (answering.Asked a g is mail_is changes) (answering.Untold b f js mail_js q_is nothing stays) alike =
+  one_set uploads m d h s t after then more later r q es fs here there ids room (answering.Asked a g is mail_is changes) (answering.Untold b f js mail_js q_is nothing stays) alike =
       absurd (let both : (let x : Mailing = Ok h in x) ≡ Err f = mail_js in cc)
-  one_set m d h s t after then more later r q es fs here there ids room (answering.Asked a g is mail_is changes) (answering.Asked b k js mail_js others) alike =
+  one_set uploads m d h s t after then more later r q es fs here there ids room (answering.Asked a g is mail_is changes) (answering.Asked b k js mail_js others) alike =
       let asked : b ≡ a = let both : (let x : Result SetAsked MethodError = Ok b in x) ≡ Ok a = sym js ∙ is in cc in
       let first : h ≡ g = let both : (let x : Mailing = Ok h in x) ≡ Ok g = mail_is in cc in
       let second : h ≡ k = let both : (let x : Mailing = Ok h in x) ≡ Ok k = mail_js in cc in

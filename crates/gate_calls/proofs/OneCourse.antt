@@ -52,9 +52,9 @@ CallLaw = (uses : Using) (o : MailAndUploads) (earlier : List CallData) (call : 
 
 -- what is proved of one that changes mail, where that is told
 abbrev pub ChangeLaw : Type 0
-ChangeLaw = (m : SetMethod) (d : Data) (h : MailHistory) (s t after then : CallsState) (more later : List Asked) (r q : Result Data MethodError) (es fs : List Event)
-    → mail_at s.progress ≡ Ok h → mail_at t.progress ≡ Ok h → s.created ≡ t.created → HasRoom h → (does : DoesChange item_checks m d (Ok h) s r es after)
-    (also : DoesChange item_checks m d (Ok h) t q fs then) → asks_of does ++ more ≡ asks_of also ++ later → SameCall (asks_of does) (asks_of also) r q after then
+ChangeLaw = (uploads : List (List ℕ)) (m : SetMethod) (d : Data) (h : MailHistory) (s t after then : CallsState) (more later : List Asked) (r q : Result Data MethodError) (es fs : List Event)
+    → mail_at s.progress ≡ Ok h → mail_at t.progress ≡ Ok h → s.created ≡ t.created → HasRoom h → (does : DoesChange (item_checks uploads) m d (Ok h) s r es after)
+    (also : DoesChange (item_checks uploads) m d (Ok h) t q fs then) → asks_of does ++ more ≡ asks_of also ++ later → SameCall (asks_of does) (asks_of also) r q after then
 
 -- at both moments the same mail is served, and the same ids were created
 pub record SameMoment (s t : CallsState) : Type 0 where
@@ -75,18 +75,18 @@ no_reading {o = o} {asks = asks} {r = r} m d h named is told (Resolved n c asked
     never
 
 -- two that change mail
-one_set_step : ChangeLaw → {s t after then : CallsState} {asks others : List Asked} {r q : Result Data MethodError} {es fs : List Event} {m n : SetMethod} {d c : Data} {h k : MailHistory}
+one_set_step : ChangeLaw → {uploads : List (List ℕ)} {s t after then : CallsState} {asks others : List Asked} {r q : Result Data MethodError} {es fs : List Event} {m n : SetMethod} {d c : Data} {h k : MailHistory}
     (more later : List Asked) → SameMoment s t → HasPlaces (mail_at s.progress) → mail_at s.progress ≡ Ok h → mail_at t.progress ≡ Ok k → n ≡ m → c ≡ d → k ≡ h
-    → (does : DoesChange item_checks m d (Ok h) s r es after) (also : DoesChange item_checks n c (Ok k) t q fs then) → asks ≡ asks_of does → others ≡ asks_of also
+    → (does : DoesChange (item_checks uploads) m d (Ok h) s r es after) (also : DoesChange (item_checks uploads) n c (Ok k) t q fs then) → asks ≡ asks_of does → others ≡ asks_of also
     → asks ++ more ≡ others ++ later
     → (asks ≡ others) × (r ≡ q) × SameMoment after then × HasPlaces (mail_at after.progress)
-one_set_step changes {s} {t} {after} {then} {others = others} {r = r} {q = q} {es} {fs} {m} {n} {d} {c} {h} {k} more later moment room told there method data_is history
+one_set_step changes {uploads} {s} {t} {after} {then} {others = others} {r = r} {q = q} {es} {fs} {m} {n} {d} {c} {h} {k} more later moment room told there method data_is history
     does also asks_are also_are same =
-    let alike : (x : DoesChange item_checks m d (Ok h) t q fs then) × (others ≡ asks_of x) =
-    subst (λ (n' : SetMethod). (x : DoesChange item_checks n' d (Ok h) t q fs then) × (others ≡ asks_of x)) method
-    (subst (λ (c' : Data). (x : DoesChange item_checks n c' (Ok h) t q fs then) × (others ≡ asks_of x)) data_is
-    (subst (λ (k' : MailHistory). (x : DoesChange item_checks n c (Ok k') t q fs then) × (others ≡ asks_of x)) history (also, also_are))) in
-    let both = changes m d h s t after then more later r q es fs told (sym moment.mail ∙ told) moment.ids
+    let alike : (x : DoesChange (item_checks uploads) m d (Ok h) t q fs then) × (others ≡ asks_of x) =
+    subst (λ (n' : SetMethod). (x : DoesChange (item_checks uploads) n' d (Ok h) t q fs then) × (others ≡ asks_of x)) method
+    (subst (λ (c' : Data). (x : DoesChange (item_checks uploads) n c' (Ok h) t q fs then) × (others ≡ asks_of x)) data_is
+    (subst (λ (k' : MailHistory). (x : DoesChange (item_checks uploads) n c (Ok k') t q fs then) × (others ≡ asks_of x)) history (also, also_are))) in
+    let both = changes uploads m d h s t after then more later r q es fs told (sym moment.mail ∙ told) moment.ids
     (subst (λ (x : Mailing). HasPlaces x) told room) does alike.0
     (ap (λ (l : List Asked). l ++ more) (sym asks_are) ∙ same ∙ ap (λ (l : List Asked). l ++ later) alike.1) in (
       asks_are ∙ both.0 ∙ sym alike.1,

@@ -11,6 +11,7 @@ use Rattle.query_arguments.specs.Sorts.{property_named, email_sort_named, email_
 use Rattle.query_arguments.specs.declared.reading.Reading.{Reading}
 use Rattle.query_arguments.specs.declared.reading.Reading.TheVariants.{Wrong, Unsupported, Means}
 use Rattle.jmap_arguments.specs.Arguments.{is_among}
+use Rattle.jmap_values.specs.Keywords.{is_keyword}
 use Rattle.jmap_core.specs.Session.{email_orders}
 use Rattle.gate_calls.specs.SortOptions.{IsTakenOrder}
 
@@ -21,6 +22,7 @@ abbrev comparator_of : List ℕ → Data
 comparator_of name = object (member (codes "keyword") (string (codes "x")) (member (codes "property") (string name) no_members))
 
 all_taken : AllByRecursion IsTakenOrder email_orders
+unfolding is_keyword
 all_taken = (
   (comparator_of (codes "receivedAt"), email_comparator sort.ReceivedAt true, refl, refl),
   (

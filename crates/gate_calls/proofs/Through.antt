@@ -29,8 +29,8 @@ module _ (R : Progress → List Event → Progress → Type 0) (nothing : (p : P
   none_through p q events none is = subst (λ (l : List Event). R p l q) (sym none) (subst (λ (x : Progress). R p [] x) (sym is) (nothing p))
 
   -- a call that changes mail
-  change_through : {m : SetMethod} {d : Data} {mail : Mailing} {s t : CallsState} {result : Result Data MethodError} {events : List Event}
-      → DoesChange item_checks m d mail s result events t → R s.progress events t.progress
+  change_through : {uploads : List (List ℕ)} {m : SetMethod} {d : Data} {mail : Mailing} {s t : CallsState} {result : Result Data MethodError} {events : List Event}
+      → DoesChange (item_checks uploads) m d mail s result events t → R s.progress events t.progress
   change_through {s = s} {t = t} {events = events} (answering.Refused e is result_is no_events same) =
       none_through s.progress t.progress events no_events (ap (λ (x : CallsState). x.progress) same)
   change_through {s = s} {t = t} {events = events} (answering.Untold a e is mail_is result_is no_events same) =
@@ -40,7 +40,7 @@ module _ (R : Progress → List Event → Progress → Type 0) (nothing : (p : P
   change_through {s = s} {t = t} {events = events} (answering.Asked a h is mail_is (answering.Changes items came current items_are does answers)) =
       changes _ items s.progress came events t.progress does
 
-  lacking_change : {m : SetMethod} {d : Data} {mail : Mailing} {s : CallsState} {events : List Event} {q : Progress} → LacksAnswer item_checks m d mail s events q
+  lacking_change : {uploads : List (List ℕ)} {m : SetMethod} {d : Data} {mail : Mailing} {s : CallsState} {events : List Event} {q : Progress} → LacksAnswer (item_checks uploads) m d mail s events q
       → R s.progress events q
   lacking_change {s = s} {events = events} {q = q} (answering.Unread no_events same) = none_through s.progress q events no_events same
   lacking_change {s = s} {events = events} {q = q} (answering.LacksIn a h is mail_is (answering.BeforeItems no_events same)) =

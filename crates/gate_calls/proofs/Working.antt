@@ -55,8 +55,8 @@ lacks_call {d = d} named given (LacksChanging set h is told lacks) =
     ChangesInVain set d h (named ∙ ap (λ (m : Method). let r : Result Method MethodError = Ok m in r) is) given told lacks
 
 -- memory ran out after a change was answered
-lacks_change : {m : SetMethod} {d : Data} {h : MailHistory} {s t : CallsState} {result : Result Data MethodError} {events : List Event}
-    → DoesChange item_checks m d (Ok h) s result events t → LacksAnswer item_checks m d (Ok h) s events t.progress
+lacks_change : {uploads : List (List ℕ)} {m : SetMethod} {d : Data} {h : MailHistory} {s t : CallsState} {result : Result Data MethodError} {events : List Event}
+    → DoesChange (item_checks uploads) m d (Ok h) s result events t → LacksAnswer (item_checks uploads) m d (Ok h) s events t.progress
 lacks_change (answering.Refused e is result_is none same) = answering.Unread none (ap (λ (x : CallsState). x.progress) same)
 lacks_change (answering.Untold a e is mail_is result_is none same) = answering.Unread none (ap (λ (x : CallsState). x.progress) same)
 lacks_change (answering.Asked a g is mail_is (answering.Mismatch current result_is none same)) = answering.Unread none (ap (λ (x : CallsState). x.progress) same)

@@ -89,13 +89,13 @@ asks_of_change {after = after} (changing.Committed came mid does goes settles st
 asks_of_change (changing.SpentBy came mid spent doing ending does goes settles is hangs whole after_is result_is) = asks_of_items does.runs ++ Committed None ∷ []
 asks_of_change (changing.FailedInPart mid doing ending does hangs whole after_is is) = asks_of_items does.runs
 
-abbrev pub asks_over : {m : SetMethod} {a : SetAsked} {h : MailHistory} {before : ChangeState} {result : Result Data MethodError} {events : List Event}
-    {after : ChangeState} → ChangesAsked item_checks m a h before result events after → List Asked
+abbrev pub asks_over : {uploads : List (List ℕ)} {m : SetMethod} {a : SetAsked} {h : MailHistory} {before : ChangeState} {result : Result Data MethodError} {events : List Event}
+    {after : ChangeState} → ChangesAsked (item_checks uploads) m a h before result events after → List Asked
 asks_over (answering.Mismatch is result_is none same) = []
 asks_over (answering.Changes items came is items_are changes answers) = asks_of_change changes
 
-abbrev pub asks_of : {m : SetMethod} {d : Data} {mail : Mailing} {before : ChangeState} {result : Result Data MethodError} {events : List Event}
-    {after : ChangeState} → DoesChange item_checks m d mail before result events after → List Asked
+abbrev pub asks_of : {uploads : List (List ℕ)} {m : SetMethod} {d : Data} {mail : Mailing} {before : ChangeState} {result : Result Data MethodError} {events : List Event}
+    {after : ChangeState} → DoesChange (item_checks uploads) m d mail before result events after → List Asked
 asks_of (answering.Refused e is result_is none same) = []
 asks_of (answering.Untold a e is mail_is result_is none same) = []
 asks_of (answering.Asked a h is mail_is changes) = asks_over changes
@@ -111,7 +111,7 @@ pub data DoesCall (uses : Using) (uploads : List (List ℕ)) (earlier : List Cal
       → DoesCall uses uploads earlier call before asks result events after
   -- one that changes mail, where it is told: its items are done over the mail of its moment, and what they change is served, once for all of them
   Changes : (m : SetMethod) (d : Data) (h : MailHistory) → method_asked uses call.name ≡ Ok (Set m) → resolved_arguments earlier call.arguments ≡ Ok d
-      → mail_at before.progress ≡ Ok h → (does : DoesChange item_checks m d (Ok h) before result events after) → asks ≡ asks_of does
+      → mail_at before.progress ≡ Ok h → (does : DoesChange (item_checks uploads) m d (Ok h) before result events after) → asks ≡ asks_of does
       → DoesCall uses uploads earlier call before asks result events after
 
 -- had the bodies that a call asks been these, it would have asked for no more
@@ -124,7 +124,7 @@ pub data LacksCall (uses : Using) (uploads : List (List ℕ)) (earlier : List Ca
   ReadsInVain : (tried : List BodyAsk) → CallsAsk before.progress tried events after → AreDue (AreAllAsked uses (over_at uploads before) earlier call) tried
       → LacksCall uses uploads earlier call before events after
   ChangesInVain : (m : SetMethod) (d : Data) (h : MailHistory) → method_asked uses call.name ≡ Ok (Set m) → resolved_arguments earlier call.arguments ≡ Ok d
-      → mail_at before.progress ≡ Ok h → LacksAnswer item_checks m d (Ok h) before events after → LacksCall uses uploads earlier call before events after
+      → mail_at before.progress ≡ Ok h → LacksAnswer (item_checks uploads) m d (Ok h) before events after → LacksCall uses uploads earlier call before events after
 
 -- ---- calls
 
@@ -202,13 +202,13 @@ IsChangeObeyed (changing.Committed came mid does goes settles stands is) = AreSt
 IsChangeObeyed (changing.SpentBy came mid spent doing ending does goes settles is hangs whole after_is result_is) = ⊥
 IsChangeObeyed (changing.FailedInPart mid doing ending does hangs whole after_is is) = AreStepsObeyed does.runs
 
-abbrev pub AreAskedObeyed : {m : SetMethod} {a : SetAsked} {h : MailHistory} {before : ChangeState} {result : Result Data MethodError} {events : List Event}
-    {after : ChangeState} → ChangesAsked item_checks m a h before result events after → Type 0
+abbrev pub AreAskedObeyed : {uploads : List (List ℕ)} {m : SetMethod} {a : SetAsked} {h : MailHistory} {before : ChangeState} {result : Result Data MethodError} {events : List Event}
+    {after : ChangeState} → ChangesAsked (item_checks uploads) m a h before result events after → Type 0
 AreAskedObeyed (answering.Mismatch is result_is none same) = Unit {0}
 AreAskedObeyed (answering.Changes items came is items_are changes answers) = IsChangeObeyed changes
 
-abbrev pub IsSetObeyed : {m : SetMethod} {d : Data} {mail : Mailing} {before : ChangeState} {result : Result Data MethodError} {events : List Event}
-    {after : ChangeState} → DoesChange item_checks m d mail before result events after → Type 0
+abbrev pub IsSetObeyed : {uploads : List (List ℕ)} {m : SetMethod} {d : Data} {mail : Mailing} {before : ChangeState} {result : Result Data MethodError} {events : List Event}
+    {after : ChangeState} → DoesChange (item_checks uploads) m d mail before result events after → Type 0
 IsSetObeyed (answering.Refused e is result_is none same) = Unit {0}
 IsSetObeyed (answering.Untold a e is mail_is result_is none same) = Unit {0}
 IsSetObeyed (answering.Asked a h is mail_is changes) = AreAskedObeyed changes

@@ -33,12 +33,12 @@ pub data DoesMethod (uploads : List (List ℕ)) (m : Method) (d : Data) (before 
   ReadsMail : (bodies : List BodyAsk) → RepliesTo m (over_at uploads before) d bodies result → AsksBodies before.progress bodies events after.progress
       → asks ≡ map Body bodies → after.created ≡ before.created → DoesMethod uploads m d before asks result events after
   ChangesMail : (set : SetMethod) (h : MailHistory) → m ≡ Set set → mail_at before.progress ≡ Ok h
-      → (does : DoesChange item_checks set d (Ok h) before result events after) → asks ≡ asks_of does → DoesMethod uploads m d before asks result events after
+      → (does : DoesChange (item_checks uploads) set d (Ok h) before result events after) → asks ≡ asks_of does → DoesMethod uploads m d before asks result events after
 
 pub data LacksMethod (uploads : List (List ℕ)) (m : Method) (d : Data) (before : CallsState) (events : List Event) (after : Progress) : Type 0 where
   LacksReading : (tried : List BodyAsk) → CallsAsk before.progress tried events after → AreDue (FailsAfter (RepliesTo m (over_at uploads before) d)) tried
       → LacksMethod uploads m d before events after
-  LacksChanging : (set : SetMethod) (h : MailHistory) → m ≡ Set set → mail_at before.progress ≡ Ok h → LacksAnswer item_checks set d (Ok h) before events after
+  LacksChanging : (set : SetMethod) (h : MailHistory) → m ≡ Set set → mail_at before.progress ≡ Ok h → LacksAnswer (item_checks uploads) set d (Ok h) before events after
       → LacksMethod uploads m d before events after
 
 -- ---- the code's mail

@@ -55,11 +55,11 @@ pub fn error_of(why: MailFailure) -> MethodError
 }
 
 /// What the items of a call have to pass that asks this.
-fn checks_of(method: SetMethod, asked: &SetAsked<'_>) -> SetChecks
-    ensures { rules_of result ≡ item_checks method (asked_data asked.now) }
+fn checks_of<'u>(method: SetMethod, asked: &SetAsked<'_>, uploads: &'u BlobStore) -> SetChecks<'u>
+    ensures { rules_of result ≡ item_checks uploads.now method (asked_data asked.now) }
 {
     match method {
-        SetMethod::EmailSet => SetChecks::Email,
+        SetMethod::EmailSet => SetChecks::Email { uploads },
         SetMethod::MailboxSet => SetChecks::Mailbox {
             removes: asked.removes,
         },
@@ -121,16 +121,17 @@ impl RequestMail {
         &mut self,
         alloc: Global,
         link: &mut L,
+        uploads: &BlobStore,
         created: &mut CreatedIds,
         method: SetMethod,
         asked: &SetAsked<'_>,
     ) -> Result<Value, MethodError>
         requires known { IsSome self.old.machine.known }
         requires stands { self.old.status ≡ MailStatus.Stands }
-        ensures meant { (uploads : List (List ℕ)) (d : Data) → set_asked_by method d ≡ Ok (asked_data asked.now)
-            → Gives (λ r. RequestAnswers uploads (moment_of self.old created.old (L.tape link.old) (L.faults link.old) (L.hidden link.old)) (Set method) d r
+        ensures meant { (d : Data) → set_asked_by method d ≡ Ok (asked_data asked.now)
+            → Gives (λ r. RequestAnswers uploads.now (moment_of self.old created.old (L.tape link.old) (L.faults link.old) (L.hidden link.old)) (Set method) d r
             (moment_of self.new created.new (L.tape link.new) (L.faults link.new) (L.hidden link.new)))
-            (RequestLacks uploads (moment_of self.old created.old (L.tape link.old) (L.faults link.old) (L.hidden link.old)) (Set method) d
+            (RequestLacks uploads.now (moment_of self.old created.old (L.tape link.old) (L.faults link.old) (L.hidden link.old)) (Set method) d
             (moment_of self.new created.new (L.tape link.new) (L.faults link.new) (L.hidden link.new))) result }
         ensures whole { IfOk result (λ value. has_float (view value) ≡ false) }
     {
@@ -146,7 +147,7 @@ impl RequestMail {
             link,
             method,
             asked,
-            checks_of(method, asked),
+            checks_of(method, asked, uploads),
             created,
         );
         self.client = client;
@@ -159,21 +160,21 @@ impl RequestMail {
         &mut self,
         alloc: Global,
         link: &mut L,
+        uploads: &BlobStore,
         created: &mut CreatedIds,
         method: SetMethod,
         arguments: &Value,
     ) -> Result<Value, MethodError>
         requires known { IsSome self.old.machine.known }
         requires stands { self.old.status ≡ MailStatus.Stands }
-        ensures meant { (uploads : List (List ℕ))
-            → Gives (λ r. RequestAnswers uploads (moment_of self.old created.old (L.tape link.old) (L.faults link.old) (L.hidden link.old)) (Set method) (view arguments.now) r
+        ensures meant { Gives (λ r. RequestAnswers uploads.now (moment_of self.old created.old (L.tape link.old) (L.faults link.old) (L.hidden link.old)) (Set method) (view arguments.now) r
             (moment_of self.new created.new (L.tape link.new) (L.faults link.new) (L.hidden link.new)))
-            (RequestLacks uploads (moment_of self.old created.old (L.tape link.old) (L.faults link.old) (L.hidden link.old)) (Set method) (view arguments.now)
+            (RequestLacks uploads.now (moment_of self.old created.old (L.tape link.old) (L.faults link.old) (L.hidden link.old)) (Set method) (view arguments.now)
             (moment_of self.new created.new (L.tape link.new) (L.faults link.new) (L.hidden link.new))) result }
         ensures whole { IfOk result (λ value. has_float (view value) ≡ false) }
     {
         match set_asked(alloc, method, arguments) {
-            Ok(asked) => self.change_asked(alloc, link, created, method, &asked),
+            Ok(asked) => self.change_asked(alloc, link, uploads, created, method, &asked),
             Err(refusal) => Err(refusal),
         }
     }
@@ -197,7 +198,9 @@ impl RequestMail {
         ensures whole { IfOk result (λ value. has_float (view value) ≡ false) }
     {
         match method {
-            Method::Set(method) => self.change(alloc, link, created, method, &arguments),
+            Method::Set(method) => {
+                self.change(alloc, link, uploads, created, method, &arguments)
+            }
             _ => self.read(alloc, link, uploads, method, arguments),
         }
     }

@@ -13,7 +13,6 @@ ghost use Rattle.gate_machine.specs.Machine.{MachineState};
 ghost use Rattle.gate_machine.specs.Progress.{CameTo};
 ghost use Rattle.set_arguments.specs.Arguments.{SetAsked as SetAskedData};
 ghost use Rattle.set_arguments.specs.reading.Asked.{asked_data};
-ghost use Rattle.set_arguments.specs.reading.Keys.{keyed_data};
 ghost use Rattle.set_order.specs.Ordered.{Item as ItemData, ItemsOf, making};
 ghost use Rattle.set_order.specs.reading.Creating.{HasKeys};
 ghost use Rattle.set_order.specs.reading.Items.{item_data};
@@ -31,15 +30,15 @@ use crate::changing::{Changed, change_mail};
 use gate_machine::{Machine, MailStatus};
 use gate_world::{Chance, Clock, Link};
 use imap_client::Client;
-use jmap_arguments::{MethodError, is_new};
+use jmap_arguments::MethodError;
 use jmap_core::CreatedIds;
 use mail_state::{MailState, MailType};
 use serde_json::Value;
-use set_arguments::{Keyed, SetAsked, SetMethod};
+use set_arguments::{SetAsked, SetMethod};
 use set_calls::CallEnd;
 use set_jobs::Done;
 use set_methods::SetChecks;
-use set_order::{Item, ordered_items};
+use set_order::{Item, creation_ids, ordered_items};
 use set_replies::{is_at_state, put_created, set_reply};
 use std::alloc::{AllocError, Global};
 use std::collections::BTreeSet;
@@ -53,17 +52,6 @@ pub struct Answered {
     pub status: MailStatus,
     /// The client, whose link life goes on as far as that stands.
     pub client: Client,
-}
-
-/// The creation ids of what a call is to make.
-fn creation_ids<'k>(alloc: Global, create: &Vec<Keyed<'k>>) -> Result<BTreeSet<&'k str>, AllocError>
-    ensures { IfOk result (λ keys. HasKeys keys (making (map keyed_data create.now.items))) }
-{
-    let mut keys = BTreeSet::new(alloc);
-    for creation in create {
-        is_new(&mut keys, creation.key)?;
-    }
-    Ok(keys)
 }
 
 /// The reply over what is served after the commit, which adds the ids of what was made.
@@ -201,13 +189,13 @@ fn answer_items<'k, L: Link + Clock + Chance>(
     method: SetMethod,
     before: u64,
     keys: &BTreeSet<&'k str>,
-    checks: SetChecks,
+    checks: SetChecks<'_>,
     items: &[Item<'k>],
     created: &mut CreatedIds,
 ) -> Answered
     requires { IsSome machine.old.known }
     ensures run { Adds (L.tape link.old) (L.tape link.new) (λ es. (all : ItemChecks) (a : SetAskedData) (h : MailHistory) (start : ChangeState) (was : Faults)
-        → all method a ≡ rules_of checks → start.created ≡ created.old → before ≡ states.place_of method h → is_current method a h ≡ true
+        → all method a ≡ rules_of checks.entry → start.created ≡ created.old → before ≡ states.place_of method h → is_current method a h ≡ true
         → HasKeys keys.now (making a.create) → ItemsOf method start.created a (map item_data items.now) → IsServed h start.progress
         → CameTo machine.old client MailStatus.Stands was (L.faults link.old) start.progress
         → AnswersTo all method a h start result.answer created.new machine.new result.client result.status was (L.faults link.new) es) }
@@ -228,12 +216,12 @@ fn answer_current<L: Link + Clock + Chance>(
     link: &mut L,
     method: SetMethod,
     asked: &SetAsked<'_>,
-    checks: SetChecks,
+    checks: SetChecks<'_>,
     created: &mut CreatedIds,
 ) -> Answered
     requires { IsSome machine.old.known }
     ensures run { Adds (L.tape link.old) (L.tape link.new) (λ es. (all : ItemChecks) (h : MailHistory) (start : ChangeState) (was : Faults)
-        → all method (asked_data asked.now) ≡ rules_of checks → start.created ≡ created.old → is_current method (asked_data asked.now) h ≡ true
+        → all method (asked_data asked.now) ≡ rules_of checks.entry → start.created ≡ created.old → is_current method (asked_data asked.now) h ≡ true
         → IsServed h start.progress → CameTo machine.old client MailStatus.Stands was (L.faults link.old) start.progress
         → AnswersTo all method (asked_data asked.now) h start result.answer created.new machine.new result.client result.status was (L.faults link.new) es) }
     ensures ready { result.status ≡ MailStatus.Stands → IsSome machine.new.known }
@@ -273,12 +261,12 @@ pub fn answer_change<L: Link + Clock + Chance>(
     link: &mut L,
     method: SetMethod,
     asked: &SetAsked<'_>,
-    checks: SetChecks,
+    checks: SetChecks<'_>,
     created: &mut CreatedIds,
 ) -> Answered
     requires { IsSome machine.old.known }
     ensures run { Adds (L.tape link.old) (L.tape link.new) (λ es. (all : ItemChecks) (h : MailHistory) (start : ChangeState) (was : Faults)
-        → all method (asked_data asked.now) ≡ rules_of checks → start.created ≡ created.old → IsServed h start.progress
+        → all method (asked_data asked.now) ≡ rules_of checks.entry → start.created ≡ created.old → IsServed h start.progress
         → CameTo machine.old client MailStatus.Stands was (L.faults link.old) start.progress
         → AnswersTo all method (asked_data asked.now) h start result.answer created.new machine.new result.client result.status was (L.faults link.new) es) }
     ensures ready { result.status ≡ MailStatus.Stands → IsSome machine.new.known }

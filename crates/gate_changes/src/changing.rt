@@ -48,12 +48,12 @@ fn do_items<'k, L: Link + Clock + Chance>(
     link: &mut L,
     created: &CreatedIds,
     making: &BTreeSet<&'k str>,
-    checks: SetChecks,
+    checks: SetChecks<'_>,
     items: &[Item<'k>],
 ) -> (Result<Vec<(Item<'k>, Done)>, CallEnd>, Client)
     requires { IsSome machine.old.known }
     ensures run { Adds (L.tape link.old) (L.tape link.new) (λ es. (call : SetCall) (before : Progress) (was : Faults) → call.created ≡ created.now
-        → HasKeys making.now call.making → call.rules ≡ rules_of checks → IsOver call before
+        → HasKeys making.now call.making → call.rules ≡ rules_of checks.entry → IsOver call before
         → CameTo machine.old client MailStatus.Stands was (L.faults link.old) before
         → (mid : Progress) × DoesItemsOver call (map item_data items.now) before (came_data result.0) es mid
         × CameTo machine.new result.1 MailStatus.Stands was (L.faults link.new) mid) }
@@ -218,12 +218,12 @@ pub fn change_mail<'k, L: Link + Clock + Chance>(
     link: &mut L,
     created: &CreatedIds,
     making: &BTreeSet<&'k str>,
-    checks: SetChecks,
+    checks: SetChecks<'_>,
     items: &[Item<'k>],
 ) -> Changed<'k>
     requires { IsSome machine.old.known }
     ensures run { Adds (L.tape link.old) (L.tape link.new) (λ es. (call : SetCall) (before : Progress) (was : Faults) → call.created ≡ created.now
-        → HasKeys making.now call.making → call.rules ≡ rules_of checks → IsOver call before
+        → HasKeys making.now call.making → call.rules ≡ rules_of checks.entry → IsOver call before
         → CameTo machine.old client MailStatus.Stands was (L.faults link.old) before
         → ChangesTo call (map item_data items.now) before result.came machine.new result.client result.status was (L.faults link.new) es) }
     ensures ready { result.status ≡ MailStatus.Stands → IsSome machine.new.known }

@@ -1,5 +1,5 @@
 -- What is done for what is asked, and by the bodies that are asked for it.
-use Rattle.std.proofs.Common.{◌≡◌, ◌≢◌, ◌∙◌, ◌++◌, ℕ, false, List, [], map, Option, Some, None, Result, Err, refl, sym, ap, subst}
+use Rattle.std.proofs.Common.{◌≡◌, ◌≢◌, ◌∙◌, ◌++◌, ℕ, false, List, [], Option, Some, None, Result, Err, refl, sym, ap, subst}
 use Rattle.gate_world.specs.declared.event.Event.{Event}
 use Rattle.serde_json.specs.Data.{Data}
 use Rattle.serde_json.specs.Written.{compact_text}
@@ -34,7 +34,7 @@ use Rattle.jmap_core.specs.CreatedIds.{Ids}
 use Rattle.jmap_core.specs.Request.{RequestData}
 use Rattle.gate_serving.specs.Answers.{Answer, DownloadAsks, IsDownload, calls_text, json_answer, problem_answer, untold_problem}
 use Rattle.gate_serving.specs.Doing.{Answers, Does, Comes, RunsOut, DoesNothing, Lacks, calls_begun, ids_given, ids_told}
-use Rattle.gate_serving.specs.Requests.{Account, Asking, Calls, Problem, Session, Upload, Download, Refused, asks_for_mail}
+use Rattle.gate_serving.specs.Requests.{Account, Asking, Calls, Problem, Session, Upload, Download, Refused}
 
 -- ---- bodies
 
@@ -69,8 +69,8 @@ change_not_out (changing.Committed came mid does goes settles stands is) out = l
 change_not_out {q = q} (changing.SpentBy came mid spent doing ending does goes settles spent_is hangs whole after_is is) out = broken_not_out spent q after_is out
 change_not_out {q = q} (changing.FailedInPart mid doing ending does hangs whole after_is is) out = broken_not_out mid q after_is out
 
-set_not_out : {m : SetMethod} {d : Data} {mail : Mailing} {s t : CallsState} {result : Result Data MethodError} {events : List Event}
-    → DoesChange item_checks m d mail s result events t → s.progress.standing ≢ OutOfMemory → t.progress.standing ≢ OutOfMemory
+set_not_out : {uploads : List (List ℕ)} {m : SetMethod} {d : Data} {mail : Mailing} {s t : CallsState} {result : Result Data MethodError} {events : List Event}
+    → DoesChange (item_checks uploads) m d mail s result events t → s.progress.standing ≢ OutOfMemory → t.progress.standing ≢ OutOfMemory
 set_not_out (answering.Refused e is result_is none same) stood out = stood (ap (λ (x : CallsState). x.progress.standing) (sym same) ∙ out)
 set_not_out (answering.Untold a e is mail_is result_is none same) stood out = stood (ap (λ (x : CallsState). x.progress.standing) (sym same) ∙ out)
 set_not_out (answering.Asked a h is mail_is (answering.Mismatch current result_is none same)) stood out =

@@ -65,8 +65,8 @@ module _ (law : PreparedLaw) (calls : CallsLaw) (changing : ChangesLaw) (b : ℕ
 
   -- ---- calls
 
-  change_keeps : {m : SetMethod} {d : Data} {mail : Mailing} {s t : CallsState} {result : Result Data MethodError} {events : List Event}
-      → DoesChange item_checks m d mail s result events t → KeepsBody t.progress.machine b → KeepsBody s.progress.machine b
+  change_keeps : {uploads : List (List ℕ)} {m : SetMethod} {d : Data} {mail : Mailing} {s t : CallsState} {result : Result Data MethodError} {events : List Event}
+      → DoesChange (item_checks uploads) m d mail s result events t → KeepsBody t.progress.machine b → KeepsBody s.progress.machine b
   change_keeps {s = s} {t = t} (answering.Refused e is result_is none same) keeps =
       nothing_keeps s.progress t.progress (ap (λ (x : CallsState). x.progress) same) keeps
   change_keeps {s = s} {t = t} (answering.Untold a e is mail_is result_is none same) keeps =
@@ -76,7 +76,7 @@ module _ (law : PreparedLaw) (calls : CallsLaw) (changing : ChangesLaw) (b : ℕ
   change_keeps {s = s} {t = t} {events = events} (answering.Asked a h is mail_is (answering.Changes items came current items_are does answers)) keeps =
       changing.changes _ items s.progress came events t.progress does b keeps
 
-  lacking_keeps : {m : SetMethod} {d : Data} {mail : Mailing} {s : CallsState} {events : List Event} {q : Progress} → LacksAnswer item_checks m d mail s events q
+  lacking_keeps : {uploads : List (List ℕ)} {m : SetMethod} {d : Data} {mail : Mailing} {s : CallsState} {events : List Event} {q : Progress} → LacksAnswer (item_checks uploads) m d mail s events q
       → KeepsBody q.machine b → KeepsBody s.progress.machine b
   lacking_keeps {s = s} {q = q} (answering.Unread none same) keeps = nothing_keeps s.progress q same keeps
   lacking_keeps {s = s} {q = q} (answering.LacksIn a h is mail_is (answering.BeforeItems none same)) keeps = nothing_keeps s.progress q same keeps

@@ -1,5 +1,5 @@
 -- A store that obeys, and what comes of what is done for a request.
-use Rattle.std.proofs.Common.{arith, ◌≡◌, ◌≢◌, ◌⊎◌, ◌∙◌, ◌+◌, ◌++◌, ◌∷◌, ℕ, Bool, true, false, if◌then◌else◌, List, [], map, All, Option, Some, None, Result, Ok, Err}
+use Rattle.std.proofs.Common.{arith, ◌≡◌, ◌≢◌, ◌⊎◌, ◌∙◌, ◌+◌, ◌++◌, ◌∷◌, ℕ, Bool, true, false, List, [], map, Option, Some, None, Result, Ok, Err}
 use Rattle.std.proofs.Common.{inl, inr, refl, sym, ap, subst}
 use Rattle.std.specs.Prelude.{IsSome, is_some}
 use Rattle.std.proofs.lemmas.List.Sums.{fold-append}
@@ -91,7 +91,7 @@ PartlyLaw = (job : Job) (call : List Exchange) (before after : Mail) (life left 
 
 -- and the items of the calls that there are have the steps that this is proved of
 abbrev pub FitLaw : Type 0
-FitLaw = (m : SetMethod) (a : SetAsked) (h : MailHistory) (created : Ids) → ChecksFit (call_of item_checks m a h created)
+FitLaw = (uploads : List (List ℕ)) (m : SetMethod) (a : SetAsked) (h : MailHistory) (created : Ids) → ChecksFit (call_of (item_checks uploads) m a h created)
 
 pub record ObeyedLaws : Type 0 where
   pub plans : PlansLaw
@@ -286,15 +286,15 @@ module _ (laws : ObeyedLaws) where
 
   -- ---- one call
 
-  set_comes : {m : SetMethod} {d : Data} {h : MailHistory} {s t : CallsState} {result : Result Data MethodError} {events : List Event}
-      (does : DoesChange item_checks m d (Ok h) s result events t) → IsSetObeyed does → (here : IsUp s.progress) → t.progress.blamed ≡ no_faults
+  set_comes : {uploads : List (List ℕ)} {m : SetMethod} {d : Data} {h : MailHistory} {s t : CallsState} {result : Result Data MethodError} {events : List Event}
+      (does : DoesChange (item_checks uploads) m d (Ok h) s result events t) → IsSetObeyed does → (here : IsUp s.progress) → t.progress.blamed ≡ no_faults
       → AllCome here.known.history (asks_of does) t.progress
   set_comes (answering.Refused e is result_is no_events same) obeyed here free = none_come (ap (λ (x : CallsState). x.progress) same) here
   set_comes (answering.Untold a e is mail_is result_is no_events same) obeyed here free = none_come (ap (λ (x : CallsState). x.progress) same) here
   set_comes (answering.Asked a h is mail_is (answering.Mismatch current result_is no_events same)) obeyed here free =
       none_come (ap (λ (x : CallsState). x.progress) same) here
   set_comes {m = m} {s = s} (answering.Asked a h is mail_is (answering.Changes items came current items_are does answers)) obeyed here free =
-      change_comes here.known.history does (laws.fit m a h s.created) obeyed here.up free
+      change_comes here.known.history does (laws.fit _ m a h s.created) obeyed here.up free
 
   body_up : {message : MessagePlace} {p q : Progress} {body : Option (List ℕ)} {events : List Event} → AsksBody message p body events q → is_up p.left ≡ true
       → IsSome body → is_up q.left ≡ true

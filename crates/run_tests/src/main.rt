@@ -43,6 +43,8 @@ fn put_object(alloc: Global, text: &str, out: &mut String) -> Result<(), AllocEr
 struct Rows {
     written: Written,
     seen: Seen,
+    /// The text of which is told how often the store took it; none where it is empty.
+    counting: String,
     alloc: Global,
 }
 
@@ -51,7 +53,9 @@ impl Rows {
     fn played(&self, command: &str) -> Result<Seen, AllocError> {
         let mut world = self.written.world()?;
         let ended = play(self.alloc, command, &mut world)?;
-        Seen::new(self.alloc, ended, &world)
+        let mut seen = Seen::new(self.alloc, ended, &world)?;
+        seen.note_count(self.alloc, &self.counting)?;
+        Ok(seen)
     }
 
     /// Does a command, and adds what comes of it.
@@ -100,6 +104,12 @@ impl Rows {
         put_names(self.alloc, &world, out)
     }
 
+    /// From here on, how often the store took this text is told with what comes of a command.
+    fn count_on(&mut self, text: &str) -> Result<(), AllocError> {
+        self.counting = String::from_str(self.alloc, text)?;
+        Ok(())
+    }
+
     /// Takes what is written down.
     fn write_down(&mut self, word: &str, text: &str, out: &mut String) -> Result<(), AllocError> {
         if self.written.take(word, text)? {
@@ -114,6 +124,7 @@ impl Rows {
             "gave" => writeln!(out, "clients gave {} octets", self.seen.gave),
             "store" => self.seen.put_store(self.alloc, text, out),
             "count" => self.seen.put_counts(text, out),
+            "counting" => self.count_on(text),
             "events" => self.put_events(text, out),
             "object" => put_object(self.alloc, text, out),
             "task" => put_task(self.alloc, text, out),
@@ -136,6 +147,7 @@ impl TestRows for Rows {
     fn begin(&mut self) -> Result<(), AllocError> {
         self.written.clear();
         self.seen = Seen::nothing(self.alloc);
+        self.counting.clear();
         Ok(())
     }
 
@@ -150,6 +162,7 @@ fn main(rt: HostRuntime) -> io::Result<()> {
     let mut rows = Rows {
         written: Written::new(rt.alloc()),
         seen: Seen::nothing(rt.alloc()),
+        counting: String::new(rt.alloc()),
         alloc: rt.alloc(),
     };
     answer_rows(&rt, &mut rows)

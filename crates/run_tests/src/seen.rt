@@ -105,6 +105,16 @@ impl Seen {
         }
     }
 
+    /// Notes how often the store took this text, where there is one.
+    pub(crate) fn note_count(&mut self, alloc: Global, text: &str) -> Result<(), AllocError> {
+        if text.is_empty() {
+            return Ok(());
+        }
+        let count = count_of(&self.store, text);
+        let note = format!(in alloc; ", {count} of {text}")?;
+        self.notes.push_str(&note)
+    }
+
     /// What the store took counts no more.
     pub(crate) fn forget_store(&mut self) {
         self.store.clear();

@@ -34,11 +34,6 @@ keyed_in (Some null) = Some []
 keyed_in (Some (object ms)) = objects_in ms
 keyed_in (Some d) = None
 
--- no Email is made yet
-abbrev pub none_in : Option Keyed → Option Keyed
-none_in (Some []) = Some []
-none_in _ = None
-
 abbrev pub texts_or_none : Option Data → Option (List (List ℕ))
 texts_or_none None = Some []
 texts_or_none (Some null) = Some []
@@ -73,9 +68,8 @@ abbrev pub removes_asked : SetMethod → Data → Option Bool
 removes_asked EmailSet d = Some false
 removes_asked MailboxSet d = truth_or_null (get (codes "onDestroyRemoveEmails") d)
 
-abbrev pub create_asked : SetMethod → Data → Option Keyed
-create_asked EmailSet d = none_in (keyed_in (get (codes "create") d))
-create_asked MailboxSet d = keyed_in (get (codes "create") d)
+abbrev pub create_asked : Data → Option Keyed
+create_asked d = keyed_in (get (codes "create") d)
 
 abbrev pub update_asked : Data → Option Keyed
 update_asked d = keyed_in (get (codes "update") d)
@@ -96,7 +90,7 @@ asked_from (Some account) (Some state) (Some destroy) (Some removes) (Some creat
 asked_from _ _ _ _ _ _ = Err InvalidArguments
 
 abbrev pub asked_of : SetMethod → Data → Result SetAsked MethodError
-asked_of m d = asked_from (account_asked d) (state_asked d) (destroy_asked d) (removes_asked m d) (create_asked m d) (update_asked d)
+asked_of m d = asked_from (account_asked d) (state_asked d) (destroy_asked d) (removes_asked m d) (create_asked d) (update_asked d)
 
 -- each number in the arguments is an integer
 abbrev pub set_asked : SetMethod → Data → Result SetAsked MethodError

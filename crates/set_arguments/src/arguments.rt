@@ -55,35 +55,6 @@ fn keyed_at<'a>(
     }
 }
 
-/// Nothing, where nothing is to be made.
-fn none_in<'a>(objects: Option<Vec<Keyed<'a>>>) -> Option<Vec<Keyed<'a>>>
-    ensures objects { option_map (λ v. map keyed_data v.items) result ≡ spec.none_in (option_map (λ v. map keyed_data v.items) objects.entry) }
-    ensures ascend { AscendWhereThere objects.entry → AscendWhereThere result }
-{
-    let objects = objects?;
-    if objects.is_empty() {
-        Some(objects)
-    } else {
-        None
-    }
-}
-
-/// What is to be made. No Email is made yet.
-fn create_asked<'a>(
-    alloc: Global,
-    method: SetMethod,
-    arguments: &'a Value,
-) -> Result<Option<Vec<Keyed<'a>>>, AllocError>
-    ensures objects { IfOk result (λ o. option_map (λ v. map keyed_data v.items) o ≡ spec.create_asked method (view arguments.now)) }
-    ensures ascend { IfOk result AscendWhereThere }
-{
-    let objects = keyed_at(alloc, arguments, "create")?;
-    match method {
-        SetMethod::EmailSet => Ok(none_in(objects)),
-        SetMethod::MailboxSet => Ok(objects),
-    }
-}
-
 fn destroy_asked<'a>(
     alloc: Global,
     arguments: &'a Value,
@@ -172,7 +143,7 @@ fn asked_of<'a>(
     let state = state_asked(arguments).ok_or(MethodError::InvalidArguments)?;
     let destroy = destroy_asked(alloc, arguments)?.ok_or(MethodError::InvalidArguments)?;
     let removes = removes_asked(method, arguments).ok_or(MethodError::InvalidArguments)?;
-    let create = create_asked(alloc, method, arguments)?.ok_or(MethodError::InvalidArguments)?;
+    let create = keyed_at(alloc, arguments, "create")?.ok_or(MethodError::InvalidArguments)?;
     let update = keyed_at(alloc, arguments, "update")?.ok_or(MethodError::InvalidArguments)?;
     let asked = SetAsked {
         state,
@@ -184,9 +155,8 @@ fn asked_of<'a>(
     within_count(asked, account)
 }
 
-/// What a call asks (RFC 8620 section 5.3). A refusal is, in this order, `InvalidArguments` exactly where a number is no integer, an
-/// argument has a wrong kind or an Email is to be made; `AccountNotFound`; and `RequestTooLarge` exactly where more than
-/// `MAX_OBJECTS_IN_SET` objects are asked.
+/// What a call asks (RFC 8620 section 5.3). A refusal is, in this order, `InvalidArguments` exactly where a number is no integer or an
+/// argument has a wrong kind; `AccountNotFound`; and `RequestTooLarge` exactly where more than `MAX_OBJECTS_IN_SET` objects are asked.
 pub fn set_asked<'a>(
     alloc: Global,
     method: SetMethod,

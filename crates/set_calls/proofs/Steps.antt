@@ -29,9 +29,8 @@ use Rattle.set_items.specs.declared.stage.ItemStage.{ItemStage}
 use Rattle.set_items.specs.Items.{item_at, item_start}
 use Rattle.set_items.specs.Ends.{item_end}
 use Rattle.set_items.specs.Talks.{AllReadKnown, IsItemDone, ending_of, fault_in, has_changed}
-use Rattle.set_methods.specs.Checks.{Checks, Drawn, Makes}
-use Rattle.set_methods.specs.declared.checks.Passed.TheVariants.{Drawing, Steps}
-use Rattle.set_methods.specs.declared.checks.Ready.{Ready}
+use Rattle.set_methods.specs.Checks.{Checks, Drawn, Makes, NeedsDraw}
+use Rattle.set_methods.specs.declared.checks.Passed.TheVariants.{Steps}
 use Rattle.told_changes.specs.Told.{told}
 use Rattle.imap_exchange.specs.declared.link_end.LinkEnd.{LinkEnd}
 use Rattle.imap_exchange.specs.declared.link_end.LinkEnd.TheVariants as end
@@ -169,10 +168,10 @@ pub lacks_at_once : (c : SetCall) (s : CallState) (item : spec.Item) (e : AllocE
 lacks_at_once c s item e = record { drawn = None; events_are = refl; is = tt; lacks = tt }
 
 -- its steps are made of what was drawn
-pub prepared_of_drawn : (c : SetCall) (s : CallState) (item : spec.Item) (ready : Ready) (drawn : Drawn) (came : Result (Result Job SetError) AllocError)
-    → Checks c.rules (given_at c s) item (Ok (Drawing ready)) → IfOk came (λ made. Makes ready drawn made) → IsPreparedSo c s item came (drawing (Some drawn))
-prepared_of_drawn c s item ready drawn (Ok made) checks so = record { drawn = Some drawn; events_are = refl; is = (ready, checks, so); lacks = tt }
-prepared_of_drawn c s item ready drawn (Err e) checks so = record { drawn = Some drawn; events_are = refl; is = tt; lacks = (ready, checks) }
+pub prepared_of_drawn : (c : SetCall) (s : CallState) (item : spec.Item) (drawn : Drawn) (came : Result (Result Job SetError) AllocError)
+    (needs : NeedsDraw c.rules (given_at c s) item) → IfOk came (λ made. Makes needs.0 drawn made) → IsPreparedSo c s item came (drawing (Some drawn))
+prepared_of_drawn c s item drawn (Ok made) needs so = record { drawn = Some drawn; events_are = refl; is = (needs.0, needs.1, so); lacks = tt }
+prepared_of_drawn c s item drawn (Err e) needs so = record { drawn = Some drawn; events_are = refl; is = tt; lacks = needs }
 
 -- no part of the outside has failed, so the link hasn't
 link_same : (before after : Faults) → NoFault before after → after.link ≡ before.link

@@ -13,9 +13,7 @@ use Rattle.set_jobs.specs.declared.done.SetError.{SetError}
 use Rattle.set_jobs.specs.declared.job.Job.{Job}
 use Rattle.set_order.specs.Ordered.{Item, Create}
 use Rattle.set_given.specs.Given.{Given, MadeFolders}
-use Rattle.set_methods.specs.Checks.{Checks, Drawn, Prepares, Rules}
-use Rattle.set_methods.specs.declared.checks.Passed.TheVariants.{Drawing}
-use Rattle.set_methods.specs.declared.checks.Ready.{Ready}
+use Rattle.set_methods.specs.Checks.{Drawn, NeedsDraw, Prepares, Rules}
 use Rattle.set_items.specs.declared.item.ItemEnd.{ItemEnd}
 use Rattle.set_items.specs.declared.item.ItemEnd.TheVariants.{Comes, OutOfMemory}
 use Rattle.set_items.specs.Talks.{DoesItem, fault_in}
@@ -119,7 +117,7 @@ items_of done = map (λ (e : Item × Done). e.0) done
 abbrev pub IsDrawnFor : SetCall → CallState → List Item → Option Drawn → Type 0
 IsDrawnFor c s items None = Unit {0}
 IsDrawnFor c s [] (Some drawn) = ⊥
-IsDrawnFor c s (item ∷ items) (Some drawn) = (ready : Ready) × Checks c.rules (given_at c s) item (Ok (Drawing ready))
+IsDrawnFor c s (item ∷ items) (Some drawn) = NeedsDraw c.rules (given_at c s) item
 
 -- All items of a list were done; or one of them ended the call, after those before it; or memory ran out after some of them, before a command was sent for the
 -- next one.

@@ -17,7 +17,7 @@ pub struct Call<'a, 'k> {
     /// The creation ids of what the call is to make.
     pub making: &'a BTreeSet<&'k str>,
     /// What an item has to pass.
-    pub checks: SetChecks,
+    pub checks: SetChecks<'a>,
 }
 
 /// Why a call's items weren't all done.

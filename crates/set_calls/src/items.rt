@@ -22,7 +22,7 @@ use imap_client::Client;
 use set_given::{Given, MadeFolders};
 use set_items::{ItemEnd, do_item};
 use set_jobs::{Done, Job, SetError};
-use set_methods::Passed;
+use set_methods::{Passed, make};
 use set_order::Item;
 use std::alloc::{AllocError, Global};
 use told_mail::Mirror;
@@ -55,6 +55,7 @@ fn check_item<'k>(
 /// The steps of an item that passed its checks, or why it is refused all the same. A moment and a word are drawn where its steps are
 /// made of them.
 fn steps_of<W: Clock + Chance>(
+    alloc: Global,
     world: &mut W,
     passed: Passed,
 ) -> Result<Result<Job, SetError>, AllocError>
@@ -66,15 +67,16 @@ fn steps_of<W: Clock + Chance>(
     match passed {
         Passed::Steps(job) => Ok(Ok(job)),
         Passed::Drawing(ready) => {
-            let _now = world.now();
-            let _word = world.word();
-            match ready {}
+            let now = world.now();
+            let word = world.word();
+            make(alloc, ready, now, word)
         }
     }
 }
 
 /// The steps of an item that came to this by its checks, or why it is refused.
 fn settle<W: Clock + Chance>(
+    alloc: Global,
     world: &mut W,
     checked: Result<Passed, SetError>,
 ) -> Result<Result<Job, SetError>, AllocError>
@@ -84,7 +86,7 @@ fn settle<W: Clock + Chance>(
     ensures hidden { W.hidden world.new ≡ W.hidden world.old }
 {
     match checked {
-        Ok(passed) => steps_of(world, passed),
+        Ok(passed) => steps_of(alloc, world, passed),
         Err(error) => Ok(Err(error)),
     }
 }
@@ -105,7 +107,7 @@ fn prepare_item<'k, W: Clock + Chance>(
     ensures hidden { W.hidden world.new ≡ W.hidden world.old }
 {
     match check_item(alloc, client, mirror, call, made, item) {
-        Ok(checked) => settle(world, checked),
+        Ok(checked) => settle(alloc, world, checked),
         Err(error) => Err(error),
     }
 }

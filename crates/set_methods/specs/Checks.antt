@@ -1,31 +1,35 @@
 -- What an item of each method has to pass before a command is sent for it, and what its steps are made of (RFC 8621 sections 2.5 and 4.6).
-use Rattle.std.specs.Prelude.{◌≡◌, ℕ, ℤ, Bool, Option, Some, None, Result, Ok, Err}
+use Rattle.std.specs.Prelude.{◌≡◌, ℕ, ℤ, Bool, List, Option, Some, None, Result, Ok, Err}
+use Rattle.serde_json.specs.Data.{Members}
 use Rattle.set_jobs.specs.declared.done.SetError.{SetError}
 use Rattle.set_jobs.specs.declared.done.SetError.TheVariants.{Forbidden}
 use Rattle.set_jobs.specs.declared.job.Job.{Job}
 use Rattle.set_order.specs.Ordered.{Item, Create, Circle, Update, Destroy}
 use Rattle.set_given.specs.Given.{Given}
 use Rattle.email_checks.specs.Emails.{update_email, destroy_email}
+use Rattle.email_creation.specs.Appends.{DrawsCreation}
+use Rattle.email_creation.specs.Creations.{ChecksCreation}
+use Rattle.email_creation.specs.declared.ready.ReadyCreation.{ReadyCreation}
 use Rattle.mailbox_checks.specs.Create.{create_mailbox}
 use Rattle.mailbox_checks.specs.Destroy.{destroy_mailbox}
 use Rattle.mailbox_checks.specs.Properties.{wrong_parent}
 use Rattle.mailbox_checks.specs.Update.{update_mailbox}
 use Rattle.set_methods.specs.declared.checks.Passed.{Passed}
 use Rattle.set_methods.specs.declared.checks.Passed.TheVariants.{Steps, Drawing}
-use Rattle.set_methods.specs.declared.checks.Ready.{Ready}
 
 -- ---- checks
 
--- whose checks the items of a call have to pass: those of Email/set; or those of Mailbox/set, by whether Emails may be removed with their Mailbox
+-- whose checks the items of a call have to pass: those of Email/set, over these uploads; or those of Mailbox/set, by whether Emails may be removed with their
+-- Mailbox
 pub data Rules : Type 0 where
-  EmailRules : Rules
+  EmailRules : List (List ℕ) → Rules
   MailboxRules : Bool → Rules
 
--- an Email/set that creates is refused by its arguments, so no item of one is a creation
-abbrev pub check_email : Given → Item → Result Job SetError
-check_email g (Update text patch) = update_email g text patch
-check_email g (Destroy text) = destroy_email g text
-check_email g _ = Err Forbidden
+-- an item of Email/set that isn't a creation; no Email waits for another
+abbrev pub check_other : Given → Item → Result Job SetError
+check_other g (Update text patch) = update_email g text patch
+check_other g (Destroy text) = destroy_email g text
+check_other g _ = Err Forbidden
 
 -- a Mailbox that waits for itself has a wrong parent; whether Emails may be removed with their Mailbox is asked by the call
 abbrev pub check_mailbox : Bool → Given → Item → Result Job SetError
@@ -39,10 +43,25 @@ abbrev pub with_steps : Result Job SetError → Result Passed SetError
 with_steps (Ok job) = Ok (Steps job)
 with_steps (Err e) = Err e
 
+-- a creation of an Email that passes is one whose steps are made of a moment and a word
+abbrev pub ChecksNewEmail : Given → List (List ℕ) → Members → Result Passed SetError → Type 0
+ChecksNewEmail g uploads ms (Err e) = ChecksCreation g uploads ms (Err e)
+ChecksNewEmail g uploads ms (Ok (Steps job)) = ⊥
+ChecksNewEmail g uploads ms (Ok (Drawing ready)) = ChecksCreation g uploads ms (Ok ready)
+
 -- What an item comes to by its checks: it is refused; or it passes, and its steps are known, or are made of a moment and a word that are to be drawn.
 abbrev pub Checks : Rules → Given → Item → Result Passed SetError → Type 0
-Checks EmailRules g item came = came ≡ with_steps (check_email g item)
+Checks (EmailRules uploads) g (Create key ms) came = ChecksNewEmail g uploads ms came
+Checks (EmailRules uploads) g item came = came ≡ with_steps (check_other g item)
 Checks (MailboxRules removes) g item came = came ≡ with_steps (check_mailbox removes g item)
+
+-- the item passes its checks, and its steps are made of this
+abbrev pub IsReady : Rules → Given → Item → ReadyCreation → Type 0
+IsReady rules g item ready = Checks rules g item (Ok (Drawing ready))
+
+-- the item passes its checks, and a moment and a word have to be drawn for its steps
+abbrev pub NeedsDraw : Rules → Given → Item → Type 0
+NeedsDraw rules g item = (ready : ReadyCreation) × IsReady rules g item ready
 
 -- ---- what is drawn
 
@@ -51,13 +70,13 @@ pub record Drawn : Type 0 where
   pub now : ℤ
   pub word : ℕ
 
--- What is made of an item that is ready: its steps, or a refusal. No item is.
-abbrev pub Makes : Ready → Drawn → Result Job SetError → Type 0
-Makes ready drawn came = ⊥
+-- what is made of a creation that is ready: its steps, or a refusal
+abbrev pub Makes : ReadyCreation → Drawn → Result Job SetError → Type 0
+Makes ready drawn came = DrawsCreation ready drawn.now drawn.word came
 
 -- What an item comes to before a command is sent for it, by what was drawn for it: its steps, or a refusal. Something is drawn only for one that passed its
 -- checks.
 abbrev pub Prepares : Rules → Given → Item → Option Drawn → Result Job SetError → Type 0
 Prepares rules g item None (Err e) = Checks rules g item (Err e)
 Prepares rules g item None (Ok job) = Checks rules g item (Ok (Steps job))
-Prepares rules g item (Some drawn) came = (ready : Ready) × Checks rules g item (Ok (Drawing ready)) × Makes ready drawn came
+Prepares rules g item (Some drawn) came = (ready : ReadyCreation) × IsReady rules g item ready × Makes ready drawn came

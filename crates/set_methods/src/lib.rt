@@ -5,4 +5,4 @@ mod checks;
 mod emails;
 mod mailboxes;
 
-pub use checks::{Passed, Ready, SetChecks};
+pub use checks::{Passed, SetChecks, make};

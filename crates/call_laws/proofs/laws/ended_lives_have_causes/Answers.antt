@@ -5,8 +5,8 @@ pub returns-clause-calls : goal.returns-clause-calls
 returns-clause-calls c uses uploads begun now calls responses asks events h does up told over =
     calls_end (record {
       fetches = c.finished_lives_go_on.ensures.body;
-      unavailable = λ m a h created items mail life now events runs.
-          c.calls_end_by_their_causes.ensures.unavailable _ items mail life now events (c.items_are_fit.ensures.fit m a h created) runs;
+      unavailable = λ uploads m a h created items mail life now events runs.
+          c.calls_end_by_their_causes.ensures.unavailable _ items mail life now events (c.items_are_fit.ensures.fit uploads m a h created) runs;
     }) h does up told over
 
 pub returns-clause-items : goal.returns-clause-items

@@ -1,4 +1,4 @@
-use Rattle.std.proofs.Common.{◌≡◌, ◌∙◌, ap, map, List}
+use Rattle.std.proofs.Common.{◌∙◌, ap, map, List}
 use Rattle.std.proofs.lemmas.Result.{err_from_is_err_and}
 use Rattle.jmap_core.specs.CreatedIds.{Ids}
 use Rattle.jmap_core.specs.Request.{request_data}

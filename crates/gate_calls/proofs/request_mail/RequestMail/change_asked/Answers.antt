@@ -10,8 +10,8 @@ use Rattle.gate_calls.proofs.request_mail.RequestMail.change_asked.Goals as goal
 
 pub returns : goal.returns
 returns g c = record {
-  meant = λ uploads d asked.
-      changed uploads
+  meant = λ d asked.
+      changed c.args.uploads.now
       (moment_of c.args.self.now c.args.created.now (g.L.Taped.tape c.args.link.now) (g.L.Taped.faults c.args.link.now) (g.L.Taped.hidden c.args.link.now))
       (moment_of
       (record {

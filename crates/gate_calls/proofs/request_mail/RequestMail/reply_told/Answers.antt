@@ -11,7 +11,7 @@ returns-in-Set-clause-meant g c =
     (moment_of c.change.new.self c.change.new.created (g.L.Taped.tape c.change.new.link) (g.L.Taped.faults c.change.new.link) (g.L.Taped.hidden c.change.new.link)))
     (RequestLacks c.args.uploads.now (moment_of c.args.self.now c.args.created.now (g.L.Taped.tape c.args.link.now) (g.L.Taped.faults c.args.link.now) (g.L.Taped.hidden c.args.link.now)) m (view c.args.arguments)
     (moment_of c.change.new.self c.change.new.created (g.L.Taped.tape c.change.new.link) (g.L.Taped.faults c.change.new.link) (g.L.Taped.hidden c.change.new.link)))
-    c.change.result) (sym c.in-Set.is) (c.change.ensures.meant c.args.uploads.now)
+    c.change.result) (sym c.in-Set.is) c.change.ensures.meant
 
 pub returns-in_default-clause-meant : goal.returns-in_default-clause-meant
 returns-in_default-clause-meant g c = c.read.ensures.meant c.args.created.now

@@ -1,4 +1,4 @@
-use Rattle.std.proofs.Common.{◌∙◌, refl, sym, ap, subst}
+use Rattle.std.proofs.Common.{◌∙◌, refl, sym, subst}
 use Rattle.gate_world.specs.Causes.{Faults, LinkAlone}
 use Rattle.gate_world.proofs.Joins.{widen}
 use Rattle.imap_client.specs.LinkLife.{ClientState}
