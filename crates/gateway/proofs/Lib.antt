@@ -5,3 +5,4 @@ mod Explaining
 mod CompletingShow
 mod Performing
 mod Told
+mod AppendOnce

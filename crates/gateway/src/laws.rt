@@ -3,9 +3,11 @@ ghost use Rattle.std.specs.Prelude.{List, ℕ};
 ghost use Rattle.gate_world.specs.Causes.{Faults, Hidden};
 ghost use Rattle.gate_world.specs.declared.event.Event.{Event};
 ghost use Rattle.gate_serving.specs.Run.{Stood};
+ghost use Rattle.gateway.specs.Appending.{AppendsOnce};
 ghost use Rattle.gateway.specs.Complete.{AnswersAll, CompletesServing};
 ghost use Rattle.gateway.specs.Program.{IsWholeRun};
 
+use append_laws::{clients_append_once, runs_append_once};
 use gate_serving::{
     no_fault_no_blame, obeyed_clients_are_told, obeyed_runs_are_told, quiet_runs_are_told,
 };
@@ -26,4 +28,13 @@ pub fn quiet_programs_tell()
     no_fault_no_blame();
     obeyed_clients_are_told();
     quiet_runs_are_told();
+}
+
+/// For each creation of an Email that is asked of the program the store takes octets of one APPEND at most, and of none for anything else that a call is to
+/// change; a new Email was put there by that APPEND.
+pub fn programs_append_once()
+    ensures { (words : List (List ℕ)) (secrets : Hidden) (status : ℕ) (events : List Event) → AppendsOnce words secrets status events }
+{
+    clients_append_once();
+    runs_append_once();
 }

@@ -6,12 +6,13 @@ ghost use Rattle.gate_words.specs.Pages.{page_text};
 ghost use Rattle.gate_words.specs.Task.{IsTask};
 ghost use Rattle.gate_words.specs.declared.task.Task.{Task};
 ghost use Rattle.gate_serving.specs.Run.{Stood};
+ghost use Rattle.gateway.specs.Appending.{AppendsOnce};
 ghost use Rattle.gateway.specs.Complete.{AnswersAll, CompletesServing, CompletesShow};
 ghost use Rattle.gateway.specs.Program.{EndsDone, EndsFailed, EndsOnce, EndsStore, IsApart, IsSaid, IsWholeRun, Performs, RunsExplain, RunsShow, RunsStore, front_failed, words_refused};
 ghost use Rattle.gateway.specs.ReadWords.{AreRead};
 
 use crate::explain::explain_one;
-use crate::laws::{obeyed_programs_tell, quiet_programs_tell};
+use crate::laws::{obeyed_programs_tell, programs_append_once, quiet_programs_tell};
 use crate::show::show_one;
 use gate_serving::{ClientOutcome, Door, FrontError, Gate, serve};
 use gate_words::{Page, Place, Task, WordsError, read_words};
@@ -232,6 +233,8 @@ pub fn run_read<W: World>(alloc: Global, read: Result<Task, WordsError>, world: 
         → Adds (W.tape world.old) (W.tape world.new) (λ es. (words : List (List ℕ)) → AreRead words read → AnswersAll words (W.hidden world.old) result es) }
     ensures shown { (result ≡ 6 → ⊥)
         → Adds (W.tape world.old) (W.tape world.new) (λ es. (words : List (List ℕ)) → AreRead words read → CompletesShow words result es) }
+    ensures appends { Adds (W.tape world.old) (W.tape world.new) (λ es. (words : List (List ℕ)) → AreRead words read
+        → AppendsOnce words (W.hidden world.old) result es) }
 
     ensures statuses { (result ≡ 0) ⊎ (result ≡ 2) ⊎ (result ≡ 5) ⊎ (result ≡ 6) }
     ensures refused { (result ≡ 2) ↔ IsErrOf read WordsError.Refused }
@@ -245,6 +248,7 @@ pub fn run_read<W: World>(alloc: Global, read: Result<Task, WordsError>, world: 
 {
     obeyed_programs_tell();
     quiet_programs_tell();
+    programs_append_once();
     match read {
         Ok(task) => perform(alloc, world, &task),
         Err(error) => end_unread(world, error),
@@ -270,6 +274,10 @@ pub fn run<W: World>(words: &[String], world: &mut W, watchers: &mut Vec<Box<dyn
     // Whoever gives a message to be shown, while the front does not fail, is sent its Email object and a line end; or memory
     // ran out, and nothing was sent.
     ensures shown { (result ≡ 6 → ⊥) → Adds (W.tape world.old) (W.tape world.new) (CompletesShow (map string_bytes words.now) result) }
+
+    // A law over that run: for each creation of an Email the store takes octets of one APPEND at most, and of none for anything else that a call is to
+    // change. A creation comes to a new Email only by that APPEND, which was answered OK with a usable UID.
+    ensures appends { Adds (W.tape world.old) (W.tape world.new) (AppendsOnce (map string_bytes words.now) (W.hidden world.old) result) }
 
     // When each status comes, in every world. Out of memory in the words comes before their refusal.
     ensures statuses { (result ≡ 0) ⊎ (result ≡ 2) ⊎ (result ≡ 5) ⊎ (result ≡ 6) }

@@ -27,6 +27,9 @@ returns-in-Ok-clause-shown g c = λ well.
     widen _ c.perform.ensures.run (λ x so words are.
     completes_show (runs_task (subst (λ (r : Result Task WordsError). AreRead words r) c.in-Ok.is are) so).runs well)
 
+pub returns-in-Ok-clause-appends : goal.returns-in-Ok-clause-appends
+returns-in-Ok-clause-appends g c = widen _ c.perform.ensures.run (λ x so words are. c.programs_append_once.ensures _ _ _ x)
+
 pub returns-in-Ok-clause-refused : goal.returns-in-Ok-clause-refused
 returns-in-Ok-clause-refused g c = not_refused c.args.read c.in-Ok.task c.perform.result c.in-Ok.is c.perform.ensures.statuses
 
@@ -51,6 +54,9 @@ pub returns-in-Err-clause-shown : goal.returns-in-Err-clause-shown
 returns-in-Err-clause-shown g c = λ well.
     widen _ c.end_unread.ensures.run (λ x so words are.
     completes_show (so words (subst (λ (r : Result Task WordsError). AreRead words r) c.in-Err.is are)).runs well)
+
+pub returns-in-Err-clause-appends : goal.returns-in-Err-clause-appends
+returns-in-Err-clause-appends g c = widen _ c.end_unread.ensures.run (λ x so words are. c.programs_append_once.ensures _ _ _ x)
 
 pub returns-in-Err-clause-statuses : goal.returns-in-Err-clause-statuses
 returns-in-Err-clause-statuses g c = elim c.end_unread.ensures.statuses [ inl two ↦ inr (inl two) | inr five ↦ inr (inr (inl five)) ]

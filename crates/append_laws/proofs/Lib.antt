@@ -1,0 +1,7 @@
+mod Sent
+mod Boxes
+mod Made
+mod Jobs
+mod Created
+mod Once
+mod Reading
