@@ -1,0 +1,14 @@
+use Rattle.std.proofs.Common.{arith}
+use Rattle.mail_batches.specs.reading.Adding.{GoneFolder}
+use Rattle.mail_batches.proofs.AddingLemmas.{adds_all, adds_next, none_added}
+use Rattle.mail_batches.proofs.mail_differences.push_gone_folders.Goals as goal
+
+pub loop-held-init : goal.loop-held-init
+loop-held-init c = none_added (GoneFolder c.args.after.now.mail) c.args.items.now.items
+
+pub loop-held-preserved : goal.loop-held-preserved
+loop-held-preserved c =
+    adds_next (GoneFolder c.args.after.now.mail) c.args.before.now c.loop-held.held-index c.held-item.result _ _ _ _ c.loop-held-test.true c.held-item.is c.loop-held.invariant c.gone_folder.ensures c.in_ok-push.ensures
+
+pub returns : goal.returns
+returns c = adds_all (GoneFolder c.args.after.now.mail) c.args.before.now c.loop-held.held-index _ _ (omega arith) c.loop-held.invariant
