@@ -56,7 +56,8 @@ pub fn addresses_over<N: Net>(net: &N, store: &str, room: &mut [SocketAddr]) -> 
     Some(count)
 }
 
-/// The toolchain's dial, with its limits.
+/// The toolchain's dial, with its limits. What is written is sent at once: a small write behind a large one would wait for the store's
+/// acknowledgement else.
 pub(crate) fn dial_over<N: Net>(
     net: &N,
     address: SocketAddr,
@@ -66,6 +67,7 @@ pub(crate) fn dial_over<N: Net>(
     let stream = net.connect_timeout(address, limit).ok()?;
     stream.set_read_timeout(Some(limit)).ok()?;
     stream.set_write_timeout(Some(limit)).ok()?;
+    stream.set_nodelay(true).ok()?;
     Some(stream)
 }
 

@@ -1,9 +1,8 @@
 // The texts of commands.
-use crate::responses::put_joined;
-use imap_commands::{Command, write_command};
+use imap_commands::{Command, Piece, write_command};
 use octets::Names;
 use std::alloc::{AllocError, Global};
-use test_rows::{first_number, first_uid, first_word};
+use test_rows::{first_number, first_uid, first_word, put_octets};
 use told_dialogues::bytes_of;
 
 fn flags_of(alloc: Global, text: &str) -> Result<Names, AllocError> {
@@ -124,6 +123,13 @@ pub(crate) fn command_of(alloc: Global, text: &str) -> Result<Option<Command>, A
     long_of(alloc, word, rest)
 }
 
+fn put_piece(out: &mut String, piece: &Piece<'_>) -> Result<(), AllocError> {
+    let (literal, text) = piece.parts();
+    out.push('|')?;
+    put_octets(out, literal)?;
+    put_octets(out, text)
+}
+
 /// Adds the pieces of the command under the tag of this number, with `|` before each.
 pub(crate) fn put_text(
     alloc: Global,
@@ -131,8 +137,10 @@ pub(crate) fn put_text(
     tag: u64,
     out: &mut String,
 ) -> Result<(), AllocError> {
-    let pieces = write_command(alloc, command, tag)?;
-    put_joined(out, &pieces)
+    for piece in &write_command(alloc, command, tag)? {
+        put_piece(out, piece)?;
+    }
+    Ok(())
 }
 
 /// Adds the pieces in which a command is written, with `|` before each.

@@ -1,7 +1,6 @@
 // What a client's octets ask of a store.
 use crate::commands::{command_of, put_text};
-use imap_commands::{Command, write_command};
-use octets::Bytes;
+use imap_commands::{Command, Piece, write_command};
 use std::alloc::{AllocError, Global};
 use store_commands::{CommandRead, read_command};
 use test_rows::{first_number, octets_of, put_octets};
@@ -65,10 +64,12 @@ pub(crate) fn put_asked(alloc: Global, text: &str, out: &mut String) -> Result<(
     out.push('\n')
 }
 
-fn joined(alloc: Global, pieces: &[Bytes]) -> Result<Vec<u8>, AllocError> {
+fn joined(alloc: Global, pieces: &[Piece<'_>]) -> Result<Vec<u8>, AllocError> {
     let mut octets = Vec::new(alloc);
     for piece in pieces {
-        octets.extend_from_slice(piece.as_slice())?;
+        let (literal, text) = piece.parts();
+        octets.extend_from_slice(literal)?;
+        octets.extend_from_slice(text)?;
     }
     Ok(octets)
 }

@@ -7,6 +7,7 @@ ghost use Rattle.imap_types.specs.Texts.{crlf};
 ghost use Rattle.imap_types.specs.declared.command.Command.TheVariants.{Login};
 ghost use Rattle.imap_commands.specs.reading.Written.{AddsPart};
 
+use crate::piece::Piece;
 use imap_types::Command;
 use imap_values::push_date;
 use octets::{Bytes, Names};
@@ -220,14 +221,14 @@ fn words(alloc: Global, command: &Command) -> Result<Vec<u8>, AllocError>
 }
 
 /// The command's text under the tag of this number, where it has no literal.
-fn text_of(alloc: Global, command: &Command, tag: u64) -> Result<Bytes, AllocError>
-    ensures { IfOk result (λ text. text ≡ texts.tag_of tag ++ 32 ∷ texts.words_of command.now ++ crlf) }
+fn text_of(alloc: Global, command: &Command, tag: u64) -> Result<Vec<u8>, AllocError>
+    ensures { IfOk result (λ text. text.items ≡ texts.tag_of tag ++ 32 ∷ texts.words_of command.now ++ crlf) }
 {
     let words = words(alloc, command)?;
     let mut out = format!(in alloc; "a{tag} ")?.into_bytes();
     out.extend_from_slice(&words)?;
     out.extend_from_slice(b"\r\n")?;
-    Ok(Bytes::from_vec(out)?)
+    Ok(out)
 }
 
 /// Whether the text may stand in quotes: printable ASCII, with the space.
@@ -243,35 +244,45 @@ fn is_printable(text: &[u8]) -> bool
 }
 
 /// Ends the piece with the head of a literal, whose octets begin the next one: "{" number "}" CRLF (section 4.3).
-fn push_literal(
+fn push_literal<'a>(
     alloc: Global,
-    done: &mut Vec<Bytes>,
-    piece: Vec<u8>,
-    text: &[u8],
-) -> Result<Vec<u8>, AllocError>
-    ensures { IfOk result (λ next. AddsPart (Literal text.now) done.old.items piece.items done.new.items next.items) }
+    done: &mut Vec<Piece<'a>>,
+    piece: Piece<'a>,
+    text: &'a [u8],
+) -> Result<Piece<'a>, AllocError>
+    ensures { IfOk result (λ next. AddsPart (Literal text.now) done.old.items piece.entry done.new.items next) }
 {
     let mut piece = piece;
     let head = format!(in alloc; "{{{}}}\r\n", text.len())?;
-    piece.extend_from_slice(head.as_bytes())?;
-    done.push(Bytes::from_vec(piece)?)?;
-    text.to_vec(alloc)
+    piece.push(head.as_bytes())?;
+    done.push(piece)?;
+    Ok(Piece::of_literal(alloc, text))
+}
+
+/// The text in quotes.
+fn quoted(alloc: Global, text: &[u8]) -> Result<Vec<u8>, AllocError>
+    ensures { IfOk result (λ out. out.items ≡ texts.quoted text.now) }
+{
+    let mut out = Vec::new(alloc);
+    push_quoted(&mut out, text)?;
+    Ok(out)
 }
 
 /// A user or a password: in quotes where it is printable, else as a literal.
-fn push_credential(
+fn push_credential<'a>(
     alloc: Global,
-    done: &mut Vec<Bytes>,
-    piece: Vec<u8>,
-    text: &[u8],
-) -> Result<Vec<u8>, AllocError>
-    ensures { IfOk result (λ next. AddsPart (texts.credential text.now) done.old.items piece.items done.new.items next.items) }
+    done: &mut Vec<Piece<'a>>,
+    piece: Piece<'a>,
+    text: &'a [u8],
+) -> Result<Piece<'a>, AllocError>
+    ensures { IfOk result (λ next. AddsPart (texts.credential text.now) done.old.items piece.entry done.new.items next) }
 {
     if !is_printable(text) {
         return push_literal(alloc, done, piece, text);
     }
     let mut piece = piece;
-    push_quoted(&mut piece, text)?;
+    let quoted = quoted(alloc, text)?;
+    piece.push(&quoted)?;
     Ok(piece)
 }
 
@@ -283,16 +294,21 @@ fn login_words(alloc: Global, tag: u64) -> Result<Vec<u8>, AllocError>
 }
 
 /// The pieces of a LOGIN (RFC 9051 section 6.2.3).
-fn login(alloc: Global, user: &[u8], password: &[u8], tag: u64) -> Result<Vec<Bytes>, AllocError>
+fn login<'a>(
+    alloc: Global,
+    user: &'a [u8],
+    password: &'a [u8],
+    tag: u64,
+) -> Result<Vec<Piece<'a>>, AllocError>
     ensures { IfOk result (λ pieces. pieces.items ≡ texts.command_pieces (Login user.now password.now) tag) }
 {
     let mut done = Vec::new(alloc);
-    let piece = login_words(alloc, tag)?;
+    let piece = Piece::of_text(login_words(alloc, tag)?);
     let mut piece = push_credential(alloc, &mut done, piece, user)?;
-    piece.push(b' ')?;
+    piece.push(b" ")?;
     let mut piece = push_credential(alloc, &mut done, piece, password)?;
-    piece.extend_from_slice(b"\r\n")?;
-    done.push(Bytes::from_vec(piece)?)?;
+    piece.push(b"\r\n")?;
+    done.push(piece)?;
     Ok(done)
 }
 
@@ -319,20 +335,29 @@ fn tagged_words(alloc: Global, words: &[u8], tag: u64) -> Result<Vec<u8>, AllocE
 }
 
 /// The pieces of an APPEND (RFC 9051 section 6.3.12).
-fn append(alloc: Global, words: &[u8], message: &[u8], tag: u64) -> Result<Vec<Bytes>, AllocError>
+fn append<'a>(
+    alloc: Global,
+    words: &[u8],
+    message: &'a [u8],
+    tag: u64,
+) -> Result<Vec<Piece<'a>>, AllocError>
     ensures { IfOk result (λ pieces. pieces.items ≡ texts.put_before (texts.tag_of tag ++ 32 ∷ []) (texts.pieces_of (Plain words.now ∷ Literal message.now ∷ []))) }
 {
     let mut done = Vec::new(alloc);
-    let piece = tagged_words(alloc, words, tag)?;
+    let piece = Piece::of_text(tagged_words(alloc, words, tag)?);
     let mut piece = push_literal(alloc, &mut done, piece, message)?;
-    piece.extend_from_slice(b"\r\n")?;
-    done.push(Bytes::from_vec(piece)?)?;
+    piece.push(b"\r\n")?;
+    done.push(piece)?;
     Ok(done)
 }
 
 /// The pieces of the command's text under the tag of this number, each but the first to be sent after a continuation
-/// (RFC 9051 section 6).
-pub fn write_command(alloc: Global, command: &Command, tag: u64) -> Result<Vec<Bytes>, AllocError>
+/// (RFC 9051 section 6). What they have of the command's literals is the command's own.
+pub fn write_command<'a>(
+    alloc: Global,
+    command: &'a Command,
+    tag: u64,
+) -> Result<Vec<Piece<'a>>, AllocError>
     ensures { IfOk result (λ pieces. pieces.items ≡ texts.command_pieces command.now tag) }
 {
     if let Command::Login { user, password } = command {
@@ -349,6 +374,6 @@ pub fn write_command(alloc: Global, command: &Command, tag: u64) -> Result<Vec<B
         return append(alloc, &words, message.as_slice(), tag);
     }
     let mut pieces = Vec::new(alloc);
-    pieces.push(text_of(alloc, command, tag)?)?;
+    pieces.push(Piece::of_text(text_of(alloc, command, tag)?))?;
     Ok(pieces)
 }

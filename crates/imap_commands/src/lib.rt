@@ -2,6 +2,8 @@
 #![tactic(auto)]
 
 mod commands;
+mod piece;
 
 pub use commands::write_command;
 pub use imap_types::Command;
+pub use piece::Piece;

@@ -111,6 +111,45 @@ some_append (c ∷ a) b = refl
 taken_more : (had has : Bool) (a b : List ℕ) → had ≡ is_some_taken a → has ≡ (had || is_some_taken b) → has ≡ is_some_taken (a ++ b)
 taken_more had has a b before now = now ∙ ap (λ (t : Bool). t || is_some_taken b) before ∙ sym (some_append a b)
 
+-- The front of a text was written whole, and then the rest of it as far as it was taken.
+pub offers_both : {es fs : List Event} (up had mid has : Bool) (front rest : List ℕ) → Offers true true had mid front es → Offers true up mid has rest fs
+    → Offers true up had has (front ++ rest) (es ++ fs)
+offers_both {es} {fs} up had mid has front rest o p =
+    record {
+      talk = o.talk ++ p.talk;
+      took = o.took ++ p.took;
+      left = p.left;
+      ended = (λ i. (o.ended ∙ append-nil o.talk) i ++ p.ended i) ∙ sym (append_assoc o.talk p.talk (end_unless up));
+      said = Talk-append o.said p.said;
+      whole = append_assoc o.took p.took p.left ∙ (λ i. front_taken i ++ p.whole i);
+      all_taken = p.all_taken;
+      some_left = p.some_left;
+      some_taken = p.some_taken ∙ ap (λ (b : Bool). b || is_some_taken p.took) o.some_taken ∙ or_assoc had (is_some_taken o.took) (is_some_taken p.took)
+          ∙ ap (λ (b : Bool). had || b) (sym (some_append o.took p.took));
+    }
+  where
+    front_taken : o.took ≡ front
+    front_taken = sym (append-nil o.took) ∙ ap (λ (l : List ℕ). o.took ++ l) (sym (o.all_taken refl)) ∙ o.whole
+
+    or_assoc : (a b c : Bool) → ((a || b) || c) ≡ (a || (b || c))
+    or_assoc true b c = refl
+    or_assoc false b c = refl
+
+-- The front of a text wasn't taken whole, and nothing of the rest was written.
+pub offers_front : {es : List Event} (had has : Bool) (front rest : List ℕ) → Offers true false had has front es → Offers true false had has (front ++ rest) es
+offers_front {es} had has front rest o =
+    record {
+      talk = o.talk;
+      took = o.took;
+      left = o.left ++ rest;
+      ended = o.ended;
+      said = o.said;
+      whole = sym (append_assoc o.took o.left rest) ∙ ap (λ (l : List ℕ). l ++ rest) o.whole;
+      all_taken = λ never. absurd (cc never);
+      some_left = λ was is. omega (arith, o.some_left was is, length-append o.left rest);
+      some_taken = o.some_taken;
+    }
+
 -- there is no piece at this place
 pub offers_none : (up had : Bool) (pieces : List (List ℕ)) (at : ℕ) → up ≡ true → length pieces ≤ at → Offers up true had had (piece_at pieces at) []
 offers_none up had pieces at is past =

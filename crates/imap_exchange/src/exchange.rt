@@ -16,7 +16,7 @@ use crate::response::next_response;
 use crate::sending::send_piece;
 use crate::turn::{Turn, next_place, turn_of};
 use gate_world::Link;
-use imap_commands::write_command;
+use imap_commands::{Piece, write_command};
 use imap_types::{Code, Command, Response, Status};
 use octets::{Bytes, Listed};
 use std::alloc::{AllocError, Global};
@@ -64,7 +64,7 @@ fn converse<L: Link>(
     up: &mut bool,
     taken: &mut bool,
     due: &[u8],
-    pieces: &[Bytes],
+    pieces: &[Piece<'_>],
 ) -> Result<Answer, LinkEnd>
     requires some { 0 < length pieces.now }
     requires up { up.old ≡ true }

@@ -6,7 +6,7 @@ ghost use Rattle.imap_exchange.specs.Answering.{HangsUp};
 ghost use Rattle.imap_exchange.specs.reading.Sending.{Offers, Takes, piece_at};
 
 use gate_world::Link;
-use octets::Bytes;
+use imap_commands::Piece;
 
 // Writes the octets to the store, a piece at a time: how many it took, from their front. Where those aren't all a write failed, and
 // the link life has ended.
@@ -40,13 +40,27 @@ fn is_written<L: Link>(link: &mut L, taken: &mut bool, text: &[u8]) -> bool
     count == text.len()
 }
 
+// Writes the octets of the piece's literal, and then those behind them: whether the store took all of them.
+fn is_sent<L: Link>(link: &mut L, taken: &mut bool, piece: &Piece<'_>) -> bool
+    ensures tape { Adds (L.tape link.old) (L.tape link.new) (Offers true result taken.old taken.new piece.now) }
+    ensures alone { LinkAlone (L.faults link.old) (L.faults link.new) }
+    ensures cause { result ≡ false → Rose (L.faults link.old).link (L.faults link.new).link }
+    ensures hidden { L.hidden link.new ≡ L.hidden link.old }
+{
+    let (literal, text) = piece.parts();
+    if !is_written(link, taken, literal) {
+        return false;
+    }
+    is_written(link, taken, text)
+}
+
 /// Sends the piece at this place, where the link is up and there is one: whether the link is up then. `taken` says whether the
 /// store took octets of this piece or of those before.
 pub fn send_piece<L: Link>(
     link: &mut L,
     up: bool,
     taken: &mut bool,
-    pieces: &[Bytes],
+    pieces: &[Piece<'_>],
     at: usize,
 ) -> bool
     ensures tape { Adds (L.tape link.old) (L.tape link.new) (Offers up result taken.old taken.new (piece_at pieces.now at)) }
@@ -60,7 +74,7 @@ pub fn send_piece<L: Link>(
     }
     match pieces.get(at) {
         None => true,
-        Some(piece) => is_written(link, taken, piece.as_slice()),
+        Some(piece) => is_sent(link, taken, piece),
     }
 }
 

@@ -71,10 +71,9 @@ impl Outline {
         ensures { IfOk result (λ v. v.items ≡ self.now) }
     {
         let mut text = Vec::with_capacity(alloc, room)?;
-        let mut line = String::new(alloc);
         for leaf in &self.leaves {
             text.extend_from_slice(leaf.before.as_slice())?;
-            push_base64(&mut text, &mut line, leaf.octets.as_slice())?;
+            push_base64(&mut text, leaf.octets.as_slice())?;
         }
         text.extend_from_slice(self.text.as_slice())?;
         Ok(text)
