@@ -1,4 +1,4 @@
-mod Fit
+pub mod Fit
 mod Ends
 mod Histories
 mod SetCalls

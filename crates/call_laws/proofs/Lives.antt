@@ -22,6 +22,7 @@ use Rattle.gate_machine.specs.Progress.{Progress, is_up}
 use Rattle.set_arguments.specs.Arguments.{SetAsked}
 use Rattle.set_arguments.specs.declared.set_method.SetMethod.{SetMethod}
 use Rattle.set_jobs.specs.declared.done.Done.{Done}
+use Rattle.set_jobs.specs.declared.done.SetError.{SetError}
 use Rattle.set_jobs.specs.declared.job.Job.{Job}
 use Rattle.set_order.specs.Ordered.{Item}
 use Rattle.set_items.specs.Causes.{WasUnavailable}
@@ -36,14 +37,19 @@ use Rattle.set_calls.specs.Calls.{call_begun}
 use Rattle.gate_changes.specs.Answering as answering
 use Rattle.gate_changes.specs.Answering.{ChangeState, DoesChange, call_of}
 use Rattle.gate_changes.specs.Changing as changing
-use Rattle.gate_changes.specs.Changing.{ChangesMail, DoesItemsOver, GoesToCommit, ItemsCame}
+use Rattle.gate_changes.specs.Changing.{ChangesMail, DoesCourse, GoesToCommit}
+use Rattle.gate_changes.specs.Importing.{PreparesImport, RefusedAtOnce, Sought, TakesImport, BodyLost, Taken, NoRoom, DoesImports, NoImports, OutBefore, ImportDone, ImportEnds}
+use Rattle.gate_changes.specs.Importing.{before_these, ends_after, one_came}
+use Rattle.set_calls.specs.Promises.{ChecksFit}
+use Rattle.gate_changes.specs.Items.{DoesItemsOver, ItemsCame}
 use Rattle.gate_calls.specs.Calling.{Asked, CallsState, DoesCall, Reads, Changes, DoesCalls, NoCalls, MoreCalls}
 use Rattle.gate_calls.specs.ItemChecks.{item_checks}
 use Rattle.gate_calls.specs.Mailings.{Mailing, mail_at}
 use Rattle.gate_calls.proofs.Bodies.{bodies_keep_mail}
 use Rattle.call_laws.specs.Ended.{IsEndedIn}
-use Rattle.call_laws.specs.Lives.{CallEndsLife, FetchFails, ItemsEndLife, SetEndsLife, SomeCallEndsLife, SomeFetchFails}
+use Rattle.call_laws.specs.Lives.{CallEndsLife, CourseEndsLife, FetchFails, ImportEndsLife, ImportsEndLife, PreparingEndsLife, RowEndsLife, ItemsEndLife, SetEndsLife, SomeCallEndsLife, SomeFetchFails}
 use Rattle.call_laws.proofs.Ends.{EndsSo, over_items}
+use Rattle.call_laws.proofs.Fit.{ImportsFit, steps_fit}
 
 -- ---- items
 
@@ -117,6 +123,8 @@ UnavailableLaw = (uploads : List (List ℕ)) (m : SetMethod) (a : SetAsked) (h :
 pub record LivesLaws : Type 0 where
   pub fetches : FetchesLaw
   pub unavailable : UnavailableLaw
+  pub known : {c : SetCall} → ChecksFit c → EndsSo WasUnavailable ServerUnavailable c
+  pub imports : ImportsFit
 
 not_both : (b : Bool) → b ≡ true → b ≡ false → ⊥
 not_both true e f = absurd (cc)
@@ -150,29 +158,6 @@ commits (Err (Ends other)) so goes does up over = absurd goes
 commits (Err (Comes done)) so goes does up over = absurd goes
 commits (Err OutOfMemory) so goes does up over = absurd goes
 
-change_ends : {call : SetCall} {items : List Item} {before after : Progress} {result : Result (List (Item × Done)) MethodError} {events : List Event}
-    (h : MailHistory) (does : ChangesMail call items before result events after) → EndsSo WasUnavailable ServerUnavailable call → is_up before.left ≡ true
-    → mail_at after ≡ Ok h → is_up after.left ≡ false → ItemsEndLife does
-change_ends h (changing.Committed came mid does goes settles stands is) so up told over =
-    commits came so goes does up (sym (ap is_up (settled_left settles ∙ ap (λ (p : Progress). p.left) does.after_is)) ∙ over)
-change_ends h (changing.SpentBy came mid spent doing ending does goes settles why hangs whole is error) so up told over =
-    absurd (let no = sym (ap mail_at is) ∙ told in cc)
-change_ends h (changing.FailedInPart mid doing ending does hangs whole is error) so up told over =
-    absurd (let no = sym (ap mail_at is) ∙ told in cc)
-
-still : {p q : Progress} → q ≡ p → is_up p.left ≡ true → is_up q.left ≡ false → ⊥
-still {q = q} is up over = not_both (is_up q.left) (ap (λ (x : Progress). is_up x.left) is ∙ up) over
-
-set_ends : LivesLaws → {uploads : List (List ℕ)} {m : SetMethod} {d : Data} {mail : Mailing} {s t : ChangeState} {result : Result Data MethodError} {events : List Event} (h : MailHistory)
-    (does : DoesChange (item_checks uploads) m d mail s result events t) → is_up s.progress.left ≡ true → mail_at t.progress ≡ Ok h → is_up t.progress.left ≡ false
-    → SetEndsLife does
-set_ends laws h (answering.Refused e is result_is none same) up told over = absurd (still (ap (λ (x : ChangeState). x.progress) same) up over)
-set_ends laws h (answering.Untold a e is mail_is result_is none same) up told over = absurd (still (ap (λ (x : ChangeState). x.progress) same) up over)
-set_ends laws h (answering.Asked a j is mail_is (answering.Mismatch current result_is none same)) up told over =
-    absurd (still (ap (λ (x : ChangeState). x.progress) same) up over)
-set_ends laws {m = m} {s = s} h (answering.Asked a j is mail_is (answering.Changes items came current items_are does answers)) up told over =
-    change_ends h does (laws.unavailable _ m a j s.created) up told over
-
 -- ---- a call that reads
 
 fetch_ends : LivesLaws → {message : MessagePlace} {p q : Progress} {body : Option (List ℕ)} {events : List Event} (asks : AsksBody message p body events q)
@@ -192,6 +177,81 @@ bodies_end laws (MoreBodies {mid = mid} next bodies) up over = by (is_up mid.lef
     by : (b : Bool) → is_up mid.left ≡ b → (is_up mid.left ≡ false → SomeFetchFails bodies) → SomeFetchFails bodies ⊎ FetchFails next.asks
     by true here before = inr (fetch_ends laws next.asks here over)
     by false here before = inl (before here)
+
+-- ---- a course
+
+row_ends : {call : SetCall} {items : List Item} {before after : Progress} {came : ItemsCame} {events : List Event} → EndsSo WasUnavailable ServerUnavailable call
+    → GoesToCommit came → (does : DoesItemsOver call items before came events after) → is_up before.left ≡ true → is_up after.left ≡ false → RowEndsLife does
+row_ends {came = came} so goes does up over = commits came so goes does up (sym (ap is_up (ap (λ (p : Progress). p.left) does.after_is)) ∙ over)
+
+preparing_ends : LivesLaws → {call : SetCall} {uploads : List (List ℕ)} {item : Item} {p q : Progress} {asks : List BodyAsk} {made : Option (Result Job SetError)} {events : List Event}
+    (prepares : PreparesImport call uploads item p asks made events q) → is_up p.left ≡ true → is_up q.left ≡ false → PreparingEndsLife prepares
+preparing_ends laws {p = p} (RefusedAtOnce here e is) up over = absurd (not_both (is_up p.left) up over)
+preparing_ends laws (Sought here i found is finds asked makes) up over = bodies_end laws asked up over
+
+-- an import that came to something, or for which the store wasn't there, goes to the commit
+one_goes : (item : Item) (made : Bool) (ends : ItemEnd) → GoesToCommit (Err (ends_after made ends)) → GoesToCommit (one_came item ends)
+one_goes item true (Ends ServerUnavailable) goes = absurd goes
+one_goes item true (Ends e) goes = goes
+one_goes item true (Comes done) goes = tt
+one_goes item true OutOfMemory goes = goes
+one_goes item false (Ends e) goes = goes
+one_goes item false (Comes done) goes = tt
+one_goes item false OutOfMemory goes = goes
+
+import_ends : LivesLaws → {call : SetCall} {uploads : List (List ℕ)} {item : Item} {p q : Progress} {asks : List BodyAsk} {ends : ItemEnd} {events : List Event}
+    (takes : TakesImport call uploads item p asks ends events q) → GoesToCommit (one_came item ends) → is_up p.left ≡ true → is_up q.left ≡ false → ImportEndsLife takes
+import_ends laws (BodyLost prepares) goes up over = preparing_ends laws prepares up over
+import_ends laws {p = p} (Taken {mid = mid} made ends prepares does) goes up over = by (is_up mid.left) refl
+  where
+    by : (b : Bool) → is_up mid.left ≡ b → PreparingEndsLife prepares ⊎ RowEndsLife does
+    by true here = inr (row_ends (laws.known (steps_fit laws.imports prepares)) goes does here over)
+    by false here = inl (preparing_ends laws prepares up here)
+import_ends laws (NoRoom lacks) goes up over = absurd goes
+
+rest_goes : (e : Item × Done) (came : ItemsCame) → GoesToCommit (before_these e came) → GoesToCommit came
+rest_goes e (Ok done) goes = tt
+rest_goes e (Err ends) goes = goes
+
+imports_end : LivesLaws → {call : SetCall} {uploads : List (List ℕ)} {made : Bool} {items : List Item} {p q : Progress} {came : ItemsCame} {events : List Event}
+    (imports : DoesImports call uploads made p items came events q) → GoesToCommit came → is_up p.left ≡ true → is_up q.left ≡ false → ImportsEndLife imports
+imports_end laws {p = p} (NoImports here) goes up over = absurd (not_both (is_up p.left) up over)
+imports_end laws (OutBefore here) goes up over = absurd goes
+imports_end laws {p = p} (ImportDone {mid = mid} {came = came} item done takes rest) goes up over =
+    by (is_up mid.left) refl (λ (here : is_up mid.left ≡ true). imports_end laws rest (rest_goes (item, done) came goes) here over)
+  where
+    by : (b : Bool) → is_up mid.left ≡ b → (is_up mid.left ≡ true → ImportsEndLife rest) → ImportEndsLife takes ⊎ ImportsEndLife rest
+    by true here later = inr (later here)
+    by false here later = inl (import_ends laws takes tt up here)
+imports_end laws {made = made} (ImportEnds item ends not takes) goes up over = import_ends laws takes (one_goes item made ends goes) up over
+
+course_ends : LivesLaws → {call : SetCall} {items : List Item} {p q : Progress} {came : ItemsCame} {events : List Event} (does : DoesCourse call items p came events q)
+    → EndsSo WasUnavailable ServerUnavailable call → GoesToCommit came → is_up p.left ≡ true → is_up q.left ≡ false → CourseEndsLife does
+course_ends laws (changing.InRow row does) so goes up over = row_ends so goes does up over
+course_ends laws (changing.OneByOne uploads rules imports) so goes up over = imports_end laws imports goes up over
+
+change_ends : LivesLaws → {call : SetCall} {items : List Item} {before after : Progress} {result : Result (List (Item × Done)) MethodError} {events : List Event}
+    (h : MailHistory) (does : ChangesMail call items before result events after) → EndsSo WasUnavailable ServerUnavailable call → is_up before.left ≡ true
+    → mail_at after ≡ Ok h → is_up after.left ≡ false → ItemsEndLife does
+change_ends laws h (changing.Committed came mid does goes settles stands is) so up told over =
+    course_ends laws does so goes up (sym (ap is_up (settled_left settles)) ∙ over)
+change_ends laws h (changing.SpentBy came mid spent doing ending does goes settles why hangs whole is error) so up told over =
+    absurd (let no = sym (ap mail_at is) ∙ told in cc)
+change_ends laws h (changing.FailedInPart mid doing ending does hangs whole is error) so up told over =
+    absurd (let no = sym (ap mail_at is) ∙ told in cc)
+
+still : {p q : Progress} → q ≡ p → is_up p.left ≡ true → is_up q.left ≡ false → ⊥
+still {q = q} is up over = not_both (is_up q.left) (ap (λ (x : Progress). is_up x.left) is ∙ up) over
+
+set_ends : LivesLaws → {uploads : List (List ℕ)} {m : SetMethod} {d : Data} {mail : Mailing} {s t : ChangeState} {result : Result Data MethodError} {events : List Event} (h : MailHistory)
+    (does : DoesChange (item_checks uploads) m d mail s result events t) → is_up s.progress.left ≡ true → mail_at t.progress ≡ Ok h → is_up t.progress.left ≡ false
+    → SetEndsLife does
+set_ends laws h (answering.Refused e is result_is none same) up told over = absurd (still (ap (λ (x : ChangeState). x.progress) same) up over)
+set_ends laws h (answering.Untold a e is mail_is result_is none same) up told over = absurd (still (ap (λ (x : ChangeState). x.progress) same) up over)
+set_ends laws h (answering.Asked a j is mail_is (answering.Mismatch current result_is none same)) up told over =
+    absurd (still (ap (λ (x : ChangeState). x.progress) same) up over)
+set_ends laws {m = m} {s = s} h (answering.Asked a j is mail_is (answering.Changes items came current items_are does answers)) up told over =
+    change_ends laws h does (laws.unavailable _ m a j s.created) up told over
 
 -- ---- calls
 

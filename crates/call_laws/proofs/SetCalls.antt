@@ -29,14 +29,14 @@ use Rattle.gate_calls.specs.MethodNames.{method_asked}
 use Rattle.gate_calls.specs.Methods.{OverMail, RepliesTo, set_refused}
 use Rattle.gate_calls.specs.declared.method.Method.{Method}
 use Rattle.gate_calls.specs.declared.method.Method.TheVariants.{Set}
-use Rattle.call_laws.specs.Ended.{EndsInError, HasNoPlaces, InPart, IsEndedByCause, IsEndedIn, NoPlaces, Unavailable}
+use Rattle.call_laws.specs.Ended.{EndsInError, HasNoPlaces, InPart, IsEndedByCause, IsEndedSo, NoPlaces, Unavailable}
 
 -- what is proved of the items of a call and their commit
 pub record ErrorLaws : Type 0 where
   pub partly : (call : SetCall) (items : List Item) (before : Progress) (events : List Event) (after : Progress) → ChecksFit call
-      → ChangesMail call items before (Err ServerPartialFail) events after → IsEndedIn FailedPartly ServerPartialFail call items before
+      → ChangesMail call items before (Err ServerPartialFail) events after → IsEndedSo FailedPartly ServerPartialFail call items before
   pub unavailable : (call : SetCall) (items : List Item) (before : Progress) (events : List Event) (after : Progress) → ChecksFit call
-      → ChangesMail call items before (Err ServerUnavailable) events after → IsEndedIn WasUnavailable ServerUnavailable call items before
+      → ChangesMail call items before (Err ServerUnavailable) events after → IsEndedSo WasUnavailable ServerUnavailable call items before
   pub fail : (call : SetCall) (items : List Item) (before : Progress) (events : List Event) (after : Progress)
       → ChangesMail call items before (Err ServerFail) events after → HasNoPlaces call items before
   pub others : (call : SetCall) (items : List Item) (before : Progress) (e : MethodError) (events : List Event) (after : Progress)

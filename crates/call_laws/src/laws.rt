@@ -36,10 +36,11 @@ ghost use Rattle.gate_calls.specs.Mailings.{mail_at};
 ghost use Rattle.gate_calls.specs.MethodNames.{method_asked};
 ghost use Rattle.gate_calls.specs.declared.method.Method.TheVariants.{Set};
 ghost use Rattle.call_laws.specs.Appends.{appends_due};
-ghost use Rattle.call_laws.specs.Ended.{HasNoPlaces, IsEndedByCause, IsEndedIn};
+ghost use Rattle.call_laws.specs.Ended.{HasNoPlaces, IsEndedByCause, IsEndedSo};
 ghost use Rattle.call_laws.specs.Lives.{SomeCallEndsLife};
 
 use email_creation::creations_append_once;
+use email_import::imports_append_once;
 use email_laws::{email_items_append_nothing, email_items_are_fit, email_items_begin_held};
 use gate_changes::changes_draw_no_epoch;
 use imap_client::finished_lives_go_on;
@@ -48,7 +49,8 @@ use set_calls::calls_end_by_their_causes;
 use set_items::causes_end_items;
 
 /// Whatever a call asks, its items have the steps that set_items' laws want of them: each command has to be obeyed but EXPUNGE, what is listed was made,
-/// and a folder that is selected at first is held. A creation of an Email sends one APPEND, and no other item sends any.
+/// and a folder that is selected at first is held. A creation of an Email sends one APPEND, and no other item sends any. Imports have no steps by their checks
+/// alone: email_import's laws say the same of them.
 pub fn items_are_fit()
     ensures fit { (uploads : List (List ℕ)) (m : SetMethod) (a : SetAsked) (h : MailHistory) (created : Ids) → ChecksFit (call_of (item_checks uploads) m a h created) }
     ensures each { (uploads : List (List ℕ)) (m : SetMethod) (a : SetAsked) (g : Given) (item : Item) (drawn : Option Drawn) (job : Job)
@@ -67,19 +69,20 @@ pub fn items_are_fit()
 /// A call that changes mail, and whose items are done, ends with one of its three errors only by the causes of each.
 pub fn changing_calls_end_by_their_causes()
     ensures partly { (call : SetCall) (items : List Item) (before : Progress) (events : List Event) (after : Progress) → ChecksFit call
-        → ChangesMail call items before (Err ServerPartialFail) events after → IsEndedIn FailedPartly ServerPartialFail call items before }
+        → ChangesMail call items before (Err ServerPartialFail) events after → IsEndedSo FailedPartly ServerPartialFail call items before }
     ensures unavailable { (call : SetCall) (items : List Item) (before : Progress) (events : List Event) (after : Progress) → ChecksFit call
-        → ChangesMail call items before (Err ServerUnavailable) events after → IsEndedIn WasUnavailable ServerUnavailable call items before }
+        → ChangesMail call items before (Err ServerUnavailable) events after → IsEndedSo WasUnavailable ServerUnavailable call items before }
     ensures fail { (call : SetCall) (items : List Item) (before : Progress) (events : List Event) (after : Progress)
         → ChangesMail call items before (Err ServerFail) events after → HasNoPlaces call items before }
     ensures others { (call : SetCall) (items : List Item) (before : Progress) (e : MethodError) (events : List Event) (after : Progress)
         → ChangesMail call items before (Err e) events after → (e ≡ ServerPartialFail) ⊎ (e ≡ ServerUnavailable) ⊎ (e ≡ ServerFail) }
 {
     calls_end_by_their_causes();
+    imports_append_once();
 }
 
-/// A call of Email/set or Mailbox/set that isn't refused by its name, its references, its arguments or its state, over mail that is served, ends with an
-/// error only by a cause of it.
+/// A call of Email/set, Mailbox/set or Email/import that isn't refused by its name, its references, its arguments or its state, over mail that is served,
+/// ends with an error only by a cause of it.
 pub fn set_calls_end_by_their_causes()
     ensures { (uses : Using) (uploads : List (List ℕ)) (earlier : List CallData) (call : CallData) (before : CallsState) (asks : List Asked) (e : MethodError)
         (events : List Event) (after : CallsState) (m : SetMethod) (d : Data) (a : SetAsked) (h : MailHistory)
@@ -128,5 +131,6 @@ pub fn ended_lives_have_causes()
 {
     calls_end_by_their_causes();
     finished_lives_go_on();
+    imports_append_once();
     items_are_fit();
 }

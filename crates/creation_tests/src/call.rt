@@ -1,7 +1,9 @@
 // A call that creates: the mail, the uploads, and what its ids name.
+use crate::bodies::Bodies;
 use crate::printed::{put_job, put_refusal};
 use blob_store::BlobStore;
 use email_creation::{check_creation, draw_creation};
+use email_import::{ReadyImport, check_import, find_message, import_job};
 use jmap_core::CreatedIds;
 use mail_state::MailState;
 use serde_json::{Map, Value};
@@ -9,6 +11,15 @@ use set_given::{Given, MadeFolders};
 use std::alloc::{AllocError, Global};
 use std::collections::BTreeSet;
 use told_mail::Mirror;
+
+/// What is asked of properties.
+#[derive(Clone, Copy)]
+pub(crate) enum Asked {
+    /// What a creation of them comes to, with the lines of its message or without them.
+    Creation { lines: bool },
+    /// What an import of them comes to.
+    Import,
+}
 
 /// What a creation is checked over.
 #[derive(Drop)]
@@ -43,13 +54,53 @@ impl Call {
         }
     }
 
+    /// What an import comes to, once its octets are sought.
+    fn put_ready(
+        &self,
+        bodies: &mut Bodies,
+        ready: ReadyImport,
+        out: &mut String,
+    ) -> Result<(), AllocError> {
+        let found = find_message(
+            self.alloc,
+            &self.state,
+            &self.uploads,
+            bodies,
+            &mut (),
+            &ready,
+        );
+        bodies.put_asked(out)?;
+        match found {
+            Err(error) => write!(out, "{error}"),
+            Ok(Err(error)) => put_refusal(&error, out),
+            Ok(Ok(message)) => {
+                let job = import_job(self.alloc, ready, self.second, message)?;
+                put_job(&job, false, out)
+            }
+        }
+    }
+
+    fn put_imported(
+        &self,
+        given: &Given<'_, '_>,
+        bodies: &mut Bodies,
+        properties: &Map<String, Value>,
+        out: &mut String,
+    ) -> Result<(), AllocError> {
+        match check_import(self.alloc, given, properties)? {
+            Err(error) => put_refusal(&error, out),
+            Ok(ready) => self.put_ready(bodies, ready, out),
+        }
+    }
+
     /// The same over what the call is to make, and made.
     fn put_over<'g, 'k>(
         &'g self,
         making: &'g BTreeSet<&'k str>,
         made: &'g MadeFolders<'k>,
+        bodies: &mut Bodies,
         properties: &Map<String, Value>,
-        lines: bool,
+        asked: Asked,
         out: &mut String,
     ) -> Result<(), AllocError> {
         let given = Given {
@@ -61,14 +112,18 @@ impl Call {
             making,
             made,
         };
-        self.put_created(&given, properties, lines, out)
+        match asked {
+            Asked::Creation { lines } => self.put_created(&given, properties, lines, out),
+            Asked::Import => self.put_imported(&given, bodies, properties, out),
+        }
     }
 
-    /// Adds what a creation of these properties comes to.
+    /// Adds what is asked of these properties.
     pub(crate) fn put(
         &self,
+        bodies: &mut Bodies,
         properties: &Map<String, Value>,
-        lines: bool,
+        asked: Asked,
         out: &mut String,
     ) -> Result<(), AllocError> {
         let mut making = BTreeSet::new(self.alloc);
@@ -79,6 +134,6 @@ impl Call {
         for (key, number) in &self.made {
             made.add(key.as_str(), *number)?;
         }
-        self.put_over(&making, &made, properties, lines, out)
+        self.put_over(&making, &made, bodies, properties, asked, out)
     }
 }

@@ -1,8 +1,9 @@
-//! Emails that are to be created: reads rows from standard input, what a store tells, uploads and properties, and prints what each
-//! creation comes to. The legend stands at the top of the file `stdin`, and what has to come of its rows in the file `stdout`.
+//! Emails that are to be created or imported: reads rows from standard input, what a store tells, uploads, bodies and properties, and
+//! prints what each creation or import comes to. The legend stands at the top of the file `stdin`, and what has to come of its rows in the file `stdout`.
 #![tactic(auto)]
 
-// The mail, and what is named.
+// The mail, its bodies, and what is named.
+mod bodies;
 mod call;
 
 // What comes of a creation.

@@ -1,8 +1,10 @@
 // Rows of creations.
-use crate::call::Call;
+use crate::bodies::Bodies;
+use crate::call::{Asked, Call};
 use blob_store::BlobStore;
 use jmap_core::CreatedIds;
 use mail_state::MailState;
+use octets::Bytes;
 use serde_json::Value;
 use std::alloc::{AllocError, Global};
 use std::mem;
@@ -17,6 +19,7 @@ const EPOCH: u64 = 1;
 #[derive(Drop)]
 pub(crate) struct Rows {
     call: Call,
+    bodies: Bodies,
     /// The folder that was selected last.
     selected: String,
     alloc: Global,
@@ -36,6 +39,7 @@ impl Rows {
                 word: 0,
                 alloc,
             },
+            bodies: Bodies::new(alloc),
             selected: String::from_str(alloc, "INBOX")?,
             alloc,
         })
@@ -80,20 +84,37 @@ impl Rows {
         out.push('\n')
     }
 
-    fn create_of(&self, value: &Value, lines: bool, out: &mut String) -> Result<(), AllocError> {
+    fn ask_of(&mut self, value: &Value, asked: Asked, out: &mut String) -> Result<(), AllocError> {
         match value.as_object() {
-            Some(properties) => self.call.put(properties, lines, out),
+            Some(properties) => self.call.put(&mut self.bodies, properties, asked, out),
             None => out.push_str("no object"),
         }
     }
 
-    /// Adds what the creation of a text comes to.
-    fn create(&self, text: &str, lines: bool, out: &mut String) -> Result<(), AllocError> {
+    /// Adds what is asked of the properties of a text.
+    fn ask(&mut self, text: &str, asked: Asked, out: &mut String) -> Result<(), AllocError> {
         match Value::from_str(self.alloc, text) {
-            Ok(value) => self.create_of(&value, lines, out)?,
+            Ok(value) => self.ask_of(&value, asked, out)?,
             Err(_) => out.push_str("no JSON")?,
         }
         out.push('\n')
+    }
+
+    fn give_body(&mut self, text: &str) -> Result<(), AllocError> {
+        let (email, octets) = first_number(text);
+        let body = Bytes::from_vec(octets_of(self.alloc, octets)?)?;
+        self.bodies.give(email, body)
+    }
+
+    /// Adds what is asked, or takes the body that is given.
+    fn take_asked(&mut self, word: &str, rest: &str, out: &mut String) -> Result<(), AllocError> {
+        match word {
+            "body" => self.give_body(rest),
+            "create" => self.ask(rest, Asked::Creation { lines: false }, out),
+            "message" => self.ask(rest, Asked::Creation { lines: true }, out),
+            "import" => self.ask(rest, Asked::Import, out),
+            _ => writeln!(out, "no such word: {word}"),
+        }
     }
 }
 
@@ -121,8 +142,8 @@ impl TestRows for Rows {
                 self.upload(octets.as_slice(), out)
             }
             "large" => {
-                let (count, _) = first_number(rest);
-                let octets = vec![in self.alloc; b'x'; count as usize]?;
+                let (count, piece) = first_number(rest);
+                let octets = octets_of(self.alloc, piece)?.repeat(self.alloc, count as usize)?;
                 self.upload(octets.as_slice(), out)
             }
             "created" => {
@@ -140,9 +161,7 @@ impl TestRows for Rows {
                     .push((String::from_str(self.alloc, key)?, number))?;
                 Ok(())
             }
-            "create" => self.create(rest, false, out),
-            "message" => self.create(rest, true, out),
-            _ => writeln!(out, "no such word: {word}"),
+            _ => self.take_asked(word, rest, out),
         }
     }
 }

@@ -65,7 +65,8 @@ fn are_folders(given: &Given<'_, '_>, members: &Map<String, Value>) -> bool
     true
 }
 
-fn is_map_of_keywords(value: &Value) -> bool
+/// Whether the value is a set of keywords; null is the empty one (RFC 8621 section 4.1.1).
+pub fn is_map_of_keywords(value: &Value) -> bool
     ensures { result ≡ spec.is_map_of is_keyword (view value.now) }
 {
     match value {
@@ -75,7 +76,8 @@ fn is_map_of_keywords(value: &Value) -> bool
     }
 }
 
-fn is_map_of_folders(given: &Given<'_, '_>, value: &Value) -> bool
+/// Whether the value is a set of texts that name Mailboxes; null is the empty one.
+pub fn is_map_of_folders(given: &Given<'_, '_>, value: &Value) -> bool
     ensures { (g : GivenFacts) → IsGiven given.now g → result ≡ spec.is_map_of (spec.names_folder g) (view value.now) }
 {
     match value {

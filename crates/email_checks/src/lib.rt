@@ -13,6 +13,7 @@ mod keywords_asked;
 mod email_update;
 mod emails;
 
+pub use email_test::{is_map_of_folders, is_map_of_keywords};
 pub use email_update::can_be_moved_into;
 pub use emails::{destroy_email, update_email};
 pub use keywords::{flag_of, keywords_in};

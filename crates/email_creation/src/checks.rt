@@ -86,7 +86,7 @@ fn without_uploads(
 // ---- creations that pass
 
 /// The second that the properties ask as the date.
-fn date_asked(properties: &Map<String, Value>) -> Option<i64>
+pub fn date_asked(properties: &Map<String, Value>) -> Option<i64>
     ensures { result ≡ asks.date_asked (members_view properties.now.entries) }
 {
     let text = member(properties, "receivedAt")?.as_str()?;

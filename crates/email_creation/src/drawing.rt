@@ -11,7 +11,7 @@ use set_jobs::{Done, Job, SetError, Step};
 use std::alloc::{AllocError, Global};
 
 /// The job of one APPEND.
-fn append_job(
+pub fn append_job(
     alloc: Global,
     name: Bytes,
     flags: Names,

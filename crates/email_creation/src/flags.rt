@@ -35,10 +35,7 @@ fn flags_in(alloc: Global, value: &Value) -> Result<Names, AllocError>
 }
 
 /// The flags of the keywords that the properties ask.
-pub(crate) fn flags_asked(
-    alloc: Global,
-    properties: &Map<String, Value>,
-) -> Result<Names, AllocError>
+pub fn flags_asked(alloc: Global, properties: &Map<String, Value>) -> Result<Names, AllocError>
     ensures { IfOk result (λ flags. flags ≡ spec.flags_asked (members_view properties.now.entries)) }
 {
     match member(properties, "keywords") {

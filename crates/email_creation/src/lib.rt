@@ -13,10 +13,13 @@ mod drawing;
 mod laws;
 mod ready;
 
-pub use checks::check_creation;
-pub use drawing::draw_creation;
+pub use checks::{check_creation, date_asked};
+pub use drawing::{append_job, draw_creation};
+pub use flags::flags_asked;
 pub use laws::{
     creations_append_lines, creations_append_once, creations_are_checked_one_way,
     creations_have_one_job,
 };
+pub use mailboxes::{MailboxAsked, mailbox_asked};
+pub use members::member;
 pub use ready::ReadyCreation;

@@ -17,7 +17,7 @@ use told_folder::Folder;
 
 /// What texts name.
 #[derive(Clone, Copy)]
-pub(crate) enum MailboxAsked<'g> {
+pub enum MailboxAsked<'g> {
     /// One Mailbox.
     One(&'g Folder),
     /// None, or one that isn't there.
@@ -100,10 +100,7 @@ fn mailbox_in<'g>(given: &Given<'g, '_>, value: &Value) -> MailboxAsked<'g>
 }
 
 /// The Mailbox that the properties ask.
-pub(crate) fn mailbox_asked<'g>(
-    given: &Given<'g, '_>,
-    properties: &Map<String, Value>,
-) -> MailboxAsked<'g>
+pub fn mailbox_asked<'g>(given: &Given<'g, '_>, properties: &Map<String, Value>) -> MailboxAsked<'g>
     ensures { (g : GivenFacts) → IsGiven given.now g → asked_data result ≡ spec.mailbox_asked g (members_view properties.now.entries) }
 {
     match member(properties, "mailboxIds") {

@@ -1,5 +1,5 @@
 -- A method that changes the mail of a request, where that is served.
-use Rattle.std.proofs.Common.{◌≡◌, ◌≢◌, ◌∙◌, ◌⊎◌, ℕ, true, false, List, [], Option, Some, None, Result, Ok, Err, refl, sym, ap, subst, inl, inr}
+use Rattle.std.proofs.Common.{◌≡◌, ◌≢◌, ◌∙◌, ◌⊎◌, ℕ, Bool, true, false, List, [], Option, Some, None, Result, Ok, Err, refl, sym, ap, subst, inl, inr}
 use Rattle.std.specs.Prelude.{IsSome}
 use Rattle.gate_world.specs.Causes.{Faults}
 use Rattle.gate_world.specs.Tape.{Adds}
@@ -8,6 +8,8 @@ use Rattle.gate_world.proofs.Joins.{none, widen}
 use Rattle.serde_json.specs.declared.value.Value.{Value}
 use Rattle.serde_json.specs.Data.{Data}
 use Rattle.serde_json.specs.View.{view}
+use Rattle.email_bodies.specs.Asking.{BodyAsk}
+use Rattle.email_bodies.specs.declared.source.MessagePlace.{MessagePlace}
 use Rattle.imap_client.specs.LinkLife.{LinkLife}
 use Rattle.jmap_arguments.specs.declared.method_error.MethodError.{MethodError}
 use Rattle.jmap_arguments.specs.declared.method_error.MethodError.TheVariants.{Memory}
@@ -15,6 +17,12 @@ use Rattle.jmap_core.specs.CreatedIds.{Ids}
 use Rattle.mail_state.specs.History.{MailHistory}
 use Rattle.set_arguments.specs.Arguments.{SetAsked, set_asked}
 use Rattle.set_arguments.specs.declared.set_method.SetMethod.{SetMethod}
+use Rattle.set_jobs.specs.declared.done.SetError.{SetError}
+use Rattle.set_jobs.specs.declared.job.Job.{Job}
+use Rattle.set_order.specs.Ordered.{Item}
+use Rattle.set_items.specs.declared.item.ItemEnd.{ItemEnd}
+use Rattle.set_items.specs.declared.item.ItemEnd.TheVariants as item_end
+use Rattle.set_calls.specs.Calls.{SetCall}
 use Rattle.gate_machine.specs.Beginning as settling
 use Rattle.gate_machine.specs.Beginning.{Settles}
 use Rattle.gate_machine.specs.Kept.{KeptMail}
@@ -25,13 +33,17 @@ use Rattle.gate_machine.proofs.Stages.{held_ready}
 use Rattle.gate_changes.specs.Answering as answering
 use Rattle.gate_changes.specs.Answering.{ChangesAsked, DoesChange, ItemChecks}
 use Rattle.gate_changes.specs.Changing as changing
+use Rattle.gate_changes.specs.Changing.{DoesCourse}
+use Rattle.gate_changes.specs.Importing.{IsServing, PreparesImport, RefusedAtOnce, Sought, TakesImport, BodyLost, Taken, NoRoom, DoesImports, NoImports, OutBefore, ImportDone, ImportEnds}
+use Rattle.gate_changes.specs.Items.{DoesItemsOver, ItemsCame}
 use Rattle.gate_changes.specs.reading.Answers.{AnswersTo, IsServed, answer_data}
 use Rattle.gate_calls.specs.Calling.{CallsState, asks_of}
 use Rattle.gate_calls.specs.ItemChecks.{item_checks}
 use Rattle.gate_calls.specs.Mailings.{Mailing, mail_at, mailing_by}
 use Rattle.gate_calls.specs.Methods.{RepliesTo}
 use Rattle.gate_calls.specs.declared.method.Method.{Method}
-use Rattle.gate_machine.specs.Fetching.{AllAsked, NoBodies}
+use Rattle.gate_machine.specs.Fetching as fetching
+use Rattle.gate_machine.specs.Fetching.{AllAsked, AsksBodies, AsksBody, NoBodies}
 use Rattle.gate_machine.specs.Holding.{HoldsMachine}
 use Rattle.email_bodies.proofs.Due.{none_due}
 use Rattle.email_get.specs.Asked.{FailsAfter}
@@ -41,6 +53,7 @@ use Rattle.gate_calls.specs.RequestMail.{DoesMethod, IsAt, RequestAnswers, Reque
 use Rattle.gate_calls.specs.Sources.{Gives}
 use Rattle.gate_calls.specs.declared.method.Method.TheVariants.{Set}
 use Rattle.gate_calls.proofs.Meaning.{is_memory}
+use Rattle.gate_calls.proofs.OneChange.{goes_there, rest_well, still_out}
 use Rattle.gate_calls.proofs.Working.{leaves_none}
 
 -- ---- the link life
@@ -75,11 +88,51 @@ settled_life (settling.Lacks stands none is) stood life = absurd (let both : Out
 broken_stood : (p q : Progress) → p ≡ changing.broken_off q → p.standing ≡ Stands → ⊥
 broken_stood p q is stood = let both : Unserved Broken ≡ Stands = sym (ap (λ (x : Progress). x.standing) is) ∙ stood in cc
 
+-- of items there is a life still
+body_life : {message : MessagePlace} {p q : Progress} {body : Option (List ℕ)} {events : List Event} → AsksBody message p body events q → IsSome p.left → IsSome q.left
+body_life (fetching.IsKept octets kept body_is none is) life = subst (λ (x : Progress). IsSome x.left) (sym is) life
+body_life (fetching.IsTold octets asks body_is is) life = subst (λ (x : Progress). IsSome x.left) (sym is) refl
+body_life (fetching.Ends e asks other body_is is) life = subst (λ (x : Progress). IsSome x.left) (sym is) refl
+body_life (fetching.HasEnded kept ended body_is none is) life = subst (λ (x : Progress). IsSome x.left) (sym is) life
+
+bodies_life : {p q : Progress} {asks : List BodyAsk} {events : List Event} → AsksBodies p asks events q → IsSome p.left → IsSome q.left
+bodies_life fetching.NoBodies life = life
+bodies_life (fetching.MoreBodies next bodies) life = body_life next.asks (bodies_life bodies life)
+
+serving_life : {call : SetCall} {p : Progress} → IsServing call p → IsSome p.left
+serving_life here = subst (λ (o : Option LinkLife). IsSome o) (sym here.in_life) refl
+
+row_life : {call : SetCall} {items : List Item} {p q : Progress} {came : ItemsCame} {events : List Event} → DoesItemsOver call items p came events q → IsSome q.left
+row_life does = subst (λ (x : Progress). IsSome x.left) (sym does.after_is) refl
+
+prepared_life : {call : SetCall} {uploads : List (List ℕ)} {item : Item} {p q : Progress} {asks : List BodyAsk} {made : Option (Result Job SetError)} {events : List Event}
+    → PreparesImport call uploads item p asks made events q → IsSome q.left
+prepared_life (RefusedAtOnce here e is) = serving_life here
+prepared_life (Sought here i found is finds asked makes) = bodies_life asked (serving_life here)
+
+import_life : {call : SetCall} {uploads : List (List ℕ)} {item : Item} {p q : Progress} {asks : List BodyAsk} {ends : ItemEnd} {events : List Event}
+    → TakesImport call uploads item p asks ends events q → ends ≢ item_end.OutOfMemory → IsSome q.left
+import_life (BodyLost prepares) there = prepared_life prepares
+import_life (Taken steps ends prepares does) there = row_life does
+import_life (NoRoom lacks) there = absurd (there refl)
+
+imports_life : {call : SetCall} {uploads : List (List ℕ)} {made : Bool} {items : List Item} {p q : Progress} {came : ItemsCame} {events : List Event}
+    → DoesImports call uploads made p items came events q → came ≢ Err item_end.OutOfMemory → IsSome q.left
+imports_life (NoImports here) there = serving_life here
+imports_life (OutBefore here) there = absurd (there refl)
+imports_life (ImportDone {came = came} item done takes rest) there = imports_life rest (rest_well (item, done) came there)
+imports_life {made = made} (ImportEnds item ends not takes) there = import_life takes (λ is. there (still_out made ends is))
+
+course_life : {call : SetCall} {items : List Item} {p q : Progress} {came : ItemsCame} {events : List Event} → DoesCourse call items p came events q → came ≢ Err item_end.OutOfMemory
+    → IsSome q.left
+course_life (changing.InRow row does) there = row_life does
+course_life (changing.OneByOne uploads rules imports) there = imports_life imports there
+
 change_life : {uploads : List (List ℕ)} {m : SetMethod} {a : SetAsked} {h : MailHistory} {s t : CallsState} {r : Result Data MethodError} {es : List Event} → ChangesAsked (item_checks uploads) m a h s r es t
     → t.progress.standing ≡ Stands → IsSome s.progress.left → IsSome t.progress.left
 change_life (answering.Mismatch is r_is none same) stood life = subst (λ (x : CallsState). IsSome x.progress.left) (sym same) life
 change_life (answering.Changes items came is those (changing.Committed came' mid does goes settles stands r_is) answers) stood life =
-    settled_life settles stood (subst (λ (x : Progress). IsSome x.left) (sym does.after_is) refl)
+    settled_life settles stood (course_life does (goes_there came' goes))
 change_life {t = t} (answering.Changes items came is those (changing.SpentBy came' mid spent doing ending does goes settles spent_is hangs whole after_is r_is) answers) stood life =
     absurd (broken_stood t.progress spent after_is stood)
 change_life {t = t} (answering.Changes items came is those (changing.FailedInPart mid doing ending does hangs whole after_is r_is) answers) stood life =

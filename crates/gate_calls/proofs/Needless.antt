@@ -11,7 +11,7 @@ use Rattle.gate_calls.specs.Calls.{AnswersCall, NoMethod, Unresolved, Resolved, 
 use Rattle.gate_calls.specs.Mailings.{MailAndUploads}
 use Rattle.gate_calls.specs.MethodNames.{method_asked, method_of, name_of, needs_mail_by, where_used}
 use Rattle.gate_calls.specs.Methods.{RepliesTo}
-use Rattle.set_arguments.specs.declared.set_method.SetMethod.TheVariants.{EmailSet, MailboxSet}
+use Rattle.set_arguments.specs.declared.set_method.SetMethod.TheVariants.{EmailSet, MailboxSet, EmailImport}
 use Rattle.gate_calls.specs.declared.method.Method.{Method}
 use Rattle.gate_calls.specs.declared.method.Method.TheVariants.{CoreEcho, MailboxGet, MailboxChanges, MailboxQuery, MailboxQueryChanges, ThreadGet}
 use Rattle.gate_calls.specs.declared.method.Method.TheVariants.{ThreadChanges, EmailGet, EmailChanges, EmailQuery, EmailQueryChanges, EmailParse, Set}
@@ -34,7 +34,7 @@ by_first name first =
     if first then Some CoreEcho else
     find (λ m. bytes_eq name (name_of m))
     (MailboxGet ∷ MailboxChanges ∷ MailboxQuery ∷ MailboxQueryChanges ∷ ThreadGet ∷ ThreadChanges ∷ EmailGet ∷ EmailChanges ∷ EmailQuery ∷ EmailQueryChanges ∷ EmailParse ∷ Set MailboxSet
-    ∷ Set EmailSet ∷ [])
+    ∷ Set EmailSet ∷ Set EmailImport ∷ [])
 
 first_by : (name : List ℕ) (test : Bool) → bytes_eq name (name_of CoreEcho) ≡ test → method_of name ≡ by_first name test
 first_by name test is = ap (λ (b : Bool). by_first name b) is

@@ -1,12 +1,13 @@
 -- The calls of a request one after another, in the work on the request: each is answered over the mail that is served at its moment and with the ids
 -- that were created before it, and leaves both to the next one (RFC 8620 sections 3.2 to 3.7 and 5.3).
-use Rattle.std.specs.Prelude.{◌≡◌, ◌++◌, ℕ, List, [], ◌∷◌, map, All, IsSome, Option, None, option_map, Result, Ok}
+use Rattle.std.specs.Prelude.{◌≡◌, ◌++◌, ℕ, Bool, List, [], ◌∷◌, map, All, IsSome, Option, Some, None, option_map, Result, Ok}
 use Rattle.gate_world.specs.declared.event.Event.{Event}
 use Rattle.serde_json.specs.Data.{Data}
 use Rattle.told_folder.specs.declared.exchange.Exchange.{Exchange}
 use Rattle.email_bodies.specs.Asking.{BodyAsk, AreDue}
-use Rattle.imap_client.specs.LinkLife.{selected}
+use Rattle.imap_client.specs.LinkLife.{LinkLife, selected}
 use Rattle.jmap_arguments.specs.declared.method_error.MethodError.{MethodError}
+use Rattle.jmap_arguments.specs.declared.method_error.MethodError.TheVariants.{ServerUnavailable}
 use Rattle.jmap_arguments.specs.declared.using.Using.{Using}
 use Rattle.mail_state.specs.History.{MailHistory}
 use Rattle.result_references.specs.Call.{CallData}
@@ -14,9 +15,11 @@ use Rattle.result_references.specs.References.{resolved_arguments}
 use Rattle.set_arguments.specs.Arguments.{SetAsked}
 use Rattle.set_arguments.specs.declared.set_method.SetMethod.{SetMethod}
 use Rattle.set_jobs.specs.declared.done.Done.{Done}
+use Rattle.set_jobs.specs.declared.done.SetError.{SetError}
+use Rattle.set_jobs.specs.declared.job.Job.{Job}
 use Rattle.set_order.specs.Ordered.{Item}
 use Rattle.set_items.specs.declared.item.ItemEnd.{ItemEnd}
-use Rattle.set_items.specs.declared.item.ItemEnd.TheVariants.{Comes}
+use Rattle.set_items.specs.declared.item.ItemEnd.TheVariants.{Comes, Ends}
 use Rattle.set_items.specs.Causes.{FailedPartly}
 use Rattle.set_items.specs.Items.{item_plan, item_start}
 use Rattle.set_items.specs.Talks.{ending_of}
@@ -29,7 +32,9 @@ use Rattle.gate_machine.specs.Progress.{Progress}
 use Rattle.gate_changes.specs.Answering as answering
 use Rattle.gate_changes.specs.Answering.{ChangeState, ChangesAsked, DoesChange, LacksAnswer}
 use Rattle.gate_changes.specs.Changing as changing
-use Rattle.gate_changes.specs.Changing.{ChangesMail, ItemsCame}
+use Rattle.gate_changes.specs.Changing.{ChangesMail, DoesCourse}
+use Rattle.gate_changes.specs.Importing.{PreparesImport, RefusedAtOnce, Sought, TakesImport, BodyLost, Taken, NoRoom, DoesImports, NoImports, OutBefore, ImportDone, ImportEnds}
+use Rattle.gate_changes.specs.Items.{ItemsCame}
 use Rattle.gate_calls.specs.Calls.{AnswersCall, answered_call}
 use Rattle.gate_calls.specs.ItemChecks.{item_checks}
 use Rattle.gate_calls.specs.Mailings.{Mailing, MailAndUploads, mail_at}
@@ -79,15 +84,39 @@ asks_of_items (AllDone done does all is) = asks_of_done does
 asks_of_items (Stopped done item later mid so_far last ends does stops all whole is) = asks_of_done does ++ last_ask stops ∷ []
 asks_of_items (Wanting done later so_far drawn does draws all whole is) = asks_of_done does
 
+-- the folder that is selected in what is left of a life
+abbrev pub selected_in : Option LinkLife → Option (List ℕ)
+selected_in None = None
+selected_in (Some life) = selected life
+
+-- an import asks the body of its blob, and is tried then
+abbrev pub asks_of_import : {call : SetCall} {uploads : List (List ℕ)} {item : Item} {before : Progress} {asks : List BodyAsk} {ends : ItemEnd} {events : List Event}
+    {after : Progress} → TakesImport call uploads item before asks ends events after → List Asked
+asks_of_import {item = item} {asks = asks} {after = after} (BodyLost prepares) = map Body asks ++ Tried item [] (Ends ServerUnavailable) (selected_in after.left) ∷ []
+asks_of_import {asks = asks} (Taken made ends prepares does) = map Body asks ++ asks_of_items does.runs
+asks_of_import (NoRoom lacks) = []
+
+abbrev pub asks_of_imports : {call : SetCall} {uploads : List (List ℕ)} {made : Bool} {before : Progress} {items : List Item} {came : ItemsCame} {events : List Event}
+    {after : Progress} → DoesImports call uploads made before items came events after → List Asked
+asks_of_imports (NoImports here) = []
+asks_of_imports (OutBefore here) = []
+asks_of_imports (ImportDone item done takes rest) = asks_of_import takes ++ asks_of_imports rest
+asks_of_imports (ImportEnds item ends not takes) = asks_of_import takes
+
+abbrev pub asks_of_course : {call : SetCall} {items : List Item} {before : Progress} {came : ItemsCame} {events : List Event} {after : Progress}
+    → DoesCourse call items before came events after → List Asked
+asks_of_course (changing.InRow row does) = asks_of_items does.runs
+asks_of_course (changing.OneByOne uploads rules imports) = asks_of_imports imports
+
 abbrev pub history_known : Option KnownMail → Option MailHistory
 history_known known = option_map (λ (k : KnownMail). k.history) known
 
 abbrev pub asks_of_change : {call : SetCall} {items : List Item} {before : Progress} {result : Result (List (Item × Done)) MethodError} {events : List Event}
     {after : Progress} → ChangesMail call items before result events after → List Asked
 asks_of_change {after = after} (changing.Committed came mid does goes settles stands is) =
-    asks_of_items does.runs ++ Committed (history_known after.machine.known) ∷ []
-asks_of_change (changing.SpentBy came mid spent doing ending does goes settles is hangs whole after_is result_is) = asks_of_items does.runs ++ Committed None ∷ []
-asks_of_change (changing.FailedInPart mid doing ending does hangs whole after_is is) = asks_of_items does.runs
+    asks_of_course does ++ Committed (history_known after.machine.known) ∷ []
+asks_of_change (changing.SpentBy came mid spent doing ending does goes settles is hangs whole after_is result_is) = asks_of_course does ++ Committed None ∷ []
+asks_of_change (changing.FailedInPart mid doing ending does hangs whole after_is is) = asks_of_course does
 
 abbrev pub asks_over : {uploads : List (List ℕ)} {m : SetMethod} {a : SetAsked} {h : MailHistory} {before : ChangeState} {result : Result Data MethodError} {events : List Event}
     {after : ChangeState} → ChangesAsked (item_checks uploads) m a h before result events after → List Asked
@@ -195,12 +224,36 @@ AreStepsObeyed (AllDone done does all is) = AreItemsObeyed does
 AreStepsObeyed (Stopped done item later mid so_far last ends does stops all whole is) = AreItemsObeyed does × IsLastObeyed stops
 AreStepsObeyed (Wanting done later so_far drawn does draws all whole is) = AreItemsObeyed does
 
+-- So it did where a body was asked for an import, and the import's own steps.
+abbrev pub IsPreparedObeyed : {call : SetCall} {uploads : List (List ℕ)} {item : Item} {before : Progress} {asks : List BodyAsk} {made : Option (Result Job SetError)}
+    {events : List Event} {after : Progress} → PreparesImport call uploads item before asks made events after → Type 0
+IsPreparedObeyed (RefusedAtOnce here e is) = Unit {0}
+IsPreparedObeyed (Sought here i found is finds asked makes) = AreAsksObeyed asked
+
+abbrev pub IsImportObeyed : {call : SetCall} {uploads : List (List ℕ)} {item : Item} {before : Progress} {asks : List BodyAsk} {ends : ItemEnd} {events : List Event}
+    {after : Progress} → TakesImport call uploads item before asks ends events after → Type 0
+IsImportObeyed (BodyLost prepares) = IsPreparedObeyed prepares
+IsImportObeyed (Taken made ends prepares does) = IsPreparedObeyed prepares × AreStepsObeyed does.runs
+IsImportObeyed (NoRoom lacks) = Unit {0}
+
+abbrev pub AreImportsObeyed : {call : SetCall} {uploads : List (List ℕ)} {made : Bool} {before : Progress} {items : List Item} {came : ItemsCame} {events : List Event}
+    {after : Progress} → DoesImports call uploads made before items came events after → Type 0
+AreImportsObeyed (NoImports here) = Unit {0}
+AreImportsObeyed (OutBefore here) = Unit {0}
+AreImportsObeyed (ImportDone item done takes rest) = IsImportObeyed takes × AreImportsObeyed rest
+AreImportsObeyed (ImportEnds item ends not takes) = IsImportObeyed takes
+
+abbrev pub IsCourseObeyed : {call : SetCall} {items : List Item} {before : Progress} {came : ItemsCame} {events : List Event} {after : Progress}
+    → DoesCourse call items before came events after → Type 0
+IsCourseObeyed (changing.InRow row does) = AreStepsObeyed does.runs
+IsCourseObeyed (changing.OneByOne uploads rules imports) = AreImportsObeyed imports
+
 -- and a place was left for what was told
 abbrev pub IsChangeObeyed : {call : SetCall} {items : List Item} {before : Progress} {result : Result (List (Item × Done)) MethodError} {events : List Event}
     {after : Progress} → ChangesMail call items before result events after → Type 0
-IsChangeObeyed (changing.Committed came mid does goes settles stands is) = AreStepsObeyed does.runs
+IsChangeObeyed (changing.Committed came mid does goes settles stands is) = IsCourseObeyed does
 IsChangeObeyed (changing.SpentBy came mid spent doing ending does goes settles is hangs whole after_is result_is) = ⊥
-IsChangeObeyed (changing.FailedInPart mid doing ending does hangs whole after_is is) = AreStepsObeyed does.runs
+IsChangeObeyed (changing.FailedInPart mid doing ending does hangs whole after_is is) = IsCourseObeyed does
 
 abbrev pub AreAskedObeyed : {uploads : List (List ℕ)} {m : SetMethod} {a : SetAsked} {h : MailHistory} {before : ChangeState} {result : Result Data MethodError} {events : List Event}
     {after : ChangeState} → ChangesAsked (item_checks uploads) m a h before result events after → Type 0

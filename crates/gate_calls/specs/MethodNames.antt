@@ -6,14 +6,14 @@ use Rattle.gate_calls.specs.declared.method.Method.TheVariants.{CoreEcho, Mailbo
 use Rattle.gate_calls.specs.declared.method.Method.TheVariants.{ThreadChanges, EmailGet, EmailChanges, EmailQuery, EmailQueryChanges, EmailParse, Set}
 use Rattle.jmap_arguments.specs.declared.using.Using.{Using}
 use Rattle.set_arguments.specs.declared.set_method.SetMethod.{SetMethod}
-use Rattle.set_arguments.specs.declared.set_method.SetMethod.TheVariants.{EmailSet, MailboxSet}
+use Rattle.set_arguments.specs.declared.set_method.SetMethod.TheVariants.{EmailSet, MailboxSet, EmailImport}
 use Rattle.jmap_arguments.specs.declared.method_error.MethodError.{MethodError}
 use Rattle.jmap_arguments.specs.declared.method_error.MethodError.TheVariants as error
 
 abbrev pub methods : List Method
 methods =
     CoreEcho ∷ MailboxGet ∷ MailboxChanges ∷ MailboxQuery ∷ MailboxQueryChanges ∷ ThreadGet ∷ ThreadChanges ∷ EmailGet ∷ EmailChanges ∷ EmailQuery
-    ∷ EmailQueryChanges ∷ EmailParse ∷ Set MailboxSet ∷ Set EmailSet ∷ []
+    ∷ EmailQueryChanges ∷ EmailParse ∷ Set MailboxSet ∷ Set EmailSet ∷ Set EmailImport ∷ []
 
 abbrev pub name_of : Method → List ℕ
 name_of CoreEcho = codes "Core/echo"
@@ -30,6 +30,7 @@ name_of EmailQueryChanges = codes "Email/queryChanges"
 name_of EmailParse = codes "Email/parse"
 name_of (Set MailboxSet) = codes "Mailbox/set"
 name_of (Set EmailSet) = codes "Email/set"
+name_of (Set EmailImport) = codes "Email/import"
 
 -- whether its capability is used
 abbrev pub is_used : Using → Method → Bool

@@ -32,7 +32,7 @@ pub enum Method {
     EmailQueryChanges,
     /// RFC 8621 section 4.9
     EmailParse,
-    /// RFC 8621 sections 2.5 and 4.6
+    /// RFC 8621 sections 2.5, 4.6 and 4.8
     Set(SetMethod),
 }
 
@@ -54,6 +54,7 @@ fn method_of(name: &str) -> Option<Method>
         "Email/parse" => Some(Method::EmailParse),
         "Mailbox/set" => Some(Method::Set(SetMethod::MailboxSet)),
         "Email/set" => Some(Method::Set(SetMethod::EmailSet)),
+        "Email/import" => Some(Method::Set(SetMethod::EmailImport)),
         _ => None,
     }
 }

@@ -7,7 +7,7 @@ ghost use Rattle.serde_json.specs.Data.{Data};
 ghost use Rattle.set_arguments.specs.Arguments.{set_asked as set_asked_by};
 ghost use Rattle.set_arguments.specs.reading.Asked.{asked_data};
 ghost use Rattle.set_arguments.specs.declared.set_method.SetMethod.{SetMethod as set_type};
-ghost use Rattle.set_methods.specs.reading.Choosing.{rules_of};
+ghost use Rattle.gate_changes.specs.reading.Asking.{call_rules};
 ghost use Rattle.gate_calls.specs.ItemChecks.{item_checks};
 ghost use Rattle.gate_machine.specs.Holding.{HoldsMachine};
 ghost use Rattle.gate_machine.specs.Progress.{Progress};
@@ -20,7 +20,7 @@ use crate::method::Method;
 use crate::methods::{reply_over, reply_without};
 use crate::source::CallSource;
 use blob_store::BlobStore;
-use gate_changes::{Answered, answer_change};
+use gate_changes::{Answered, CallChecks, answer_change};
 use gate_machine::{Machine, MailFailure, MailStatus};
 use gate_world::{Chance, Clock, Link};
 use imap_client::Client;
@@ -55,14 +55,15 @@ pub fn error_of(why: MailFailure) -> MethodError
 }
 
 /// What the items of a call have to pass that asks this.
-fn checks_of<'u>(method: SetMethod, asked: &SetAsked<'_>, uploads: &'u BlobStore) -> SetChecks<'u>
-    ensures { rules_of result ≡ item_checks uploads.now method (asked_data asked.now) }
+fn checks_of<'u>(method: SetMethod, asked: &SetAsked<'_>, uploads: &'u BlobStore) -> CallChecks<'u>
+    ensures { call_rules result ≡ item_checks uploads.now method (asked_data asked.now) }
 {
     match method {
-        SetMethod::EmailSet => SetChecks::Email { uploads },
-        SetMethod::MailboxSet => SetChecks::Mailbox {
+        SetMethod::EmailSet => CallChecks::Set(SetChecks::Email { uploads }),
+        SetMethod::MailboxSet => CallChecks::Set(SetChecks::Mailbox {
             removes: asked.removes,
-        },
+        }),
+        SetMethod::EmailImport => CallChecks::Import { uploads },
     }
 }
 

@@ -20,7 +20,7 @@ use Rattle.set_order.specs.Ordered.{Item}
 use Rattle.set_items.specs.declared.item.ItemEnd.TheVariants.{OutOfMemory}
 use Rattle.set_items.specs.Talks.{AllReadKnown}
 use Rattle.set_calls.specs.Calls.{SetCall, CallState, RunsItems, call_begun}
-use Rattle.gate_changes.specs.Changing.{DoesItemsOver, ItemsCame}
+use Rattle.gate_changes.specs.Items.{DoesItemsOver, ItemsCame}
 use Rattle.gate_changes.specs.reading.Asking.{IsOver}
 
 pub one_known : (j k : KnownMail) → Some j ≡ Some k → j ≡ k
@@ -69,7 +69,7 @@ module _ (call : SetCall) (before : Progress) (source : SourceState) (served : S
   pub in_life : Stands source.client over.life
   in_life = subst (λ (l : Option LinkLife). StandsInLife l source.client) over.in_life holds.in_life
 
-  served_is : call.history ≡ k.history
+  pub served_is : call.history ≡ k.history
   served_is = over.served ∙ ap (λ (j : KnownMail). j.history) (one_known over.known k (sym over.ready ∙ ready))
 
   -- the call is over what is served
@@ -79,7 +79,7 @@ module _ (call : SetCall) (before : Progress) (source : SourceState) (served : S
   held_is : holds.known ≡ k
   held_is = one_known holds.known k (sym holds.ready ∙ ready)
 
-  told_was : source.told ≡ k.told
+  pub told_was : source.told ≡ k.told
   told_was = holds.told ∙ ap (λ (j : KnownMail). j.told) held_is
 
   next_was : IsNextMail k.history.mail k.told.mail

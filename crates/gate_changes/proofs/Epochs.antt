@@ -1,9 +1,13 @@
 -- No epoch is drawn in a call that changes mail.
-use Rattle.std.proofs.Common.{◌≡◌, ◌∙◌, List, [], Some, None, Result, sym, ap, subst}
+use Rattle.std.proofs.Common.{◌≡◌, ◌∙◌, ℕ, List, [], Option, Some, None, Result, refl, sym, ap, subst}
 use Rattle.gate_world.specs.declared.event.Event.{Event}
+use Rattle.email_bodies.specs.Asking.{BodyAsk}
+use Rattle.email_bodies.specs.declared.source.MessagePlace.{MessagePlace}
 use Rattle.jmap_arguments.specs.declared.method_error.MethodError.{MethodError}
 use Rattle.mail_state.specs.History.{MailHistory}
 use Rattle.gate_machine.specs.Beginning.{Settles, Same, Moves, Spends, Lacks}
+use Rattle.gate_machine.specs.Fetching.{AsksBody, AsksBodies, CallsAsk, LacksBody}
+use Rattle.gate_machine.specs.Fetching as fetching
 use Rattle.gate_machine.specs.Going.{HasGoneOn, Still, On}
 use Rattle.gate_machine.specs.History.{KnownMail, served_anew}
 use Rattle.gate_machine.specs.Machine.{MachineState}
@@ -11,8 +15,10 @@ use Rattle.gate_machine.specs.Progress.{Progress}
 use Rattle.set_jobs.specs.declared.done.Done.{Done}
 use Rattle.set_order.specs.Ordered.{Item}
 use Rattle.set_calls.specs.Calls.{SetCall}
-use Rattle.gate_changes.specs.Changing.{DoesItemsOver, ItemsCame, ChangesMail, Committed, SpentBy, FailedInPart}
+use Rattle.gate_changes.specs.Changing.{DoesCourse, ChangesMail, Committed, SpentBy, FailedInPart}
+use Rattle.gate_changes.specs.Items.{DoesItemsOver, ItemsCame}
 use Rattle.gate_changes.proofs.Doing.{one_known}
+use Rattle.gate_changes.proofs.Through.{Any, course_through}
 
 gone_both : {g h i : MailHistory} → HasGoneOn g h → HasGoneOn h i → HasGoneOn g i
 gone_both one Still = one
@@ -55,12 +61,42 @@ does_stay : (call : SetCall) (items : List Item) (before after : Progress) (came
 does_stay call items before after came events d =
     stays_known before.machine after.machine d.known (record d.known { told = d.told }) d.ready (ap (λ (p : Progress). p.machine.known) d.after_is) Still
 
+body_stays : {message : MessagePlace} {p q : Progress} {body : Option (List ℕ)} {events : List Event} → AsksBody message p body events q → StaysInEpoch p.machine q.machine
+body_stays {p = p} {q = q} (fetching.IsKept octets kept body_is none is) =
+    stays_known p.machine q.machine kept.known _ kept.ready (ap (λ (x : Progress). x.machine.known) is) Still
+body_stays {p = p} {q = q} (fetching.IsTold octets asks body_is is) =
+    stays_known p.machine q.machine asks.kept.known _ asks.kept.ready (ap (λ (x : Progress). x.machine.known) is) Still
+body_stays {p = p} {q = q} (fetching.Ends e asks other body_is is) =
+    stays_known p.machine q.machine asks.kept.known _ asks.kept.ready (ap (λ (x : Progress). x.machine.known) is) Still
+body_stays {p = p} {q = q} (fetching.HasEnded kept ended body_is none is) = stays_same p.machine q.machine (machine_is p q is)
+
+bodies_stay : {p q : Progress} {asks : List BodyAsk} {events : List Event} → AsksBodies p asks events q → StaysInEpoch p.machine q.machine
+bodies_stay {p = p} fetching.NoBodies = stays_same p.machine p.machine refl
+bodies_stay {p = p} {q = q} (fetching.MoreBodies {mid = mid} next bodies) = stays_both p.machine mid.machine q.machine (bodies_stay bodies) (body_stays next.asks)
+
+lacking_stays : {message : MessagePlace} {p q : Progress} {events : List Event} → LacksBody message p events q → StaysInEpoch p.machine q.machine
+lacking_stays {p = p} {q = q} (fetching.Unasked none is) = stays_nowhere p.machine q.machine (ap (λ (x : Progress). x.machine.known) is)
+lacking_stays {p = p} {q = q} (fetching.Asked asks is) = stays_nowhere p.machine q.machine (ap (λ (x : Progress). x.machine.known) is)
+lacking_stays {p = p} {q = q} (fetching.NotKept octets asks is) = stays_nowhere p.machine q.machine (ap (λ (x : Progress). x.machine.known) is)
+
+asks_stay : (p : Progress) (tried : List BodyAsk) (events : List Event) (q : Progress) → CallsAsk p tried events q → StaysInEpoch p.machine q.machine
+asks_stay p tried events q (fetching.AllAsked bodies) = bodies_stay bodies
+asks_stay p tried events q (fetching.RunsShort short) =
+    stays_both p.machine short.mid.machine q.machine (bodies_stay short.asked) (lacking_stays short.lacks)
+
+course_stays : (call : SetCall) (items : List Item) (before after : Progress) (came : ItemsCame) (events : List Event) → DoesCourse call items before came events after
+    → StaysInEpoch before.machine after.machine
+course_stays call items before after came events =
+    course_through (λ p es q. StaysInEpoch p.machine q.machine) (λ p. stays_same p.machine p.machine refl) (λ p now. stays_same p.machine p.machine refl) asks_stay Any
+    (λ item done. tt) (λ e came fits. tt) (λ item made ends fits. tt) (λ call items p came events q fits d. does_stay call items p q came events d)
+    (λ p q r es fs. stays_both p.machine q.machine r.machine) tt
+
 pub changes_stay : (call : SetCall) (items : List Item) (before : Progress) (result : Result (List (Item × Done)) MethodError) (events : List Event) (after : Progress)
     → ChangesMail call items before result events after → StaysInEpoch before.machine after.machine
 changes_stay call items before result events after (Committed came mid does goes settles stands is) =
-    stays_both before.machine mid.machine after.machine (does_stay call items before mid came events does) (settled_stays mid after [] settles)
+    stays_both before.machine mid.machine after.machine (course_stays call items before mid came events does) (settled_stays mid after [] settles)
 changes_stay call items before result events after (SpentBy came mid spent doing ending does goes settles why hangs whole is error) =
-    stays_both before.machine mid.machine after.machine (does_stay call items before mid came doing does)
+    stays_both before.machine mid.machine after.machine (course_stays call items before mid came doing does)
     (stays_both mid.machine spent.machine after.machine (settled_stays mid spent [] settles) (stays_same spent.machine after.machine (machine_is _ after is)))
 changes_stay call items before result events after (FailedInPart mid doing ending does hangs whole is error) =
-    stays_both before.machine mid.machine after.machine (does_stay call items before mid _ doing does) (stays_same mid.machine after.machine (machine_is _ after is))
+    stays_both before.machine mid.machine after.machine (course_stays call items before mid _ doing does) (stays_same mid.machine after.machine (machine_is _ after is))

@@ -1,6 +1,10 @@
 mod Doing
+mod Course
+mod Taking
+mod Seeking
 mod Settling
-mod Ends
+pub mod Ends
+pub mod Through
 mod Telling
 pub mod Keeping
 mod Replying

@@ -31,7 +31,8 @@ use Rattle.set_calls.specs.Calls.{SetCall}
 use Rattle.set_replies.specs.Created.{created_with}
 use Rattle.set_replies.specs.Replies.{set_reply}
 use Rattle.set_replies.specs.States.{place_of}
-use Rattle.gate_changes.specs.Changing.{ChangesMail, Committed, SpentBy, FailedInPart, LacksChange, where_committed, ItemsCame}
+use Rattle.gate_changes.specs.Changing.{ChangesMail, Committed, SpentBy, FailedInPart, LacksChange, where_committed}
+use Rattle.gate_changes.specs.Items.{ItemsCame}
 use Rattle.gate_changes.specs.Answering.{ChangeState, ItemChecks, call_of, is_current, Replies, Fails, Mismatch, Changes, BeforeItems, Meanwhile, Unanswered}
 use Rattle.gate_changes.specs.reading.Answers.{AnswersTo, IsServed, error_of}
 use Rattle.gate_changes.specs.reading.Asking.{ChangesTo, IsOver}

@@ -23,9 +23,10 @@ use Rattle.set_calls.specs.Calls.{SetCall}
 use Rattle.set_calls.specs.declared.call.CallEnd.{CallEnd}
 use Rattle.set_calls.specs.declared.call.CallEnd.TheVariants as ends
 use Rattle.set_calls.specs.reading.Calling.{came_data, done_data}
-use Rattle.gate_changes.specs.Changing.{DoesItemsOver, GoesToCommit, ItemsCame, Committed, SpentBy, FailedInPart, InItems, InCommit, broken_off}
-use Rattle.gate_changes.specs.reading.Asking.{ChangesTo}
-use Rattle.gate_changes.proofs.Ends.{ends_either, unavailable_only}
+use Rattle.gate_changes.specs.Changing.{DoesCourse, GoesToCommit, Committed, SpentBy, FailedInPart, InItems, InCommit, broken_off}
+use Rattle.gate_changes.specs.Items.{ItemsCame}
+use Rattle.gate_changes.specs.reading.Asking.{ChangesTo, IsLeft}
+use Rattle.gate_changes.proofs.Ends.{course_either, unavailable_only}
 
 -- ---- the commit
 
@@ -37,12 +38,12 @@ unserved_spent why (Spends new spent none is) un = ap (λ (p : Progress). p.stan
 unserved_spent why (Lacks stands none is) un = absurd (cc (sym (ap (λ (p : Progress). p.standing) is) ∙ un))
 
 module _ (call : SetCall) (items : List spec.Item) (before mid : Progress) (doing : List Event) (was : Faults) where
-  with_none : {came : ItemsCame} → DoesItemsOver call items before came doing mid → DoesItemsOver call items before came (doing ++ []) mid
-  with_none {came} does = subst (λ (es : List Event). DoesItemsOver call items before came es mid) (sym (append-nil doing)) does
+  with_none : {came : ItemsCame} → DoesCourse call items before came doing mid → DoesCourse call items before came (doing ++ []) mid
+  with_none {came} does = subst (λ (es : List Event). DoesCourse call items before came es mid) (sym (append-nil doing)) does
 
   -- it stands
   pub committed : (came : Result (Vec (Item × Done) Global) CallEnd) (machine : Machine) (client : ClientState) (now : Faults)
-      → DoesItemsOver call items before (came_data came) doing mid → GoesToCommit (came_data came)
+      → DoesCourse call items before (came_data came) doing mid → GoesToCommit (came_data came)
       → (p : Progress) × Settles mid [] p × CameTo machine client standing.Stands was now p
       → ChangesTo call items before came machine client standing.Stands was now (doing ++ [])
   committed (Ok done) machine client now does goes (p, settles, at) = record {
@@ -59,7 +60,7 @@ module _ (call : SetCall) (items : List spec.Item) (before mid : Progress) (doin
 
   -- a place would pass the last one
   pub spent_by : (came : ItemsCame) (result : Result (Vec (Item × Done) Global) CallEnd) (machine : Machine) (client left : ClientState) (why : MailFailure) (how : MailStatus) (now last : Faults) (ending : List Event)
-      → DoesItemsOver call items before came doing mid → GoesToCommit came → (p : Progress) × Settles mid [] p × CameTo machine client (standing.Unserved why) was now p
+      → DoesCourse call items before came doing mid → GoesToCommit came → (p : Progress) × Settles mid [] p × CameTo machine client (standing.Unserved why) was now p
       → result ≡ Err (ends.Fails ServerFail)
       → ((p : Progress) → CameTo machine client (standing.Unserved why) was now p → HangsUp (is_up p.left) ending × CameTo machine left how was last (broken_off p))
       → ChangesTo call items before result machine left how was last (doing ++ ending)
@@ -72,7 +73,7 @@ module _ (call : SetCall) (items : List spec.Item) (before mid : Progress) (doin
       })
 
   -- there is no memory for it
-  pub lacked : (came : ItemsCame) (machine : Machine) (client : ClientState) (now : Faults) → DoesItemsOver call items before came doing mid → GoesToCommit came
+  pub lacked : (came : ItemsCame) (machine : Machine) (client : ClientState) (now : Faults) → DoesCourse call items before came doing mid → GoesToCommit came
       → (p : Progress) × Settles mid [] p × CameTo machine client standing.OutOfMemory was now p
       → ChangesTo call items before (Err ends.Memory) machine client standing.OutOfMemory was now (doing ++ [])
   lacked came machine client now does goes (p, settles, at) = record {
@@ -84,31 +85,31 @@ module _ (call : SetCall) (items : List spec.Item) (before mid : Progress) (doin
   -- ---- without a commit
 
   partly : (error : MethodError) (machine : Machine) (left : ClientState) (how : MailStatus) (last : Faults) (ending : List Event) → error ≡ ServerPartialFail
-      → DoesItemsOver call items before (Err (Ends error)) doing mid → HangsUp (is_up mid.left) ending → CameTo machine left how was last (broken_off mid)
+      → DoesCourse call items before (Err (Ends error)) doing mid → HangsUp (is_up mid.left) ending → CameTo machine left how was last (broken_off mid)
       → ChangesTo call items before (Err (ends.Fails error)) machine left how was last (doing ++ ending)
   partly error machine left how last ending is does hangs at = record {
     after = broken_off mid;
     changes =
-        FailedInPart mid doing ending (subst (λ (e : MethodError). DoesItemsOver call items before (Err (Ends e)) doing mid) is does) hangs refl refl
+        FailedInPart mid doing ending (subst (λ (e : MethodError). DoesCourse call items before (Err (Ends e)) doing mid) is does) hangs refl refl
         (ap (λ (e : MethodError). Err e) is);
     at = at;
   }
 
   -- the call failed in part
   pub failed_partly : (error : MethodError) (result : Result (Vec (Item × Done) Global) CallEnd) (machine : Machine) (left : ClientState) (how : MailStatus) (last : Faults) (ending : List Event) → (error ≡ ServerUnavailable → ⊥)
-      → DoesItemsOver call items before (Err (Ends error)) doing mid → result ≡ Err (ends.Fails error)
+      → DoesCourse call items before (Err (Ends error)) doing mid → result ≡ Err (ends.Fails error)
       → HangsUp (is_up mid.left) ending × CameTo machine left how was last (broken_off mid)
       → ChangesTo call items before result machine left how was last (doing ++ ending)
   failed_partly error result machine left how last ending other does is breaks =
       subst (λ (r : Result (Vec (Item × Done) Global) CallEnd). ChangesTo call items before r machine left how was last (doing ++ ending)) (sym is)
-      (elim (ends_either error does.runs) [
+      (elim (course_either error does) [
         | inl part ↦ partly error machine left how last ending part does breaks.0 breaks.1
         | inr same ↦ absurd (other same)
       ])
 
   -- there was no memory for the items
-  pub lacked_items : (machine : Machine) (client : ClientState) (now : Faults) → DoesItemsOver call items before (Err OutOfMemory) doing mid
-      → CameTo machine client standing.Stands was now mid
+  pub lacked_items : (machine : Machine) (client : ClientState) (now : Faults) → DoesCourse call items before (Err OutOfMemory) doing mid
+      → IsLeft mid client was now
       → ChangesTo call items before (Err ends.Memory) (unready machine) client standing.OutOfMemory was now (doing ++ [])
   lacked_items machine client now does at = record {
     after = out_of_memory mid;

@@ -16,7 +16,7 @@ use Rattle.set_items.specs.Ends.{item_end}
 use Rattle.set_items.specs.Items.{item_at, item_start}
 use Rattle.set_items.specs.Talks.{ending_of, has_changed}
 use Rattle.set_calls.specs.Calls.{SetCall, CallState, StepsItem, TakesItem, Refused, Stepped, DoesItems, NoItems, MoreItems, RunsItems, AllDone, Stopped, Wanting, call_begun}
-use Rattle.gate_changes.specs.Changing.{ItemsCame}
+use Rattle.gate_changes.specs.Items.{ItemsCame}
 
 -- this mail is what was told for the call, from this mail on
 abbrev TellsFrom : Mail → CallState → Type 0

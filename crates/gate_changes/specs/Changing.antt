@@ -1,49 +1,32 @@
 -- The items of a changing call over what the machine knows, then one commit (RFC 8620 sections 3.6.2 and 5.3).
-use Rattle.std.specs.Prelude.{◌≡◌, ◌≢◌, ◌++◌, List, [], Option, Some, None, Result, Ok, Err}
+use Rattle.std.specs.Prelude.{◌≡◌, ◌++◌, ℕ, false, List, [], Option, Some, None, Result, Ok, Err}
 use Rattle.gate_world.specs.declared.event.Event.{Event}
-use Rattle.told_mail.specs.Told.{Told}
 use Rattle.imap_exchange.specs.Answering.{HangsUp}
 use Rattle.imap_client.specs.LinkLife.{LinkLife, hung_up}
-use Rattle.imap_client.specs.Rounds.{CountsOn}
 use Rattle.jmap_arguments.specs.declared.method_error.MethodError.{MethodError}
 use Rattle.jmap_arguments.specs.declared.method_error.MethodError.TheVariants.{ServerUnavailable, ServerPartialFail, ServerFail}
 use Rattle.gate_machine.specs.Beginning.{Settles}
-use Rattle.gate_machine.specs.History.{KnownMail}
-use Rattle.gate_machine.specs.Machine.{hearing}
-use Rattle.gate_machine.specs.Progress.{Progress, blame_link, is_up, out_of_memory}
+use Rattle.gate_machine.specs.Progress.{Progress, is_up, out_of_memory}
 use Rattle.gate_machine.specs.declared.mail_status.MailFailure.TheVariants as failure
 use Rattle.gate_machine.specs.declared.mail_status.MailStatus.TheVariants as standing
 use Rattle.set_jobs.specs.declared.done.Done.{Done}
 use Rattle.set_order.specs.Ordered.{Item}
-use Rattle.set_items.specs.declared.item.ItemEnd.{ItemEnd}
+use Rattle.set_methods.specs.Checks.{ImportRules, Rules}
 use Rattle.set_items.specs.declared.item.ItemEnd.TheVariants.{Ends, OutOfMemory}
-use Rattle.set_items.specs.Talks.{AllReadKnown}
-use Rattle.set_calls.specs.Calls.{SetCall, CallState, RunsItems, call_begun}
+use Rattle.set_calls.specs.Calls.{SetCall}
+use Rattle.gate_changes.specs.Importing.{DoesImports}
+use Rattle.gate_changes.specs.Items.{DoesItemsOver, ItemsCame}
 
--- what its items came to, or how one of them ended the call
-abbrev pub ItemsCame : Type 0
-ItemsCame = Result (List (Item × Done)) ItemEnd
+-- items whose steps are known, or made of what is drawn, once they pass their checks
+abbrev pub AreInRow : Rules → Type 0
+AreInRow (ImportRules uploads) = ⊥
+AreInRow rules = Unit {0}
 
--- The items of the call, over the history that is served, the mail that is told and what is left of the life, which may have ended. The machine is told
--- each exchange that is completed, unless memory runs out; it counts no change where each was of a command that reads, and told what was known already.
-pub record DoesItemsOver (call : SetCall) (items : List Item) (before : Progress) (came : ItemsCame) (events : List Event) (after : Progress) : Type 0 where
-  pub known : KnownMail
-  pub life : LinkLife
-  pub now : CallState
-  pub told : Told
-  pub stands : before.standing ≡ standing.Stands
-  pub ready : before.machine.known ≡ Some known
-  pub in_life : before.left ≡ Some life
-  pub served : call.history ≡ known.history
-  pub runs : RunsItems call items (call_begun known.told.mail life) came events now
-  pub told_is : told.mail ≡ now.mail
-  pub counts : CountsOn known.told told
-  pub counted : came ≢ Err OutOfMemory → AllReadKnown known.told.mail now.exchanges → told.changes ≡ known.told.changes
-  pub after_is : after ≡ record before {
-    machine = hearing before.machine known told;
-    left = Some now.life;
-    blamed = blame_link now.lost before.blamed;
-  }
+-- The items of a call are done: all of them in a row; or, where they are imports, each once its body was asked.
+pub data DoesCourse (call : SetCall) (items : List Item) (before : Progress) (came : ItemsCame) (events : List Event) (after : Progress) : Type 0 where
+  InRow : AreInRow call.rules → DoesItemsOver call items before came events after → DoesCourse call items before came events after
+  OneByOne : (uploads : List (List ℕ)) → call.rules ≡ ImportRules uploads → DoesImports call uploads false before items came events after
+      → DoesCourse call items before came events after
 
 -- it isn't one that failed in part, nor one for which there was no memory
 abbrev pub GoesToCommit : ItemsCame → Type 0
@@ -69,19 +52,19 @@ broken_off p = record p { standing = standing.Unserved failure.Broken; left = hu
 -- the store wasn't there.
 pub data ChangesMail (call : SetCall) (items : List Item) (before : Progress) (result : Result (List (Item × Done)) MethodError) (events : List Event)
     (after : Progress) : Type 0 where
-  Committed : (came : ItemsCame) (mid : Progress) → DoesItemsOver call items before came events mid → GoesToCommit came → Settles mid [] after
+  Committed : (came : ItemsCame) (mid : Progress) → DoesCourse call items before came events mid → GoesToCommit came → Settles mid [] after
       → after.standing ≡ standing.Stands → result ≡ where_committed came → ChangesMail call items before result events after
   -- a place would pass the last one, and the machine isn't ready
-  SpentBy : (came : ItemsCame) (mid spent : Progress) (doing ending : List Event) → DoesItemsOver call items before came doing mid → GoesToCommit came
+  SpentBy : (came : ItemsCame) (mid spent : Progress) (doing ending : List Event) → DoesCourse call items before came doing mid → GoesToCommit came
       → Settles mid [] spent → spent.standing ≡ standing.Unserved failure.Spent → HangsUp (is_up spent.left) ending → events ≡ doing ++ ending
       → after ≡ broken_off spent → result ≡ Err ServerFail → ChangesMail call items before result events after
-  FailedInPart : (mid : Progress) (doing ending : List Event) → DoesItemsOver call items before (Err (Ends ServerPartialFail)) doing mid
+  FailedInPart : (mid : Progress) (doing ending : List Event) → DoesCourse call items before (Err (Ends ServerPartialFail)) doing mid
       → HangsUp (is_up mid.left) ending → events ≡ doing ++ ending → after ≡ broken_off mid → result ≡ Err ServerPartialFail
       → ChangesMail call items before result events after
 
 -- Memory runs out: in the items, or in the commit.
 pub data LacksChange (call : SetCall) (items : List Item) (before : Progress) (events : List Event) (after : Progress) : Type 0 where
-  InItems : (mid : Progress) → DoesItemsOver call items before (Err OutOfMemory) events mid → after ≡ out_of_memory mid
+  InItems : (mid : Progress) → DoesCourse call items before (Err OutOfMemory) events mid → after ≡ out_of_memory mid
       → LacksChange call items before events after
-  InCommit : (came : ItemsCame) (mid : Progress) → DoesItemsOver call items before came events mid → GoesToCommit came → Settles mid [] after
+  InCommit : (came : ItemsCame) (mid : Progress) → DoesCourse call items before came events mid → GoesToCommit came → Settles mid [] after
       → after.standing ≡ standing.OutOfMemory → LacksChange call items before events after

@@ -17,16 +17,15 @@ ghost use Rattle.set_order.specs.Ordered.{Item as ItemData, ItemsOf, making};
 ghost use Rattle.set_order.specs.reading.Creating.{HasKeys};
 ghost use Rattle.set_order.specs.reading.Items.{item_data};
 ghost use Rattle.set_calls.specs.reading.Calling.{done_data};
-ghost use Rattle.set_methods.specs.reading.Choosing.{rules_of};
 ghost use Rattle.set_replies.specs.Created.{created_with};
 ghost use Rattle.set_replies.specs.Replies as replies;
 ghost use Rattle.set_replies.specs.States as states;
 ghost use Rattle.gate_changes.specs.Answering.{ChangeState, ItemChecks, call_of, is_current};
 ghost use Rattle.gate_changes.specs.reading.Answers as answers;
 ghost use Rattle.gate_changes.specs.reading.Answers.{AnswersTo, IsServed};
-ghost use Rattle.gate_changes.specs.reading.Asking.{ChangesTo};
+ghost use Rattle.gate_changes.specs.reading.Asking.{ChangesTo, call_rules};
 
-use crate::changing::{Changed, change_mail};
+use crate::changing::{CallChecks, Changed, change_mail};
 use gate_machine::{Machine, MailStatus};
 use gate_world::{Chance, Clock, Link};
 use imap_client::Client;
@@ -37,7 +36,6 @@ use serde_json::Value;
 use set_arguments::{SetAsked, SetMethod};
 use set_calls::CallEnd;
 use set_jobs::Done;
-use set_methods::SetChecks;
 use set_order::{Item, creation_ids, ordered_items};
 use set_replies::{is_at_state, put_created, set_reply};
 use std::alloc::{AllocError, Global};
@@ -77,7 +75,7 @@ fn place_of(method: SetMethod, state: &MailState) -> u64
     ensures { (h : MailHistory) → IsStateOf h state.now → result ≡ states.place_of method h }
 {
     match method {
-        SetMethod::EmailSet => state.list(MailType::Email).place(),
+        SetMethod::EmailSet | SetMethod::EmailImport => state.list(MailType::Email).place(),
         SetMethod::MailboxSet => state.list(MailType::Mailbox).place(),
     }
 }
@@ -189,13 +187,13 @@ fn answer_items<'k, L: Link + Clock + Chance>(
     method: SetMethod,
     before: u64,
     keys: &BTreeSet<&'k str>,
-    checks: SetChecks<'_>,
+    checks: CallChecks<'_>,
     items: &[Item<'k>],
     created: &mut CreatedIds,
 ) -> Answered
     requires { IsSome machine.old.known }
     ensures run { Adds (L.tape link.old) (L.tape link.new) (λ es. (all : ItemChecks) (a : SetAskedData) (h : MailHistory) (start : ChangeState) (was : Faults)
-        → all method a ≡ rules_of checks.entry → start.created ≡ created.old → before ≡ states.place_of method h → is_current method a h ≡ true
+        → all method a ≡ call_rules checks.entry → start.created ≡ created.old → before ≡ states.place_of method h → is_current method a h ≡ true
         → HasKeys keys.now (making a.create) → ItemsOf method start.created a (map item_data items.now) → IsServed h start.progress
         → CameTo machine.old client MailStatus.Stands was (L.faults link.old) start.progress
         → AnswersTo all method a h start result.answer created.new machine.new result.client result.status was (L.faults link.new) es) }
@@ -216,12 +214,12 @@ fn answer_current<L: Link + Clock + Chance>(
     link: &mut L,
     method: SetMethod,
     asked: &SetAsked<'_>,
-    checks: SetChecks<'_>,
+    checks: CallChecks<'_>,
     created: &mut CreatedIds,
 ) -> Answered
     requires { IsSome machine.old.known }
     ensures run { Adds (L.tape link.old) (L.tape link.new) (λ es. (all : ItemChecks) (h : MailHistory) (start : ChangeState) (was : Faults)
-        → all method (asked_data asked.now) ≡ rules_of checks.entry → start.created ≡ created.old → is_current method (asked_data asked.now) h ≡ true
+        → all method (asked_data asked.now) ≡ call_rules checks.entry → start.created ≡ created.old → is_current method (asked_data asked.now) h ≡ true
         → IsServed h start.progress → CameTo machine.old client MailStatus.Stands was (L.faults link.old) start.progress
         → AnswersTo all method (asked_data asked.now) h start result.answer created.new machine.new result.client result.status was (L.faults link.new) es) }
     ensures ready { result.status ≡ MailStatus.Stands → IsSome machine.new.known }
@@ -261,12 +259,12 @@ pub fn answer_change<L: Link + Clock + Chance>(
     link: &mut L,
     method: SetMethod,
     asked: &SetAsked<'_>,
-    checks: SetChecks<'_>,
+    checks: CallChecks<'_>,
     created: &mut CreatedIds,
 ) -> Answered
     requires { IsSome machine.old.known }
     ensures run { Adds (L.tape link.old) (L.tape link.new) (λ es. (all : ItemChecks) (h : MailHistory) (start : ChangeState) (was : Faults)
-        → all method (asked_data asked.now) ≡ rules_of checks.entry → start.created ≡ created.old → IsServed h start.progress
+        → all method (asked_data asked.now) ≡ call_rules checks.entry → start.created ≡ created.old → IsServed h start.progress
         → CameTo machine.old client MailStatus.Stands was (L.faults link.old) start.progress
         → AnswersTo all method (asked_data asked.now) h start result.answer created.new machine.new result.client result.status was (L.faults link.new) es) }
     ensures ready { result.status ≡ MailStatus.Stands → IsSome machine.new.known }

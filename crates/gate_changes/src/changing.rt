@@ -13,9 +13,12 @@ ghost use Rattle.set_calls.specs.Calls.{SetCall};
 ghost use Rattle.set_calls.specs.declared.call.CallEnd.TheVariants as ends;
 ghost use Rattle.set_calls.specs.reading.Calling.{came_data};
 ghost use Rattle.set_methods.specs.reading.Choosing.{rules_of};
-ghost use Rattle.gate_changes.specs.Changing.{DoesItemsOver, GoesToCommit, broken_off};
-ghost use Rattle.gate_changes.specs.reading.Asking.{ChangesTo, IsOver};
+ghost use Rattle.gate_changes.specs.Changing.{DoesCourse, GoesToCommit, broken_off};
+ghost use Rattle.gate_changes.specs.Items.{DoesItemsOver};
+ghost use Rattle.gate_changes.specs.reading.Asking.{ChangesTo, CourseCame, IsAtEnd, IsOver, call_rules};
 
+use crate::importing::import_items;
+use blob_store::BlobStore;
 use gate_machine::{Fetching, Machine, MailFailure, MailStatus};
 use gate_world::{Chance, Clock, Link};
 use imap_client::Client;
@@ -40,7 +43,19 @@ pub struct Changed<'k> {
     pub client: Client,
 }
 
-/// Does the items over what the machine serves, in the client's link life. The machine knows what they told.
+/// What the items of a call have to pass.
+#[derive(Clone, Copy)]
+pub enum CallChecks<'u> {
+    /// The checks of Email/set, or of Mailbox/set.
+    Set(SetChecks<'u>),
+    /// Those of Email/import.
+    Import {
+        /// Where blobs are sought, beside the Emails.
+        uploads: &'u BlobStore,
+    },
+}
+
+/// Does the items in a row over what the machine serves, in the client's link life. The machine knows what they told.
 fn do_items<'k, L: Link + Clock + Chance>(
     alloc: Global,
     machine: &mut Machine,
@@ -75,6 +90,39 @@ fn do_items<'k, L: Link + Clock + Chance>(
     (came, client)
 }
 
+/// Does the items over what the machine serves, in the client's link life: in a row, or, where they are imports, each once its body was
+/// asked.
+fn do_course<'k, L: Link + Clock + Chance>(
+    alloc: Global,
+    machine: &mut Machine,
+    client: Client,
+    link: &mut L,
+    created: &CreatedIds,
+    making: &BTreeSet<&'k str>,
+    checks: CallChecks<'_>,
+    items: &[Item<'k>],
+) -> (Result<Vec<(Item<'k>, Done)>, CallEnd>, Client)
+    requires { IsSome machine.old.known }
+    ensures run { Adds (L.tape link.old) (L.tape link.new) (λ es. (call : SetCall) (before : Progress) (was : Faults) → call.created ≡ created.now
+        → HasKeys making.now call.making → call.rules ≡ call_rules checks.entry → IsOver call before
+        → CameTo machine.old client MailStatus.Stands was (L.faults link.old) before
+        → CourseCame call (map item_data items.now) before result.0 machine.new result.1 was (L.faults link.new) es) }
+    ensures ready { IsSome machine.new.known }
+    ensures alone { LinkAlone (L.faults link.old) (L.faults link.new) }
+    ensures hidden { L.hidden link.new ≡ L.hidden link.old }
+{
+    match checks {
+        CallChecks::Set(checks) => {
+            do_items(alloc, machine, client, link, created, making, checks, items)
+        }
+        CallChecks::Import { uploads } => {
+            import_items(
+                alloc, machine, client, link, created, making, uploads, items,
+            )
+        }
+    }
+}
+
 /// The link life ends, and no later call of the request has the mail.
 fn break_off<'k, L: Link>(client: Client, link: &mut L, error: MethodError) -> Changed<'k>
     ensures run { Adds (L.tape link.old) (L.tape link.new) (λ es. (p : Progress) (machine : MachineKept) (how : MailStatus) (was : Faults)
@@ -103,7 +151,7 @@ fn commit<'k, L: Link>(
 ) -> Changed<'k>
     requires { IsSome machine.old.known }
     ensures run { Adds (L.tape link.old) (L.tape link.new) (λ es. (call : SetCall) (items : List ItemData) (before mid : Progress) (doing : List Event) (was : Faults)
-        → DoesItemsOver call items before (came_data came.entry) doing mid → GoesToCommit (came_data came.entry)
+        → DoesCourse call items before (came_data came.entry) doing mid → GoesToCommit (came_data came.entry)
         → CameTo machine.old client MailStatus.Stands was (L.faults link.old) mid
         → ChangesTo call items before result.came machine.new result.client result.status was (L.faults link.new) (doing ++ es)) }
     ensures ready { result.status ≡ MailStatus.Stands → IsSome machine.new.known }
@@ -135,7 +183,7 @@ fn finish_failed<'k, L: Link>(
 ) -> Changed<'k>
     requires { IsSome machine.old.known }
     ensures run { Adds (L.tape link.old) (L.tape link.new) (λ es. (call : SetCall) (items : List ItemData) (before mid : Progress) (doing : List Event) (was : Faults)
-        → DoesItemsOver call items before (came_data (Err (ends.Fails error))) doing mid
+        → DoesCourse call items before (came_data (Err (ends.Fails error))) doing mid
         → CameTo machine.old client MailStatus.Stands was (L.faults link.old) mid
         → ChangesTo call items before result.came machine.new result.client result.status was (L.faults link.new) (doing ++ es)) }
     ensures ready { result.status ≡ MailStatus.Stands → IsSome machine.new.known }
@@ -165,8 +213,7 @@ fn finish_ended<'k, L: Link>(
 ) -> Changed<'k>
     requires { IsSome machine.old.known }
     ensures run { Adds (L.tape link.old) (L.tape link.new) (λ es. (call : SetCall) (items : List ItemData) (before mid : Progress) (doing : List Event) (was : Faults)
-        → DoesItemsOver call items before (came_data (Err end)) doing mid
-        → CameTo machine.old client MailStatus.Stands was (L.faults link.old) mid
+        → DoesCourse call items before (came_data (Err end)) doing mid → IsAtEnd (Err end) machine.old client was (L.faults link.old) mid
         → ChangesTo call items before result.came machine.new result.client result.status was (L.faults link.new) (doing ++ es)) }
     ensures ready { result.status ≡ MailStatus.Stands → IsSome machine.new.known }
     ensures served { OnOk result.came (IsSome machine.new.known) }
@@ -195,8 +242,7 @@ fn finish<'k, L: Link>(
 ) -> Changed<'k>
     requires { IsSome machine.old.known }
     ensures run { Adds (L.tape link.old) (L.tape link.new) (λ es. (call : SetCall) (items : List ItemData) (before mid : Progress) (doing : List Event) (was : Faults)
-        → DoesItemsOver call items before (came_data came.entry) doing mid
-        → CameTo machine.old client MailStatus.Stands was (L.faults link.old) mid
+        → DoesCourse call items before (came_data came.entry) doing mid → IsAtEnd came.entry machine.old client was (L.faults link.old) mid
         → ChangesTo call items before result.came machine.new result.client result.status was (L.faults link.new) (doing ++ es)) }
     ensures ready { result.status ≡ MailStatus.Stands → IsSome machine.new.known }
     ensures served { OnOk result.came (IsSome machine.new.known) }
@@ -218,12 +264,12 @@ pub fn change_mail<'k, L: Link + Clock + Chance>(
     link: &mut L,
     created: &CreatedIds,
     making: &BTreeSet<&'k str>,
-    checks: SetChecks<'_>,
+    checks: CallChecks<'_>,
     items: &[Item<'k>],
 ) -> Changed<'k>
     requires { IsSome machine.old.known }
     ensures run { Adds (L.tape link.old) (L.tape link.new) (λ es. (call : SetCall) (before : Progress) (was : Faults) → call.created ≡ created.now
-        → HasKeys making.now call.making → call.rules ≡ rules_of checks.entry → IsOver call before
+        → HasKeys making.now call.making → call.rules ≡ call_rules checks.entry → IsOver call before
         → CameTo machine.old client MailStatus.Stands was (L.faults link.old) before
         → ChangesTo call (map item_data items.now) before result.came machine.new result.client result.status was (L.faults link.new) es) }
     ensures ready { result.status ≡ MailStatus.Stands → IsSome machine.new.known }
@@ -231,6 +277,6 @@ pub fn change_mail<'k, L: Link + Clock + Chance>(
     ensures alone { LinkAlone (L.faults link.old) (L.faults link.new) }
     ensures hidden { L.hidden link.new ≡ L.hidden link.old }
 {
-    let (came, client) = do_items(alloc, machine, client, link, created, making, checks, items);
+    let (came, client) = do_course(alloc, machine, client, link, created, making, checks, items);
     finish(machine, client, link, came)
 }

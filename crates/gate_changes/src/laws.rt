@@ -1,5 +1,5 @@
 //! What the definitions of changing calls over a machine promise, as clauses of functions that do nothing.
-ghost use Rattle.std.specs.Prelude.{◌≡◌, ◌≢◌, ℕ, List, None, Result, Some, false};
+ghost use Rattle.std.specs.Prelude.{◌≡◌, ◌≢◌, ◌⊎◌, ℕ, List, None, Result, Some, false};
 ghost use Rattle.gate_world.specs.declared.event.Event.{Event};
 ghost use Rattle.jmap_arguments.specs.declared.method_error.MethodError.{MethodError};
 ghost use Rattle.gate_machine.specs.Going.{HasGoneOn, MachineGoesOn};
@@ -14,7 +14,9 @@ ghost use Rattle.set_jobs.specs.declared.done.Done.{Done};
 ghost use Rattle.set_order.specs.Ordered.{Item};
 ghost use Rattle.set_calls.specs.Calls.{SetCall};
 ghost use Rattle.gate_changes.specs.Changing.{ChangesMail, LacksChange};
+ghost use Rattle.gate_changes.specs.ToldBodies.{ChangeTells, LacksChangeTells};
 
+use gate_machine::{kept_bodies_were_told, machines_know_what_was_told};
 use mail_state::laws::emails_have_their_messages;
 
 /// Over a call that changes mail the history that is served goes on; where there was no memory for it the machine isn't ready.
@@ -31,7 +33,9 @@ pub fn changes_come_of_exchanges()
         → ChangesMail call items before result events after → KnowsExchanges before.machine → KnowsExchanges after.machine }
     ensures lacks { (call : SetCall) (items : List Item) (before : Progress) (events : List Event) (after : Progress)
         → LacksChange call items before events after → KnowsExchanges before.machine → KnowsExchanges after.machine }
-{}
+{
+    machines_know_what_was_told();
+}
 
 /// Where later calls have the mail, the folder of each Email that is served is told.
 pub fn changes_tell_served_folders()
@@ -39,15 +43,18 @@ pub fn changes_tell_served_folders()
         → ChangesMail call items before result events after → KnowsExchanges before.machine → after.standing ≡ Stands → TellsServedFolders after.machine }
 {
     emails_have_their_messages();
+    machines_know_what_was_told();
 }
 
-/// The body of an Email that is kept after such a call was kept before it.
+/// The body of an Email that is kept after such a call was kept before it, or a fetch for an import told it.
 pub fn changes_keep_bodies()
     ensures changes { (call : SetCall) (items : List Item) (before : Progress) (result : Result (List (Item × Done)) MethodError) (events : List Event) (after : Progress)
-        → ChangesMail call items before result events after → (b : ℕ × List ℕ) → KeepsBody after.machine b → KeepsBody before.machine b }
+        (does : ChangesMail call items before result events after) → (b : ℕ × List ℕ) → KeepsBody after.machine b → KeepsBody before.machine b ⊎ ChangeTells does b }
     ensures lacks { (call : SetCall) (items : List Item) (before : Progress) (events : List Event) (after : Progress)
-        → LacksChange call items before events after → (b : ℕ × List ℕ) → KeepsBody after.machine b → KeepsBody before.machine b }
-{}
+        (lacks : LacksChange call items before events after) → (b : ℕ × List ℕ) → KeepsBody after.machine b → KeepsBody before.machine b ⊎ LacksChangeTells lacks b }
+{
+    kept_bodies_were_told();
+}
 
 /// Where later calls don't have the mail, the link life has ended.
 pub fn broken_calls_hang_up()

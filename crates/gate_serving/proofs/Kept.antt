@@ -13,10 +13,11 @@ use Rattle.set_order.specs.Ordered.{Item}
 use Rattle.gate_changes.specs.Answering as answering
 use Rattle.gate_changes.specs.Answering.{DoesChange, LacksAnswer}
 use Rattle.gate_changes.specs.Changing.{ChangesMail, LacksChange}
+use Rattle.gate_changes.specs.ToldBodies.{ChangeTells, LacksChangeTells}
 use Rattle.gate_calls.specs.Calling.{Asked, CallsState, DoesCall, Reads, Changes, DoesCalls, NoCalls, MoreCalls, ReadsInVain, ChangesInVain, LacksNext, AfterLast, InCall, LacksCalls}
 use Rattle.gate_calls.specs.ItemChecks.{item_checks}
 use Rattle.gate_calls.specs.Mailings.{Mailing}
-use Rattle.gate_calls.specs.ToldBodies.{CallTells, DoneTell, LacksTells}
+use Rattle.gate_calls.specs.ToldBodies.{CallTells, DoneTell, LacksTells, LacksSetTells, SetTells}
 use Rattle.gate_machine.specs.Beginning.{PreparesMail}
 use Rattle.gate_machine.specs.Fetching.{AllAsked, CallsAsk}
 use Rattle.gate_machine.specs.History.{KnownMail}
@@ -43,12 +44,12 @@ abbrev pub CallsLaw : Type 0
 CallsLaw = (before : Progress) (asks : List BodyAsk) (events : List Event) (after : Progress) (calls : CallsAsk before asks events after)
     → (b : ℕ × List ℕ) → KeepsBody after.machine b → KeepsBody before.machine b ⊎ CallsTell calls b
 
--- of calls that change mail: they keep no body anew
+-- of calls that change mail: they keep what was kept, and what a fetch for an import told
 pub record ChangesLaw : Type 0 where
   pub changes : (call : SetCall) (items : List Item) (before : Progress) (result : Result (List (Item × Done)) MethodError) (events : List Event) (after : Progress)
-      → ChangesMail call items before result events after → (b : ℕ × List ℕ) → KeepsBody after.machine b → KeepsBody before.machine b
-  pub lacks : (call : SetCall) (items : List Item) (before : Progress) (events : List Event) (after : Progress) → LacksChange call items before events after
-      → (b : ℕ × List ℕ) → KeepsBody after.machine b → KeepsBody before.machine b
+      (does : ChangesMail call items before result events after) → (b : ℕ × List ℕ) → KeepsBody after.machine b → KeepsBody before.machine b ⊎ ChangeTells does b
+  pub lacks : (call : SetCall) (items : List Item) (before : Progress) (events : List Event) (after : Progress) (lacks : LacksChange call items before events after)
+      → (b : ℕ × List ℕ) → KeepsBody after.machine b → KeepsBody before.machine b ⊎ LacksChangeTells lacks b
 
 none_known : (k : KnownMail) → None ≡ Some k → ⊥
 none_known k is = cc
@@ -66,20 +67,20 @@ module _ (law : PreparedLaw) (calls : CallsLaw) (changing : ChangesLaw) (b : ℕ
   -- ---- calls
 
   change_keeps : {uploads : List (List ℕ)} {m : SetMethod} {d : Data} {mail : Mailing} {s t : CallsState} {result : Result Data MethodError} {events : List Event}
-      → DoesChange (item_checks uploads) m d mail s result events t → KeepsBody t.progress.machine b → KeepsBody s.progress.machine b
+      (does : DoesChange (item_checks uploads) m d mail s result events t) → KeepsBody t.progress.machine b → KeepsBody s.progress.machine b ⊎ SetTells does b
   change_keeps {s = s} {t = t} (answering.Refused e is result_is none same) keeps =
-      nothing_keeps s.progress t.progress (ap (λ (x : CallsState). x.progress) same) keeps
+      inl (nothing_keeps s.progress t.progress (ap (λ (x : CallsState). x.progress) same) keeps)
   change_keeps {s = s} {t = t} (answering.Untold a e is mail_is result_is none same) keeps =
-      nothing_keeps s.progress t.progress (ap (λ (x : CallsState). x.progress) same) keeps
+      inl (nothing_keeps s.progress t.progress (ap (λ (x : CallsState). x.progress) same) keeps)
   change_keeps {s = s} {t = t} (answering.Asked a h is mail_is (answering.Mismatch current result_is none same)) keeps =
-      nothing_keeps s.progress t.progress (ap (λ (x : CallsState). x.progress) same) keeps
+      inl (nothing_keeps s.progress t.progress (ap (λ (x : CallsState). x.progress) same) keeps)
   change_keeps {s = s} {t = t} {events = events} (answering.Asked a h is mail_is (answering.Changes items came current items_are does answers)) keeps =
       changing.changes _ items s.progress came events t.progress does b keeps
 
-  lacking_keeps : {uploads : List (List ℕ)} {m : SetMethod} {d : Data} {mail : Mailing} {s : CallsState} {events : List Event} {q : Progress} → LacksAnswer (item_checks uploads) m d mail s events q
-      → KeepsBody q.machine b → KeepsBody s.progress.machine b
-  lacking_keeps {s = s} {q = q} (answering.Unread none same) keeps = nothing_keeps s.progress q same keeps
-  lacking_keeps {s = s} {q = q} (answering.LacksIn a h is mail_is (answering.BeforeItems none same)) keeps = nothing_keeps s.progress q same keeps
+  lacking_keeps : {uploads : List (List ℕ)} {m : SetMethod} {d : Data} {mail : Mailing} {s : CallsState} {events : List Event} {q : Progress} (lacks : LacksAnswer (item_checks uploads) m d mail s events q)
+      → KeepsBody q.machine b → KeepsBody s.progress.machine b ⊎ LacksSetTells lacks b
+  lacking_keeps {s = s} {q = q} (answering.Unread none same) keeps = inl (nothing_keeps s.progress q same keeps)
+  lacking_keeps {s = s} {q = q} (answering.LacksIn a h is mail_is (answering.BeforeItems none same)) keeps = inl (nothing_keeps s.progress q same keeps)
   lacking_keeps {s = s} {events = events} {q = q} (answering.LacksIn a h is mail_is (answering.Meanwhile items current items_are lacks)) keeps =
       changing.lacks _ items s.progress events q lacks b keeps
   lacking_keeps {s = s} {events = events} {q = q} (answering.LacksIn a h is mail_is (answering.Unanswered items came current items_are does)) keeps =
@@ -89,7 +90,7 @@ module _ (law : PreparedLaw) (calls : CallsLaw) (changing : ChangesLaw) (b : ℕ
       {events : List Event} (does : DoesCall uses uploads earlier call s asks result events t) → KeepsBody t.progress.machine b
       → KeepsBody s.progress.machine b ⊎ CallTells does b
   call_keeps {s = s} {t = t} {events = events} (Reads bodies answers asked is created) keeps = calls s.progress bodies events t.progress (AllAsked asked) b keeps
-  call_keeps (Changes m d h named resolved told does asks_are) keeps = inl (change_keeps does keeps)
+  call_keeps (Changes m d h named resolved told does asks_are) keeps = change_keeps does keeps
 
   done_keep : {uses : Using} {uploads : List (List ℕ)} {s t : CallsState} {cs responses : List CallData} {asks : List Asked} {events : List Event}
       (does : DoesCalls uses uploads s cs asks responses events t) → KeepsBody t.progress.machine b → KeepsBody s.progress.machine b ⊎ DoneTell does b
@@ -103,7 +104,7 @@ module _ (law : PreparedLaw) (calls : CallsLaw) (changing : ChangesLaw) (b : ℕ
       (lacks : LacksNext uses uploads earlier mid events q later) → KeepsBody q.machine b → KeepsBody mid.progress.machine b ⊎ LacksTells lacks b
   next_keeps {mid = mid} {q = q} (AfterLast none is) keeps = inl (keeps_same mid.progress.machine q.machine (ap (λ (p : Progress). p.machine) is) keeps)
   next_keeps {mid = mid} {events = events} {q = q} (InCall (ReadsInVain tried asked due)) keeps = calls mid.progress tried events q asked b keeps
-  next_keeps (InCall (ChangesInVain m d h named resolved told lacks)) keeps = inl (lacking_keeps lacks keeps)
+  next_keeps (InCall (ChangesInVain m d h named resolved told lacks)) keeps = lacking_keeps lacks keeps
 
   lacks_keep : {uses : Using} {uploads : List (List ℕ)} {cs : List CallData} {s : CallsState} {events : List Event} {q : Progress}
       (lacks : LacksCalls uses uploads s cs events q) → KeepsBody q.machine b

@@ -9,7 +9,7 @@ use Rattle.gate_world.specs.declared.event.Event.{Event}
 use Rattle.told_folder.specs.declared.exchange.Exchange.{Exchange}
 use Rattle.told_mail.specs.Mail.{Mail}
 use Rattle.serde_json.specs.Data.{Data}
-use Rattle.email_bodies.specs.Asking.{BodyAsk}
+use Rattle.email_bodies.specs.Asking.{BodyAsk, unanswered}
 use Rattle.email_bodies.specs.declared.source.MessagePlace.{MessagePlace}
 use Rattle.jmap_arguments.specs.declared.method_error.MethodError.{MethodError}
 use Rattle.jmap_arguments.specs.declared.method_error.MethodError.TheVariants.{ServerPartialFail}
@@ -22,6 +22,10 @@ use Rattle.imap_client.specs.Bodies.{FetchesBody}
 use Rattle.imap_client.specs.LinkLife.{LinkLife, ClientState}
 use Rattle.imap_client.specs.Plans.{Planned, Follows}
 use Rattle.mail_state.specs.History.{MailHistory}
+use Rattle.email_bodies.specs.declared.error.BodyError.{BodyError}
+use Rattle.email_import.specs.Messages.{FindsMessage}
+use Rattle.email_import.specs.declared.ready.ReadyImport.{ReadyImport}
+use Rattle.email_import.proofs.FindLemmas.{lost}
 use Rattle.gate_machine.specs.Beginning.{Settles, Same, Moves, Spends, Lacks}
 use Rattle.gate_machine.specs.Fetching.{AsksBody, IsKept, IsTold, HasEnded, AsksBodies, NoBodies, MoreBodies, LacksBody, CallsAsk, AllAsked, RunsShort}
 use Rattle.gate_machine.specs.Fetching as fetching
@@ -33,6 +37,7 @@ use Rattle.gate_machine.proofs.Asking.{bodies_stay}
 use Rattle.set_arguments.specs.Arguments.{SetAsked}
 use Rattle.set_arguments.specs.declared.set_method.SetMethod.{SetMethod}
 use Rattle.set_jobs.specs.declared.done.Done.{Done}
+use Rattle.set_jobs.specs.declared.done.SetError.{SetError}
 use Rattle.set_jobs.specs.declared.job.Job.{Job}
 use Rattle.set_order.specs.Ordered.{Item}
 use Rattle.set_items.specs.declared.item.ItemEnd.{ItemEnd}
@@ -49,13 +54,18 @@ use Rattle.set_calls.specs.Promises.{ChecksFit}
 use Rattle.gate_changes.specs.Answering as answering
 use Rattle.gate_changes.specs.Answering.{DoesChange, call_of}
 use Rattle.gate_changes.specs.Changing as changing
-use Rattle.gate_changes.specs.Changing.{ChangesMail, DoesItemsOver, ItemsCame, LacksChange}
-use Rattle.gate_changes.proofs.Blaming.{BlamesTheLink, settled_blame}
+use Rattle.gate_changes.specs.Changing.{ChangesMail, DoesCourse, LacksChange}
+use Rattle.gate_changes.specs.Importing.{MakesSteps, NoBody, PreparesImport, RefusedAtOnce, Sought, TakesImport, BodyLost, Taken, NoRoom, DoesImports, NoImports, OutBefore, ImportDone, ImportEnds}
+use Rattle.gate_changes.specs.Importing.{before_these, one_came}
+use Rattle.gate_changes.specs.Items.{DoesItemsOver, ItemsCame}
+use Rattle.gate_changes.proofs.Blaming.{BlamesTheLink, does_blame, imports_blame, settled_blame}
 use Rattle.gate_changes.proofs.Keeping.{goes_well}
+use Rattle.call_laws.proofs.Fit.{ImportsFit, steps_fit}
 use Rattle.call_laws.proofs.Lives.{items_up, lost_before, lost_in, settled_left}
 use Rattle.gate_calls.specs.ItemChecks.{item_checks}
 use Rattle.gate_calls.specs.Calling.{AllAskedCome, AreDoneObeyed, AreStepsObeyed, Asked, Body, Committed, IsAskedCome, IsCallObeyed, IsChangeObeyed, IsLastObeyed}
-use Rattle.gate_calls.specs.Calling.{IsSetObeyed, asks_of, asks_of_change, asks_of_done, asks_of_items, done_ask, history_known}
+use Rattle.gate_calls.specs.Calling.{AreImportsObeyed, IsCourseObeyed, IsImportObeyed, IsPreparedObeyed, IsSetObeyed, asks_of, asks_of_change, asks_of_course, asks_of_done, asks_of_import, asks_of_imports, asks_of_items, done_ask, history_known}
+use Rattle.gate_calls.proofs.OneChange.{came_well, rest_well, still_out}
 use Rattle.gate_calls.proofs.Through.{one_through}
 use Rattle.gate_serving.specs.Complete.{served_by, served_last}
 use Rattle.gate_calls.specs.Calling.{CallsState, DoesCall, Reads, Changes, DoesCalls, NoCalls, MoreCalls}
@@ -97,6 +107,7 @@ pub record ObeyedLaws : Type 0 where
   pub plans : PlansLaw
   pub partly : PartlyLaw
   pub fit : FitLaw
+  pub imports : ImportsFit
   pub bodies : BodiesLaw
   pub fetches : FetchesLaw
   pub blames : BlamesLaw
@@ -228,6 +239,11 @@ fails_so law job call before after life left client ends events is =
     subst (λ (e : ItemEnd). (d : DoesItem job call before after life left client e events) → IsFit job → FailedPartly (ending_of call d.runs)) (sym is)
     (law job call before after life left client events)
 
+ended_so : (item : Item) (ends : ItemEnd) (done : List (Item × Done)) → one_came item ends ≡ Ok done → (x : Done) × (ends ≡ Comes x)
+ended_so item (Comes x) done is = (x, refl)
+ended_so item (Ends e) done is = absurd (cc)
+ended_so item OutOfMemory done is = absurd (cc)
+
 module _ (laws : ObeyedLaws) where
   -- an item that is obeyed ends its call only as memory runs out, unless a fault is blamed
   stops_out : {c : SetCall} {item : Item} {before after : CallState} {ends : ItemEnd} {events : List Event} (stops : StopsAt c item before ends events after)
@@ -263,39 +279,6 @@ module _ (laws : ObeyedLaws) where
       runs_come does.runs fit well obeyed (sym (ap is_up does.in_life) ∙ up)
       (none_lost does.now.lost before.blamed (sym (ap (λ (p : Progress). p.blamed) does.after_is) ∙ free))
 
-  change_comes : {call : SetCall} {items : List Item} {before after : Progress} {result : Result (List (Item × Done)) MethodError} {events : List Event}
-      (h : MailHistory) (does : ChangesMail call items before result events after) → ChecksFit call → IsChangeObeyed does → is_up before.left ≡ true → after.blamed ≡ no_faults
-      → AllCome h (asks_of_change does) after
-  change_comes {after = after} h (changing.Committed came mid does goes settles stands is) fit obeyed up free =
-      let known = settled_known settles stands in
-      let all = items_over does fit (goes_well came goes) obeyed up (sym (settled_blame settles) ∙ free) in
-      record {
-        come = All-push IsAskedCome (asks_of_items does.runs) (Committed (history_known after.machine.known)) all.come (commit_comes after.machine.known known.0 known.1);
-        here = record {
-          known = known.0;
-          ready = known.1;
-          stands = stands;
-          up = ap is_up (settled_left settles ∙ ap (λ (p : Progress). p.left) does.after_is) ∙ all.up;
-        };
-        moved_on = commit_served h (asks_of_items does.runs) after.machine.known known.0 known.1;
-      }
-  change_comes h (changing.SpentBy came mid spent doing ending does goes settles why hangs whole is error) fit obeyed up free = absurd obeyed
-  change_comes h (changing.FailedInPart mid doing ending does hangs whole is error) fit obeyed up free =
-      let all = items_over does fit (λ same. cc) obeyed up (sym (ap (λ (p : Progress). p.blamed) is) ∙ free) in
-      absurd (let never = all.came_is in cc)
-
-  -- ---- one call
-
-  set_comes : {uploads : List (List ℕ)} {m : SetMethod} {d : Data} {h : MailHistory} {s t : CallsState} {result : Result Data MethodError} {events : List Event}
-      (does : DoesChange (item_checks uploads) m d (Ok h) s result events t) → IsSetObeyed does → (here : IsUp s.progress) → t.progress.blamed ≡ no_faults
-      → AllCome here.known.history (asks_of does) t.progress
-  set_comes (answering.Refused e is result_is no_events same) obeyed here free = none_come (ap (λ (x : CallsState). x.progress) same) here
-  set_comes (answering.Untold a e is mail_is result_is no_events same) obeyed here free = none_come (ap (λ (x : CallsState). x.progress) same) here
-  set_comes (answering.Asked a h is mail_is (answering.Mismatch current result_is no_events same)) obeyed here free =
-      none_come (ap (λ (x : CallsState). x.progress) same) here
-  set_comes {m = m} {s = s} (answering.Asked a h is mail_is (answering.Changes items came current items_are does answers)) obeyed here free =
-      change_comes here.known.history does (laws.fit _ m a h s.created) obeyed here.up free
-
   body_up : {message : MessagePlace} {p q : Progress} {body : Option (List ℕ)} {events : List Event} → AsksBody message p body events q → is_up p.left ≡ true
       → IsSome body → is_up q.left ≡ true
   body_up (IsKept octets kept body_is none is) up came = ap (λ (x : Progress). is_up x.left) is ∙ up
@@ -309,6 +292,103 @@ module _ (laws : ObeyedLaws) where
   bodies_up NoBodies up all = up
   bodies_up (MoreBodies {asks = asks} next bodies) up all =
       let both = All-pop HasCome (asks ++ next.ask ∷ []) asks (Some next.ask) refl all in body_up next.asks (bodies_up bodies up both.0) both.1
+
+  -- ---- imports
+
+  -- what was asked for them came, and the link is up
+  abbrev pub CameUp : List Asked → Progress → Type 0
+  CameUp asks q = AllAskedCome asks × (is_up q.left ≡ true)
+
+  prepares_come : {call : SetCall} {uploads : List (List ℕ)} {item : Item} {p q : Progress} {bodies : List BodyAsk} {made : Option (Result Job SetError)} {events : List Event}
+      (prepares : PreparesImport call uploads item p bodies made events q) → IsPreparedObeyed prepares → is_up p.left ≡ true → q.blamed ≡ no_faults
+      → AllCame bodies × (is_up q.left ≡ true)
+  prepares_come (RefusedAtOnce here e is) obeyed up free = (All-nil HasCome, up)
+  prepares_come {p = p} {q = q} {bodies = bodies} (Sought here i found is finds asked makes) obeyed up free =
+      let all = laws.bodies p q bodies _ asked up obeyed free in (all, bodies_up asked up all)
+
+  not_there : {i : ReadyImport} {found : Result (Result (List ℕ) SetError) BodyError} {drawing : List Event} → MakesSteps i found None drawing
+      → (e : BodyError) × (found ≡ Err e)
+  not_there (NoBody e) = (e, refl)
+
+  -- no body is lost
+  never_lost : {call : SetCall} {uploads : List (List ℕ)} {item : Item} {p q : Progress} {bodies : List BodyAsk} {events : List Event}
+      → PreparesImport call uploads item p bodies None events q → AllCame bodies → ⊥
+  never_lost {call = call} {uploads = uploads} {bodies = bodies} (Sought here i found is finds asked makes) all =
+      let none = not_there makes in
+      let gone = lost call.history.numbered.rows uploads i bodies none.0
+      (subst (λ (r : Result (Result (List ℕ) SetError) BodyError). FindsMessage call.history.numbered.rows uploads i bodies r) none.1 finds) in
+      let one = subst (λ (l : List BodyAsk). AllCame l) gone.1 all in
+      none_came refl (All-pop HasCome (unanswered gone.0 ∷ []) [] (Some (unanswered gone.0)) refl one).1
+
+  import_comes : {call : SetCall} {uploads : List (List ℕ)} {item : Item} {p q : Progress} {bodies : List BodyAsk} {ends : ItemEnd} {events : List Event}
+      (takes : TakesImport call uploads item p bodies ends events q) → IsImportObeyed takes → ends ≢ OutOfMemory → is_up p.left ≡ true → q.blamed ≡ no_faults
+      → ((done : Done) × (ends ≡ Comes done)) × CameUp (asks_of_import takes) q
+  import_comes {q = q} (BodyLost prepares) obeyed there up free = absurd (never_lost prepares (prepares_come prepares obeyed up free).0)
+  import_comes {item = item} {q = q} {bodies = bodies} (Taken {mid = mid} steps ends prepares does) obeyed there up free =
+      let first = prepares_come prepares obeyed.0 up (unblamed_change mid q (does_blame does) free) in
+      let all = items_over does (steps_fit laws.imports prepares) (came_well item ends there) obeyed.1 first.1 free in (
+        ended_so item ends all.done all.came_is,
+        (
+          All-append IsAskedCome (map Body bodies) (asks_of_items does.runs) (All-map (λ (a : Asked). IsAskedCome a) Body bodies first.0) all.come,
+          ap is_up (ap (λ (x : Progress). x.left) does.after_is) ∙ all.up,
+        ),
+      )
+  import_comes (NoRoom lacks) obeyed there up free = absurd (there refl)
+
+  imports_come : {call : SetCall} {uploads : List (List ℕ)} {made : Bool} {items : List Item} {p q : Progress} {came : ItemsCame} {events : List Event}
+      (imports : DoesImports call uploads made p items came events q) → AreImportsObeyed imports → came ≢ Err OutOfMemory → is_up p.left ≡ true → q.blamed ≡ no_faults
+      → ((done : List (Item × Done)) × (came ≡ Ok done)) × CameUp (asks_of_imports imports) q
+  imports_come (NoImports here) obeyed there up free = (([], refl), (All-nil IsAskedCome, up))
+  imports_come (OutBefore here) obeyed there up free = absurd (there refl)
+  imports_come {q = q} (ImportDone {mid = mid} {came = came} item done takes rest) obeyed there up free =
+      let first = import_comes takes obeyed.0 (λ is. cc) up (unblamed_change mid q (imports_blame rest) free) in
+      let then = imports_come rest obeyed.1 (rest_well (item, done) came there) first.1.1 free in (
+        ((item, done) ∷ then.0.0, ap (before_these (item, done)) then.0.1),
+        (All-append IsAskedCome (asks_of_import takes) (asks_of_imports rest) first.1.0 then.1.0, then.1.1),
+      )
+  imports_come {made = made} (ImportEnds item ends not takes) obeyed there up free =
+      let so = import_comes takes obeyed (λ is. there (still_out made ends is)) up free in absurd (not so.0.0 so.0.1)
+
+  course_comes : {call : SetCall} {items : List Item} {p q : Progress} {came : ItemsCame} {events : List Event} (does : DoesCourse call items p came events q) → ChecksFit call
+      → came ≢ Err OutOfMemory → IsCourseObeyed does → is_up p.left ≡ true → q.blamed ≡ no_faults
+      → ((done : List (Item × Done)) × (came ≡ Ok done)) × CameUp (asks_of_course does) q
+  course_comes (changing.InRow row does) fit well obeyed up free =
+      let all = items_over does fit well obeyed up free in
+      ((all.done, all.came_is), (all.come, ap is_up (ap (λ (p : Progress). p.left) does.after_is) ∙ all.up))
+  course_comes (changing.OneByOne uploads rules imports) fit well obeyed up free = imports_come imports obeyed well up free
+
+  change_comes : {call : SetCall} {items : List Item} {before after : Progress} {result : Result (List (Item × Done)) MethodError} {events : List Event}
+      (h : MailHistory) (does : ChangesMail call items before result events after) → ChecksFit call → IsChangeObeyed does → is_up before.left ≡ true → after.blamed ≡ no_faults
+      → AllCome h (asks_of_change does) after
+  change_comes {after = after} h (changing.Committed came mid does goes settles stands is) fit obeyed up free =
+      let known = settled_known settles stands in
+      let all = course_comes does fit (goes_well came goes) obeyed up (sym (settled_blame settles) ∙ free) in
+      record {
+        come = All-push IsAskedCome (asks_of_course does) (Committed (history_known after.machine.known)) all.1.0 (commit_comes after.machine.known known.0 known.1);
+        here = record {
+          known = known.0;
+          ready = known.1;
+          stands = stands;
+          up = ap is_up (settled_left settles) ∙ all.1.1;
+        };
+        moved_on = commit_served h (asks_of_course does) after.machine.known known.0 known.1;
+      }
+  change_comes h (changing.SpentBy came mid spent doing ending does goes settles why hangs whole is error) fit obeyed up free = absurd obeyed
+  change_comes h (changing.FailedInPart mid doing ending does hangs whole is error) fit obeyed up free =
+      let all = course_comes does fit (λ same. cc) obeyed up (sym (ap (λ (p : Progress). p.blamed) is) ∙ free) in
+      absurd (let never = all.0.1 in cc)
+
+  -- ---- one call
+
+  set_comes : {uploads : List (List ℕ)} {m : SetMethod} {d : Data} {h : MailHistory} {s t : CallsState} {result : Result Data MethodError} {events : List Event}
+      (does : DoesChange (item_checks uploads) m d (Ok h) s result events t) → IsSetObeyed does → (here : IsUp s.progress) → t.progress.blamed ≡ no_faults
+      → AllCome here.known.history (asks_of does) t.progress
+  set_comes (answering.Refused e is result_is no_events same) obeyed here free = none_come (ap (λ (x : CallsState). x.progress) same) here
+  set_comes (answering.Untold a e is mail_is result_is no_events same) obeyed here free = none_come (ap (λ (x : CallsState). x.progress) same) here
+  set_comes (answering.Asked a h is mail_is (answering.Mismatch current result_is no_events same)) obeyed here free =
+      none_come (ap (λ (x : CallsState). x.progress) same) here
+  set_comes {m = m} {s = s} (answering.Asked a h is mail_is (answering.Changes items came current items_are does answers)) obeyed here free =
+      change_comes here.known.history does (laws.fit _ m a h s.created) obeyed here.up free
 
   pub bodies_come : {p q : Progress} {bodies : List BodyAsk} {asks : List Asked} {events : List Event} (asked : AsksBodies p bodies events q) → AreAsksObeyed asked
       → asks ≡ map Body bodies → (here : IsUp p) → q.blamed ≡ no_faults → AllCome here.known.history asks q

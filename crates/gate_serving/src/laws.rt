@@ -29,6 +29,7 @@ ghost use Rattle.gate_serving.specs.declared.outcomes.ClientOutcome.{ClientOutco
 
 use call_laws::items_are_fit;
 use email_get::laws::one_blob_found;
+use email_import::imports_append_once;
 use gate_calls::calls_have_one_course;
 use gate_changes::{
     changes_begin_over_mail, changes_blame_the_link, changes_come_of_exchanges,
@@ -63,6 +64,7 @@ pub fn obeyed_requests_answered()
     obeyed_bodies_come();
     obeyed_plans_end_ok();
     finished_lives_go_on();
+    imports_append_once();
     items_are_fit();
     items_end_by_their_causes();
     changes_blame_the_link();

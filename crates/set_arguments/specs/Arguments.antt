@@ -1,4 +1,4 @@
--- What Email/set and Mailbox/set ask, or the first refusal by their arguments (RFC 8620 section 5.3, RFC 8621 sections 2.5 and 4.6).
+-- What Email/set, Mailbox/set and Email/import ask, or the first refusal by their arguments (RFC 8620 section 5.3, RFC 8621 sections 2.5, 4.6 and 4.8).
 use Rattle.std.specs.Prelude.{ℕ, ◌+◌, nat_lt, Bool, true, false, List, [], ◌∷◌, length, codes, if◌then◌else◌, Option, Some, None, Result, Ok, Err, option_map, option_and_then}
 use Rattle.serde_json.specs.Data.{Data, null, boolean, string, array, object, Members, no_members, member}
 use Rattle.serde_json.specs.Find.{get, as_object, as_str}
@@ -8,7 +8,7 @@ use Rattle.jmap_arguments.specs.declared.method_error.MethodError.{MethodError}
 use Rattle.jmap_arguments.specs.declared.method_error.MethodError.TheVariants.{InvalidArguments, RequestTooLarge}
 use Rattle.set_arguments.specs.declared.arguments.TheConstants.{MAX_OBJECTS_IN_SET}
 use Rattle.set_arguments.specs.declared.set_method.SetMethod.{SetMethod}
-use Rattle.set_arguments.specs.declared.set_method.SetMethod.TheVariants.{EmailSet, MailboxSet}
+use Rattle.set_arguments.specs.declared.set_method.SetMethod.TheVariants.{EmailSet, MailboxSet, EmailImport}
 
 -- objects by key: those to be made by creation id, those to be changed by what names them
 abbrev pub Keyed : Type 0
@@ -33,6 +33,11 @@ keyed_in None = Some []
 keyed_in (Some null) = Some []
 keyed_in (Some (object ms)) = objects_in ms
 keyed_in (Some d) = None
+
+-- an object that has to be there
+abbrev pub keyed_there : Option Data → Option Keyed
+keyed_there (Some (object ms)) = objects_in ms
+keyed_there _ = None
 
 abbrev pub texts_or_none : Option Data → Option (List (List ℕ))
 texts_or_none None = Some []
@@ -61,18 +66,26 @@ account_asked d = option_map account_check (option_and_then as_str (get (codes "
 abbrev pub state_asked : Data → Option (Option (List ℕ))
 state_asked d = text_or_null (get (codes "ifInState") d)
 
-abbrev pub destroy_asked : Data → Option (List (List ℕ))
-destroy_asked d = texts_or_none (get (codes "destroy") d)
+-- an import makes Emails alone
+abbrev pub destroy_asked : SetMethod → Data → Option (List (List ℕ))
+destroy_asked EmailSet d = texts_or_none (get (codes "destroy") d)
+destroy_asked MailboxSet d = texts_or_none (get (codes "destroy") d)
+destroy_asked EmailImport d = Some []
 
 abbrev pub removes_asked : SetMethod → Data → Option Bool
 removes_asked EmailSet d = Some false
 removes_asked MailboxSet d = truth_or_null (get (codes "onDestroyRemoveEmails") d)
+removes_asked EmailImport d = Some false
 
-abbrev pub create_asked : Data → Option Keyed
-create_asked d = keyed_in (get (codes "create") d)
+abbrev pub create_asked : SetMethod → Data → Option Keyed
+create_asked EmailSet d = keyed_in (get (codes "create") d)
+create_asked MailboxSet d = keyed_in (get (codes "create") d)
+create_asked EmailImport d = keyed_there (get (codes "emails") d)
 
-abbrev pub update_asked : Data → Option Keyed
-update_asked d = keyed_in (get (codes "update") d)
+abbrev pub update_asked : SetMethod → Data → Option Keyed
+update_asked EmailSet d = keyed_in (get (codes "update") d)
+update_asked MailboxSet d = keyed_in (get (codes "update") d)
+update_asked EmailImport d = Some []
 
 abbrev pub count_asked : SetAsked → ℕ
 count_asked a = length a.create + (length a.update + length a.destroy)
@@ -90,7 +103,7 @@ asked_from (Some account) (Some state) (Some destroy) (Some removes) (Some creat
 asked_from _ _ _ _ _ _ = Err InvalidArguments
 
 abbrev pub asked_of : SetMethod → Data → Result SetAsked MethodError
-asked_of m d = asked_from (account_asked d) (state_asked d) (destroy_asked d) (removes_asked m d) (create_asked d) (update_asked d)
+asked_of m d = asked_from (account_asked d) (state_asked d) (destroy_asked m d) (removes_asked m d) (create_asked m d) (update_asked m d)
 
 -- each number in the arguments is an integer
 abbrev pub set_asked : SetMethod → Data → Result SetAsked MethodError

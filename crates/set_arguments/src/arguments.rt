@@ -1,4 +1,4 @@
-// What Email/set and Mailbox/set ask.
+// What Email/set, Mailbox/set and Email/import ask.
 ghost use Rattle.std.specs.Prelude.{◌≡◌, IfOk, map, nat_lt, option_map};
 ghost use Rattle.std.specs.Option.{option_copied};
 ghost use Rattle.serde_json.specs.Find.{get};
@@ -55,16 +55,74 @@ fn keyed_at<'a>(
     }
 }
 
-fn destroy_asked<'a>(
+/// The same, where an object has to stand at the key.
+fn keyed_there<'a>(
     alloc: Global,
     arguments: &'a Value,
-) -> Result<Option<Vec<&'a str>>, AllocError>
-    ensures { IfOk result (λ o. option_map (λ v. map (λ t. t.now) v.items) o ≡ spec.destroy_asked (view arguments.now)) }
+    key: &str,
+) -> Result<Option<Vec<Keyed<'a>>>, AllocError>
+    ensures objects { IfOk result (λ o. option_map (λ v. map keyed_data v.items) o ≡ spec.keyed_there (get key.now (view arguments.now))) }
+    ensures ascend { IfOk result AscendWhereThere }
 {
-    match arguments.get("destroy") {
+    match arguments.get(key) {
+        Some(Value::Object(members)) => Ok(objects_in(alloc, members)?),
+        _ => Ok(None),
+    }
+}
+
+/// What is to be made: of an import its `emails`, which have to be there.
+fn create_asked<'a>(
+    alloc: Global,
+    method: SetMethod,
+    arguments: &'a Value,
+) -> Result<Option<Vec<Keyed<'a>>>, AllocError>
+    ensures objects { IfOk result (λ o. option_map (λ v. map keyed_data v.items) o ≡ spec.create_asked method (view arguments.now)) }
+    ensures ascend { IfOk result AscendWhereThere }
+{
+    match method {
+        SetMethod::EmailSet | SetMethod::MailboxSet => keyed_at(alloc, arguments, "create"),
+        SetMethod::EmailImport => keyed_there(alloc, arguments, "emails"),
+    }
+}
+
+fn update_asked<'a>(
+    alloc: Global,
+    method: SetMethod,
+    arguments: &'a Value,
+) -> Result<Option<Vec<Keyed<'a>>>, AllocError>
+    ensures objects { IfOk result (λ o. option_map (λ v. map keyed_data v.items) o ≡ spec.update_asked method (view arguments.now)) }
+    ensures ascend { IfOk result AscendWhereThere }
+{
+    match method {
+        SetMethod::EmailSet | SetMethod::MailboxSet => keyed_at(alloc, arguments, "update"),
+        SetMethod::EmailImport => Ok(Some(Vec::new(alloc))),
+    }
+}
+
+fn texts_at<'a>(
+    alloc: Global,
+    arguments: &'a Value,
+    key: &str,
+) -> Result<Option<Vec<&'a str>>, AllocError>
+    ensures { IfOk result (λ o. option_map (λ v. map (λ t. t.now) v.items) o ≡ spec.texts_or_none (get key.now (view arguments.now))) }
+{
+    match arguments.get(key) {
         None | Some(Value::Null) => Ok(Some(Vec::new(alloc))),
         Some(Value::Array(items)) => texts_in(alloc, items),
         Some(_) => Ok(None),
+    }
+}
+
+fn destroy_asked<'a>(
+    alloc: Global,
+    method: SetMethod,
+    arguments: &'a Value,
+) -> Result<Option<Vec<&'a str>>, AllocError>
+    ensures { IfOk result (λ o. option_map (λ v. map (λ t. t.now) v.items) o ≡ spec.destroy_asked method (view arguments.now)) }
+{
+    match method {
+        SetMethod::EmailSet | SetMethod::MailboxSet => texts_at(alloc, arguments, "destroy"),
+        SetMethod::EmailImport => Ok(Some(Vec::new(alloc))),
     }
 }
 
@@ -94,7 +152,7 @@ fn removes_asked(method: SetMethod, arguments: &Value) -> Option<bool>
     ensures { result ≡ spec.removes_asked method (view arguments.now) }
 {
     match method {
-        SetMethod::EmailSet => Some(false),
+        SetMethod::EmailSet | SetMethod::EmailImport => Some(false),
         SetMethod::MailboxSet => truth_or_null(arguments.get("onDestroyRemoveEmails")),
     }
 }
@@ -141,10 +199,10 @@ fn asked_of<'a>(
 {
     let account = account_asked(arguments).ok_or(MethodError::InvalidArguments)?;
     let state = state_asked(arguments).ok_or(MethodError::InvalidArguments)?;
-    let destroy = destroy_asked(alloc, arguments)?.ok_or(MethodError::InvalidArguments)?;
+    let destroy = destroy_asked(alloc, method, arguments)?.ok_or(MethodError::InvalidArguments)?;
     let removes = removes_asked(method, arguments).ok_or(MethodError::InvalidArguments)?;
-    let create = keyed_at(alloc, arguments, "create")?.ok_or(MethodError::InvalidArguments)?;
-    let update = keyed_at(alloc, arguments, "update")?.ok_or(MethodError::InvalidArguments)?;
+    let create = create_asked(alloc, method, arguments)?.ok_or(MethodError::InvalidArguments)?;
+    let update = update_asked(alloc, method, arguments)?.ok_or(MethodError::InvalidArguments)?;
     let asked = SetAsked {
         state,
         create,

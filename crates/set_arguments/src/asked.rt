@@ -1,4 +1,4 @@
-// What an Email/set or a Mailbox/set asks.
+// What an Email/set, a Mailbox/set or an Email/import asks.
 ghost use Rattle.std.specs.Prelude.{IsTrue, map};
 ghost use Rattle.set_arguments.specs.reading.Keys.{ascends, keyed_data};
 

@@ -1,4 +1,5 @@
-//! What Email/set and Mailbox/set ask, or the refusal by their arguments (RFC 8620 section 5.3, RFC 8621 sections 2.5 and 4.6).
+//! What Email/set, Mailbox/set and Email/import ask, or the refusal by their arguments (RFC 8620 section 5.3, RFC 8621 sections 2.5, 4.6
+//! and 4.8).
 #![tactic(auto)]
 
 mod arguments;

@@ -7,4 +7,6 @@ pub enum SetMethod {
     EmailSet,
     /// Mailbox/set (RFC 8621 section 2.5).
     MailboxSet,
+    /// Email/import (RFC 8621 section 4.8).
+    EmailImport,
 }

@@ -1,3 +1,4 @@
 mod Ended
 mod Appends
+mod Known
 mod Steps

@@ -1,5 +1,5 @@
 // The items of a call, one after another.
-ghost use Rattle.std.specs.Prelude.{◌≡◌, ◌≢◌, Bool, Err, IfOk, Ok, OnOk, List, false, map};
+ghost use Rattle.std.specs.Prelude.{◌≡◌, ◌≢◌, ◌∷◌, [], Bool, Err, IfOk, Ok, OnOk, List, false, map};
 ghost use Rattle.gate_world.specs.Causes.{LinkAlone, NoFault, RoseBy};
 ghost use Rattle.gate_world.specs.Tape.{Adds};
 ghost use Rattle.told_mail.specs.Mail.{IsNextMail};
@@ -12,9 +12,9 @@ ghost use Rattle.set_given.specs.reading.Makings.{IsMade};
 ghost use Rattle.set_items.specs.declared.item.ItemEnd.TheVariants.{Comes, OutOfMemory};
 ghost use Rattle.set_items.specs.Ends.{any_change};
 ghost use Rattle.set_items.specs.Talks.{AllReadKnown};
-ghost use Rattle.set_methods.specs.Checks.{Checks};
+ghost use Rattle.set_methods.specs.Checks.{Checks, KnownSteps};
 ghost use Rattle.set_calls.specs.Calls.{CallState, RunsItems, SetCall, StepsItem, call_begun, given_at, made_with};
-ghost use Rattle.set_calls.specs.reading.Calling.{IsAt, IsCall, IsPreparedSo, ItemCame, Leaves, came_data, came_end};
+ghost use Rattle.set_calls.specs.reading.Calling.{IsAt, IsCall, IsPreparedSo, ItemCame, Leaves, came_data, came_end, one_came};
 
 use crate::call::{Call, CallEnd};
 use gate_world::{Chance, Clock, Link};
@@ -161,6 +161,34 @@ fn take_item<'k, L: Link + Clock + Chance>(
     match prepare_item(alloc, client, link, mirror, call, made, item)? {
         Ok(job) => do_steps(alloc, client, link, mirror, job, changed),
         Err(error) => Ok(Done::Not(error)),
+    }
+}
+
+/// What the one item of a call comes to whose steps are known, or why it is refused. Where the client isn't alive nothing is sent.
+pub fn take_known<L: Link>(
+    alloc: Global,
+    client: &mut Client,
+    link: &mut L,
+    mirror: &mut Mirror,
+    made: Result<Job, SetError>,
+) -> Result<Done, CallEnd>
+    ensures tape { Adds (L.tape link.old) (L.tape link.new) (λ es. (c : SetCall) (life : LinkLife) (item : ItemData) → c.rules ≡ KnownSteps made → Stands client.old life
+        → (after : CallState) × RunsItems c (item ∷ []) (call_begun mirror.old.mail life) (one_came item result) es after
+        × Stands client.new after.life × (after.mail ≡ mirror.new.mail)
+        × (one_came item result ≢ Err OutOfMemory → AllReadKnown mirror.old.mail after.exchanges → mirror.new.changes ≡ mirror.old.changes)
+        × RoseBy after.lost (L.faults link.old).link (L.faults link.new).link) }
+    ensures counts { CountsOn mirror.old mirror.new }
+    ensures next { IsNextMail mirror.old.mail mirror.new.mail }
+    ensures alone { LinkAlone (L.faults link.old) (L.faults link.new) }
+    ensures hidden { L.hidden link.new ≡ L.hidden link.old }
+{
+    mirror.each_is_mail();
+    match made {
+        Ok(job) => {
+            let mut changed = false;
+            do_steps(alloc, client, link, mirror, job, &mut changed)
+        }
+        Err(refusal) => Ok(Done::Not(refusal)),
     }
 }
 

@@ -6,5 +6,5 @@ mod items;
 mod laws;
 
 pub use call::{Call, CallEnd};
-pub use items::run_items;
+pub use items::{run_items, take_known};
 pub use laws::{calls_end_by_their_causes, no_append_is_repeated};

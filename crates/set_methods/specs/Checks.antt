@@ -1,4 +1,4 @@
--- What an item of each method has to pass before a command is sent for it, and what its steps are made of (RFC 8621 sections 2.5 and 4.6).
+-- What an item of each method has to pass before a command is sent for it, and what its steps are made of (RFC 8621 sections 2.5, 4.6 and 4.8).
 use Rattle.std.specs.Prelude.{◌≡◌, ℕ, ℤ, Bool, List, Option, Some, None, Result, Ok, Err}
 use Rattle.serde_json.specs.Data.{Members}
 use Rattle.set_jobs.specs.declared.done.SetError.{SetError}
@@ -19,11 +19,13 @@ use Rattle.set_methods.specs.declared.checks.Passed.TheVariants.{Steps, Drawing}
 
 -- ---- checks
 
--- whose checks the items of a call have to pass: those of Email/set, over these uploads; or those of Mailbox/set, by whether Emails may be removed with their
--- Mailbox
+-- whose checks the items of a call have to pass: those of Email/set, over these uploads; those of Mailbox/set, by whether Emails may be removed with their
+-- Mailbox; those of Email/import, whose blobs are sought among these uploads; or none, as the steps of its item are known, or why it is refused
 pub data Rules : Type 0 where
   EmailRules : List (List ℕ) → Rules
   MailboxRules : Bool → Rules
+  ImportRules : List (List ℕ) → Rules
+  KnownSteps : Result Job SetError → Rules
 
 -- an item of Email/set that isn't a creation; no Email waits for another
 abbrev pub check_other : Given → Item → Result Job SetError
@@ -49,11 +51,14 @@ ChecksNewEmail g uploads ms (Err e) = ChecksCreation g uploads ms (Err e)
 ChecksNewEmail g uploads ms (Ok (Steps job)) = ⊥
 ChecksNewEmail g uploads ms (Ok (Drawing ready)) = ChecksCreation g uploads ms (Ok ready)
 
--- What an item comes to by its checks: it is refused; or it passes, and its steps are known, or are made of a moment and a word that are to be drawn.
+-- What an item comes to by its checks: it is refused; or it passes, and its steps are known, or are made of a moment and a word that are to be drawn. An import
+-- comes to nothing by its checks alone: its octets are sought first.
 abbrev pub Checks : Rules → Given → Item → Result Passed SetError → Type 0
 Checks (EmailRules uploads) g (Create key ms) came = ChecksNewEmail g uploads ms came
 Checks (EmailRules uploads) g item came = came ≡ with_steps (check_other g item)
 Checks (MailboxRules removes) g item came = came ≡ with_steps (check_mailbox removes g item)
+Checks (ImportRules uploads) g item came = ⊥
+Checks (KnownSteps made) g item came = came ≡ with_steps made
 
 -- the item passes its checks, and its steps are made of this
 abbrev pub IsReady : Rules → Given → Item → ReadyCreation → Type 0

@@ -3,7 +3,7 @@ use Rattle.std.proofs.Common.{◌≡◌, ◌++◌, List, [], ap, ◌∙◌, appe
 use Rattle.jmap_core.specs.CreatedIds.{Ids}
 use Rattle.set_arguments.specs.Arguments.{SetAsked}
 use Rattle.set_arguments.specs.declared.set_method.SetMethod.{SetMethod}
-use Rattle.set_arguments.specs.declared.set_method.SetMethod.TheVariants.{EmailSet, MailboxSet}
+use Rattle.set_arguments.specs.declared.set_method.SetMethod.TheVariants.{EmailSet, MailboxSet, EmailImport}
 use Rattle.set_order.specs.Ordered.{Item, ItemsOf, updated_items, destroyed_items}
 use Rattle.set_order.specs.reading.Ordering.{AddsCreations}
 
@@ -24,3 +24,6 @@ items_of MailboxSet created a made updated items adds u d = record {
       joined made updated items (updated_items a.update) (destroyed_items created a) u d
       ∙ ap (λ (is : List Item). is ++ (updated_items a.update ++ destroyed_items created a)) adds.after_is;
 }
+items_of EmailImport created a made updated items adds u d =
+    joined made updated items (updated_items a.update) (destroyed_items created a) u d
+    ∙ ap (λ (is : List Item). is ++ (updated_items a.update ++ destroyed_items created a)) adds

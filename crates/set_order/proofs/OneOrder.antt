@@ -4,7 +4,7 @@ use Rattle.jmap_core.specs.CreatedIds.{Ids}
 use Rattle.set_arguments.specs.Arguments.{Keyed, SetAsked}
 use Rattle.set_order.specs.Ordered.{Item, Creation, Orders, AllWait, Goes, without_key, created_items, circle_items, later_items, MailboxItems, ItemsOf}
 use Rattle.set_arguments.specs.declared.set_method.SetMethod.{SetMethod}
-use Rattle.set_arguments.specs.declared.set_method.SetMethod.TheVariants.{EmailSet, MailboxSet}
+use Rattle.set_arguments.specs.declared.set_method.SetMethod.TheVariants.{EmailSet, MailboxSet, EmailImport}
 
 none_not_some : (c : Creation) → None ≡ Some c → ⊥
 none_not_some c e = absurd (cc)
@@ -40,3 +40,4 @@ mailbox_items created a items others i j =
 pub one_list : (m : SetMethod) (created : Ids) (a : SetAsked) (items others : List Item) → ItemsOf m created a items → ItemsOf m created a others → items ≡ others
 one_list EmailSet created a items others i j = i ∙ sym j
 one_list MailboxSet created a items others i j = mailbox_items created a items others i j
+one_list EmailImport created a items others i j = i ∙ sym j

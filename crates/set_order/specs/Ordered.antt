@@ -7,7 +7,7 @@ use Rattle.jmap_core.specs.CreatedIds.{Ids}
 use Rattle.set_order.specs.Creations.{creation_in, id_named}
 use Rattle.set_arguments.specs.Arguments.{Keyed, SetAsked}
 use Rattle.set_arguments.specs.declared.set_method.SetMethod.{SetMethod}
-use Rattle.set_arguments.specs.declared.set_method.SetMethod.TheVariants.{EmailSet, MailboxSet}
+use Rattle.set_arguments.specs.declared.set_method.SetMethod.TheVariants.{EmailSet, MailboxSet, EmailImport}
 
 pub data Item : Type 0 where
   -- under this creation id
@@ -97,3 +97,4 @@ pub record MailboxItems (created : Ids) (a : SetAsked) (items : List Item) : Typ
 abbrev pub ItemsOf : SetMethod → Ids → SetAsked → List Item → Type 0
 ItemsOf EmailSet created a items = items ≡ created_items a.create ++ later_items created a
 ItemsOf MailboxSet created a items = MailboxItems created a items
+ItemsOf EmailImport created a items = items ≡ created_items a.create ++ later_items created a

@@ -80,7 +80,7 @@ fn add_made<'a>(
     ensures { OnOk result (AddsCreations method (map keyed_data create.now.items) (map item_data items.old.items) (map item_data items.new.items)) }
 {
     match method {
-        SetMethod::EmailSet => add_creations(items, create),
+        SetMethod::EmailSet | SetMethod::EmailImport => add_creations(items, create),
         SetMethod::MailboxSet => add_in_order(alloc, items, create),
     }
 }

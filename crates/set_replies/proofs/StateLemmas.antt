@@ -17,7 +17,7 @@ use Rattle.set_replies.specs.States.{place_of}
 use Rattle.set_replies.specs.Lists.{Served}
 use Rattle.set_replies.specs.Replies.{served_after}
 use Rattle.set_arguments.specs.declared.set_method.SetMethod.{SetMethod}
-use Rattle.set_arguments.specs.declared.set_method.SetMethod.TheVariants.{EmailSet, MailboxSet}
+use Rattle.set_arguments.specs.declared.set_method.SetMethod.TheVariants.{EmailSet, MailboxSet, EmailImport}
 use Rattle.set_replies.specs.reading.Types.{AreApart, served_in, type_of}
 
 abbrev text_at : ℕ → ℕ → List ℕ
@@ -44,6 +44,7 @@ none_named epoch place text small none =
 pub place_is : (m : SetMethod) (h : MailHistory) (s : ServedState) → IsStateOf h s → (touches_kept s (type_of m)).place ≡ place_of m h
 place_is EmailSet h s of = of.emails.kept.place ∙ length-entries_from _ h.emails.touches
 place_is MailboxSet h s of = of.mailboxes.kept.place ∙ length-entries_from _ h.mailboxes.touches
+place_is EmailImport h s of = of.emails.kept.place ∙ length-entries_from _ h.emails.touches
 
 -- the rows serve what the history has
 pub served_is : (h : MailHistory) (s : ServedState) → IsStateOf h s → served_in s ≡ served_after h

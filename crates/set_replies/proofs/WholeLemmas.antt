@@ -17,6 +17,7 @@ use Rattle.read_methods.specs.declared.mailbox_property.MailboxProperty.TheVaria
 use Rattle.read_methods.specs.declared.mailbox_property.MailboxProperty.TheVariants.{UnreadEmails, TotalThreads, UnreadThreads, MyRights, IsSubscribed}
 use Rattle.read_methods.specs.declared.mailbox_property.MailboxProperty.TheVariants as property
 use Rattle.set_arguments.specs.declared.set_method.SetMethod.{SetMethod}
+use Rattle.set_arguments.specs.declared.set_method.SetMethod.TheVariants.{EmailSet, MailboxSet, EmailImport}
 use Rattle.set_jobs.specs.declared.done.Done.{Done}
 use Rattle.set_jobs.specs.declared.done.Done.TheVariants.{Made, MadeMailbox, Changed, Gone, Not}
 use Rattle.set_jobs.specs.declared.done.SetError.{SetError}
@@ -25,7 +26,7 @@ use Rattle.set_order.specs.Ordered.{Item, Create, Circle, Update, Destroy, item_
 use Rattle.set_replies.specs.Emails.{came_out, row_of_mark}
 use Rattle.set_replies.specs.Lists.{Lists, Served, id_of, keywords_told, listed, lists_of, lists_with, made_in, mailbox_made, message_made, no_lists, put_updated, refused_in}
 use Rattle.set_replies.specs.Refusals.{refusal_data}
-use Rattle.set_replies.specs.Replies.{list_or_null, object_or_null, served_after, set_data, set_reply}
+use Rattle.set_replies.specs.Replies.{list_or_null, object_or_null, import_data, reply_data, served_after, set_data, set_reply}
 use Rattle.set_replies.specs.States.{state_at, state_of}
 use Rattle.set_replies.specs.reading.Whole.{AreWhole}
 
@@ -180,6 +181,14 @@ data_whole old new l w = rw (
   whole_object l.updated w.updated,
 ) refl
 
+import_whole : (old new : List ℕ) (l : Lists) → AreWhole l → has_float (import_data old new l) ≡ false
+import_whole old new l w = rw (whole_object l.created w.created, whole_object l.not_created w.not_created) refl
+
+pub reply_data_whole : (m : SetMethod) (old new : List ℕ) (l : Lists) → AreWhole l → has_float (reply_data m old new l) ≡ false
+reply_data_whole EmailSet old new l w = data_whole old new l w
+reply_data_whole MailboxSet old new l w = data_whole old new l w
+reply_data_whole EmailImport old new l w = import_whole old new l w
+
 pub reply_whole : (m : SetMethod) (before : ℕ) (h : MailHistory) (done : List (Item × Done)) → has_float (set_reply m before h done) ≡ false
 reply_whole m before h done =
-    data_whole (state_at h.epoch before) (state_of m h) (lists_of m (served_after h) done) (whole_lists m (served_after h) no_lists done none_whole)
+    reply_data_whole m (state_at h.epoch before) (state_of m h) (lists_of m (served_after h) done) (whole_lists m (served_after h) no_lists done none_whole)

@@ -9,7 +9,7 @@ use Rattle.mail_maps.specs.Serve.{ServedMailbox}
 use Rattle.mail_maps.specs.declared.row.EmailRow.{EmailRow}
 use Rattle.read_methods.specs.Mailboxes.{mailbox_data, mailbox_properties}
 use Rattle.set_arguments.specs.declared.set_method.SetMethod.{SetMethod}
-use Rattle.set_arguments.specs.declared.set_method.SetMethod.TheVariants.{EmailSet, MailboxSet}
+use Rattle.set_arguments.specs.declared.set_method.SetMethod.TheVariants.{EmailSet, MailboxSet, EmailImport}
 use Rattle.set_jobs.specs.declared.done.Done.{Done}
 use Rattle.set_jobs.specs.declared.done.Done.TheVariants.{Made, MadeMailbox, Changed, Gone, Not}
 use Rattle.set_jobs.specs.declared.done.SetError.TheVariants.{NotFound}
@@ -66,6 +66,7 @@ put_updated id (Some d) ms = put id d ms
 abbrev pub letter_of : SetMethod → ℕ
 letter_of EmailSet = email_letter
 letter_of MailboxSet = mailbox_letter
+letter_of EmailImport = email_letter
 
 abbrev pub id_of : SetMethod → ℕ → List ℕ
 id_of m n = id_text (letter_of m) n

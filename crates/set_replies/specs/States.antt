@@ -4,12 +4,13 @@ use Rattle.jmap_arguments.specs.State.{state_text}
 use Rattle.mail_state.specs.History.{MailHistory}
 use Rattle.served_maps.specs.Past.{place_now}
 use Rattle.set_arguments.specs.declared.set_method.SetMethod.{SetMethod}
-use Rattle.set_arguments.specs.declared.set_method.SetMethod.TheVariants.{EmailSet, MailboxSet}
+use Rattle.set_arguments.specs.declared.set_method.SetMethod.TheVariants.{EmailSet, MailboxSet, EmailImport}
 
 -- the place of the method's type
 abbrev pub place_of : SetMethod → MailHistory → ℕ
 place_of EmailSet h = place_now h.emails
 place_of MailboxSet h = place_now h.mailboxes
+place_of EmailImport h = place_now h.emails
 
 abbrev pub state_at : ℕ → ℕ → List ℕ
 state_at epoch place = state_text (record { epoch = epoch; place = place })

@@ -1,5 +1,5 @@
-//! The reply of Email/set and Mailbox/set by what their items came to, and the ids of what was created (RFC 8620 section 5.3, RFC
-//! 8621 sections 2.5 and 4.6).
+//! The reply of Email/set, Mailbox/set and Email/import by what their items came to, and the ids of what was created (RFC 8620 section
+//! 5.3, RFC 8621 sections 2.5, 4.6 and 4.8).
 #![tactic(auto)]
 
 // The state that a call names.

@@ -42,7 +42,7 @@ fn letter_of(method: SetMethod) -> char
     ensures ascii { result < 128 }
 {
     match method {
-        SetMethod::EmailSet => EMAIL_LETTER,
+        SetMethod::EmailSet | SetMethod::EmailImport => EMAIL_LETTER,
         SetMethod::MailboxSet => MAILBOX_LETTER,
     }
 }

@@ -7,7 +7,7 @@ ghost use Rattle.mail_state.specs.LookUps.{touches_kept};
 ghost use Rattle.mail_state.specs.State.{IsStateOf};
 ghost use Rattle.set_replies.specs.Lists.{lists_of};
 ghost use Rattle.set_replies.specs.Replies as spec;
-ghost use Rattle.set_replies.specs.Replies.{set_data, set_reply};
+ghost use Rattle.set_replies.specs.Replies.{import_data, reply_data, set_data, set_reply};
 ghost use Rattle.set_replies.specs.States.{state_at};
 ghost use Rattle.set_replies.specs.reading.Items.{done_data};
 ghost use Rattle.set_replies.specs.reading.Listing.{lists_data};
@@ -59,6 +59,35 @@ fn set_value(alloc: Global, old: &str, new: &str, lists: ReplyLists) -> Result<V
     })
 }
 
+/// The reply of an import of these lists.
+fn import_value(alloc: Global, old: &str, new: &str, lists: ReplyLists) -> Result<Value, AllocError>
+    ensures { IfOk result (λ value. view value ≡ import_data old.now new.now (lists_data lists)) }
+{
+    json!(in alloc; {
+        "accountId": ACCOUNT_ID,
+        "created": object_or_null(lists.created),
+        "newState": new,
+        "notCreated": object_or_null(lists.not_created),
+        "oldState": old,
+    })
+}
+
+/// The reply of the method of these lists.
+fn reply_value(
+    alloc: Global,
+    method: SetMethod,
+    old: &str,
+    new: &str,
+    lists: ReplyLists,
+) -> Result<Value, AllocError>
+    ensures { IfOk result (λ value. view value ≡ reply_data method old.now new.now (lists_data lists)) }
+{
+    match method {
+        SetMethod::EmailSet | SetMethod::MailboxSet => set_value(alloc, old, new, lists),
+        SetMethod::EmailImport => import_value(alloc, old, new, lists),
+    }
+}
+
 /// The reply over the rows of the state.
 fn reply_over(
     alloc: Global,
@@ -67,7 +96,7 @@ fn reply_over(
     state: &MailState,
     done: &[(Item<'_>, Done)],
 ) -> Result<Value, AllocError>
-    ensures exact { AreApart state.now.rows.numbered.rows → IfOk result (λ value. view value ≡ set_data (state_at state.now.epoch before)
+    ensures exact { AreApart state.now.rows.numbered.rows → IfOk result (λ value. view value ≡ reply_data method (state_at state.now.epoch before)
         (state_at state.now.epoch (touches_kept state.now (type_of method)).place) (lists_of method (served_in state.now) (map done_data done.now))) }
     ensures whole { IfOk result (λ value. has_float (view value) ≡ false) }
 {
@@ -78,7 +107,7 @@ fn reply_over(
     };
     let old = state_text(alloc, old)?;
     let new = type_text(alloc, state, type_of(method))?;
-    set_value(alloc, old.as_str(), new.as_str(), lists)
+    reply_value(alloc, method, old.as_str(), new.as_str(), lists)
 }
 
 /// The reply of a call (RFC 8620 section 5.3) by what its items came to and the state after its commit. The type was at the place

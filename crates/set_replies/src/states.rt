@@ -17,7 +17,7 @@ pub(crate) fn type_of(method: SetMethod) -> MailType
     ensures { result ≡ type_of method }
 {
     match method {
-        SetMethod::EmailSet => MailType::Email,
+        SetMethod::EmailSet | SetMethod::EmailImport => MailType::Email,
         SetMethod::MailboxSet => MailType::Mailbox,
     }
 }

@@ -46,6 +46,11 @@ abbrev pub came_data : Result (Vec (Item × Done) Global) CallEnd → Result (Li
 came_data (Ok done) = Ok (map done_data done.items)
 came_data (Err e) = Err (call_end e)
 
+-- what the one item of a call came to
+abbrev pub one_came : spec.Item → Result Done CallEnd → Result (List (spec.Item × Done)) ItemEnd
+one_came item (Ok done) = Ok ((item, done) ∷ [])
+one_came item (Err e) = Err (call_end e)
+
 pub record IsCall (code : Call) (c : SetCall) : Type 0 where
   pub state : IsStateOf c.history code.state.now
   pub created : c.created ≡ code.created.now

@@ -4,7 +4,7 @@ use Rattle.std.specs.List.{list_any}
 use Rattle.jmap_arguments.specs.Arguments.{is_among}
 use Rattle.set_arguments.specs.Arguments.{Keyed}
 use Rattle.set_arguments.specs.declared.set_method.SetMethod.{SetMethod}
-use Rattle.set_arguments.specs.declared.set_method.SetMethod.TheVariants.{EmailSet, MailboxSet}
+use Rattle.set_arguments.specs.declared.set_method.SetMethod.TheVariants.{EmailSet, MailboxSet, EmailImport}
 use Rattle.set_order.specs.Ordered.{Item, Creation, Orders, parent_in, waits, making, created_items, circle_items}
 
 -- one of these that has the key and waits for none of them
@@ -38,3 +38,4 @@ pub record MakesInOrder (create : Keyed) (before after : List Item) : Type 0 whe
 abbrev pub AddsCreations : SetMethod → Keyed → List Item → List Item → Type 0
 AddsCreations EmailSet create before after = after ≡ before ++ created_items create
 AddsCreations MailboxSet create before after = MakesInOrder create before after
+AddsCreations EmailImport create before after = after ≡ before ++ created_items create

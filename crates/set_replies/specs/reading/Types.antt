@@ -13,11 +13,12 @@ use Rattle.mail_state.specs.declared.state.MailType.TheVariants as kind
 use Rattle.served_maps.specs.Past.{served}
 use Rattle.set_replies.specs.Lists.{Served}
 use Rattle.set_arguments.specs.declared.set_method.SetMethod.{SetMethod}
-use Rattle.set_arguments.specs.declared.set_method.SetMethod.TheVariants.{EmailSet, MailboxSet}
+use Rattle.set_arguments.specs.declared.set_method.SetMethod.TheVariants.{EmailSet, MailboxSet, EmailImport}
 
 abbrev pub type_of : SetMethod → MailType
 type_of EmailSet = kind.Email
 type_of MailboxSet = kind.Mailbox
+type_of EmailImport = kind.Email
 
 -- numbers ascend, and each mark is of one row, which knows its number
 pub record AreApart (rows : Rows) : Type 0 where

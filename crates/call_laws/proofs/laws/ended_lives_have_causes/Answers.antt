@@ -7,6 +7,8 @@ returns-clause-calls c uses uploads begun now calls responses asks events h does
       fetches = c.finished_lives_go_on.ensures.body;
       unavailable = λ uploads m a h created items mail life now events runs.
           c.calls_end_by_their_causes.ensures.unavailable _ items mail life now events (c.items_are_fit.ensures.fit uploads m a h created) runs;
+      known = λ fits items mail life now events runs. c.calls_end_by_their_causes.ensures.unavailable _ items mail life now events fits runs;
+      imports = c.imports_append_once.ensures.fit;
     }) h does up told over
 
 pub returns-clause-items : goal.returns-clause-items

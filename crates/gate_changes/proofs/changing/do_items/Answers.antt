@@ -8,7 +8,7 @@ use Rattle.imap_client.specs.LinkLife.{ClientState}
 use Rattle.set_calls.specs.reading.Calling.{came_data}
 use Rattle.set_order.specs.reading.Items.{item_data}
 use Rattle.std.proofs.Common.{map}
-use Rattle.gate_changes.specs.Changing.{DoesItemsOver}
+use Rattle.gate_changes.specs.Items.{DoesItemsOver}
 use Rattle.gate_changes.proofs.Doing.{in_life, items_done, source_is, state_is}
 use Rattle.gate_changes.proofs.changing.do_items.Goals as goal
 

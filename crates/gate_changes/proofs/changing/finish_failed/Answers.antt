@@ -3,7 +3,7 @@ use Rattle.gate_world.proofs.Joins.{widen}
 use Rattle.jmap_arguments.specs.declared.method_error.MethodError.{MethodError}
 use Rattle.gate_machine.specs.declared.mail_status.MailStatus.TheVariants.{Stands}
 use Rattle.set_items.specs.declared.item.ItemEnd.TheVariants.{Ends}
-use Rattle.gate_changes.specs.Changing.{DoesItemsOver}
+use Rattle.gate_changes.specs.Changing.{DoesCourse}
 use Rattle.gate_changes.proofs.Settling.{failed_partly}
 use Rattle.gate_changes.proofs.changing.finish_failed.Goals as goal
 
@@ -11,7 +11,7 @@ pub returns-in-ServerUnavailable-clause-run : goal.returns-in-ServerUnavailable-
 returns-in-ServerUnavailable-clause-run g c =
     widen _ c.commit.ensures.run (λ es commits call items before mid doing was does came.
     commits call items before mid doing was
-    (subst (λ (e : MethodError). DoesItemsOver call items before (Err (Ends e)) doing mid) c.in-ServerUnavailable.is does) tt came)
+    (subst (λ (e : MethodError). DoesCourse call items before (Err (Ends e)) doing mid) c.in-ServerUnavailable.is does) tt came)
 
 pub returns-in_default-clause-run : goal.returns-in_default-clause-run
 returns-in_default-clause-run g c =

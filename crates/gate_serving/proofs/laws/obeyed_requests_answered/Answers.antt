@@ -8,6 +8,7 @@ returns c =
       plans = c.obeyed_plans_end_ok.ensures;
       partly = c.items_end_by_their_causes.ensures.partly;
       fit = c.items_are_fit.ensures.fit;
+      imports = c.imports_append_once.ensures.fit;
       bodies = c.obeyed_bodies_come.ensures.come;
       fetches = c.finished_lives_go_on.ensures.body;
       blames = c.changes_blame_the_link.ensures.changes;

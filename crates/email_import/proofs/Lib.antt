@@ -1,0 +1,6 @@
+pub mod AskLemmas
+pub mod OrderLemmas
+pub mod MemberLemmas
+pub mod CheckLemmas
+pub mod FindLemmas
+pub mod LawLemmas
