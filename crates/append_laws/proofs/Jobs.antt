@@ -20,8 +20,20 @@ use Rattle.mailbox_checks.specs.Destroy.{destroy_mailbox, destroy_of}
 use Rattle.mailbox_checks.specs.Update.{update_mailbox, update_of}
 use Rattle.mailbox_laws.specs.Sent as mailbox
 use Rattle.set_items.specs.Commands.{IsNotMade, MakesNothing, appends_of}
-use Rattle.set_methods.specs.Checks.{Drawn, Prepares, Rules, EmailRules, MailboxRules, check_mailbox, with_steps}
+use Rattle.set_methods.specs.Checks.{Drawn, Prepares, Rules, EmailRules, MailboxRules, KnownSteps, check_mailbox, with_steps}
 use Rattle.set_methods.specs.declared.checks.Passed.TheVariants.{Drawing, Steps}
+use Rattle.set_arguments.specs.Arguments.{SetAsked}
+use Rattle.set_arguments.specs.declared.set_method.SetMethod.{SetMethod}
+use Rattle.set_arguments.specs.declared.set_method.SetMethod.TheVariants.{EmailSet, MailboxSet, EmailImport}
+use Rattle.gate_world.specs.declared.event.Event.{Event}
+use Rattle.email_bodies.specs.Asking.{BodyAsk}
+use Rattle.email_bodies.specs.declared.error.BodyError.{BodyError}
+use Rattle.email_import.specs.Messages.{import_job}
+use Rattle.email_import.specs.declared.ready.ReadyImport.{ReadyImport}
+use Rattle.gate_machine.specs.Progress.{Progress}
+use Rattle.set_calls.specs.Calls.{SetCall}
+use Rattle.gate_changes.specs.Importing.{ChecksItem, MakesSteps, NoBody, NoMessage, AtMoment, PreparesImport, RefusedAtOnce, Sought, given_over}
+use Rattle.gate_calls.specs.ItemChecks.{item_checks}
 use Rattle.append_laws.specs.Sent.{appends_allowed}
 use Rattle.append_laws.proofs.Boxes.{AreOther, IsNoMailbox, IsOther, others}
 use Rattle.append_laws.proofs.Made.{MakesNoMailbox}
@@ -35,6 +47,8 @@ pub record JobLaws : Type 0 where
   pub email_updates : (g : Given) (text : List ℕ) (patch : Members) (job : Job) (e : EmailFound) → email_named g text ≡ Some e → update_email g text patch ≡ Ok job
       → SendsWhatIsAsked g e (patch_in patch) job
   pub email_destroys : (g : Given) (text : List ℕ) (job : Job) (e : EmailFound) → email_named g text ≡ Some e → destroy_email g text ≡ Ok job → SendsDestroy g e job
+  pub import_appends : (i : ReadyImport) (now : ℤ) (message : List ℕ) → appends_of (import_job i now message).steps ≡ 1
+  pub import_makes : (i : ReadyImport) (now : ℤ) (message : List ℕ) → MakesNothing (import_job i now message)
   pub mailbox_create : (g : Given) (ms : Members) (job : Job) → create_mailbox g ms ≡ Ok job → appends_of job.steps ≡ 0
   pub mailbox_update : (g : Given) (text : List ℕ) (patch : Members) (job : Job) → update_mailbox g text patch ≡ Ok job → appends_of job.steps ≡ 0
   pub mailbox_destroy : (g : Given) (removes : Bool) (text : List ℕ) (job : Job) → destroy_mailbox g removes text ≡ Ok job → appends_of job.steps ≡ 0
@@ -152,15 +166,55 @@ module _ (laws : JobLaws) where
   mailbox_allowed removes g (Destroy text) job is =
       (at_most (appends_of job.steps) 0 (laws.mailbox_destroy g removes text job is), mailbox_gone g removes text job is (folder_to_destroy g text) refl is, tt)
 
+  import_allowed : (made : Result Job SetError) (key : List ℕ) (ms : Members) (i : ReadyImport) (now : ℤ) (message : List ℕ)
+      → IsAllowed (KnownSteps made) (Create key ms) (import_job i now message)
+  import_allowed made key ms i now message =
+      (at_most (appends_of (import_job i now message).steps) 1 (laws.import_appends i now message), laws.import_makes i now message, ((tt, tt), tt))
+
+  steps_allowed : {i : ReadyImport} {found : Result (Result (List ℕ) SetError) BodyError} {known : Option (Result Job SetError)} {drawing : List Event}
+      (made : Result Job SetError) (key : List ℕ) (ms : Members) (job : Job) → MakesSteps i found known drawing → known ≡ Some made → made ≡ Ok job
+      → IsAllowed (KnownSteps made) (Create key ms) job
+  steps_allowed made key ms job (NoBody e) is so = absurd (cc)
+  steps_allowed made key ms job (NoMessage e) is so = absurd (cc)
+  steps_allowed {i = i} made key ms job (AtMoment message now) is so =
+      let same : import_job i now message ≡ job = cc in
+      subst (λ (j : Job). IsAllowed (KnownSteps made) (Create key ms) j) same (import_allowed made key ms i now message)
+
+  -- only a creation passes as an import
+  is_creation : (g : Given) (item : Item) (i : ReadyImport) → ChecksItem g item (Ok i) → (key : List ℕ) × (ms : Members) × (item ≡ Create key ms)
+  is_creation g (Create key ms) i is = (key, ms, refl)
+  is_creation g (Circle key) i is = absurd (cc)
+  is_creation g (Update text patch) i is = absurd (cc)
+  is_creation g (Destroy text) i is = absurd (cc)
+
+  prepared_allowed : {call : SetCall} {uploads : List (List ℕ)} {item : Item} {p q : Progress} {asks : List BodyAsk} {known : Option (Result Job SetError)} {events : List Event}
+      (made : Result Job SetError) (job : Job) → PreparesImport call uploads item p asks known events q → known ≡ Some made → made ≡ Ok job
+      → IsAllowed (KnownSteps made) item job
+  prepared_allowed made job (RefusedAtOnce here e is) known so = absurd (cc)
+  prepared_allowed {item = item} made job (Sought here i found is finds asked makes) known so =
+      let creation = is_creation (given_over here) item i is in
+      subst (λ (x : Item). IsAllowed (KnownSteps made) x job) (sym creation.2) (steps_allowed made creation.0 creation.1 job makes known so)
+
+  -- an import that is prepared has such a job
+  pub known_allowed : {call : SetCall} {uploads : List (List ℕ)} {of : Item} {p q : Progress} {asks : List BodyAsk} {made : Result Job SetError} {events : List Event}
+      → PreparesImport call uploads of p asks (Some made) events q → (g : Given) (item : Item) (drawn : Option Drawn) (job : Job) → item ≡ of
+      → Prepares (KnownSteps made) g item drawn (Ok job) → IsAllowed (KnownSteps made) item job
+  known_allowed {made = made} prepares g item None job same is =
+      subst (λ (x : Item). IsAllowed (KnownSteps made) x job) (sym same) (prepared_allowed made job prepares refl (passed job made is))
+  known_allowed {made = made} prepares g item (Some drawn) job same (ready, checks, draws) = not_drawn ready made checks
+
   -- each item that passes has such a job
-  pub allowed : (rules : Rules) (g : Given) (item : Item) (drawn : Option Drawn) (job : Job) → Prepares rules g item drawn (Ok job) → IsAllowed rules item job
-  allowed (EmailRules uploads) g (Create key ms) None job is = absurd is
-  allowed (EmailRules uploads) g (Circle key) None job is = absurd (cc)
-  allowed (EmailRules uploads) g (Update text patch) None job is = update_allowed uploads g text patch job (passed job (update_email g text patch) is)
-  allowed (EmailRules uploads) g (Destroy text) None job is = destroy_allowed uploads g text job (passed job (destroy_email g text) is)
-  allowed (EmailRules uploads) g (Create key ms) (Some drawn) job (ready, checks, draws) = creation_allowed uploads key ms ready drawn job draws
-  allowed (EmailRules uploads) g (Circle key) (Some drawn) job (ready, checks, draws) = absurd (cc)
-  allowed (EmailRules uploads) g (Update text patch) (Some drawn) job (ready, checks, draws) = not_drawn ready (update_email g text patch) checks
-  allowed (EmailRules uploads) g (Destroy text) (Some drawn) job (ready, checks, draws) = not_drawn ready (destroy_email g text) checks
-  allowed (MailboxRules removes) g item None job is = mailbox_allowed removes g item job (passed job (check_mailbox removes g item) is)
-  allowed (MailboxRules removes) g item (Some drawn) job (ready, checks, draws) = not_drawn ready (check_mailbox removes g item) checks
+  pub allowed : (uploads : List (List ℕ)) (m : SetMethod) (a : SetAsked) (g : Given) (item : Item) (drawn : Option Drawn) (job : Job)
+      → Prepares (item_checks uploads m a) g item drawn (Ok job) → IsAllowed (item_checks uploads m a) item job
+  allowed uploads EmailSet a g (Create key ms) None job is = absurd is
+  allowed uploads EmailSet a g (Circle key) None job is = absurd (cc)
+  allowed uploads EmailSet a g (Update text patch) None job is = update_allowed uploads g text patch job (passed job (update_email g text patch) is)
+  allowed uploads EmailSet a g (Destroy text) None job is = destroy_allowed uploads g text job (passed job (destroy_email g text) is)
+  allowed uploads EmailSet a g (Create key ms) (Some drawn) job (ready, checks, draws) = creation_allowed uploads key ms ready drawn job draws
+  allowed uploads EmailSet a g (Circle key) (Some drawn) job (ready, checks, draws) = absurd (cc)
+  allowed uploads EmailSet a g (Update text patch) (Some drawn) job (ready, checks, draws) = not_drawn ready (update_email g text patch) checks
+  allowed uploads EmailSet a g (Destroy text) (Some drawn) job (ready, checks, draws) = not_drawn ready (destroy_email g text) checks
+  allowed uploads MailboxSet a g item None job is = mailbox_allowed a.removes g item job (passed job (check_mailbox a.removes g item) is)
+  allowed uploads MailboxSet a g item (Some drawn) job (ready, checks, draws) = not_drawn ready (check_mailbox a.removes g item) checks
+  allowed uploads EmailImport a g item None job is = absurd is
+  allowed uploads EmailImport a g item (Some drawn) job (ready, checks, draws) = absurd checks

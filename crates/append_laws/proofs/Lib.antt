@@ -5,3 +5,4 @@ mod Jobs
 mod Created
 mod Once
 mod Reading
+mod Lives

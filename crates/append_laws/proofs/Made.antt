@@ -16,7 +16,7 @@ use Rattle.set_items.specs.Talks.{DoesItem, ending_of, has_changed}
 use Rattle.set_items.specs.declared.item.ItemEnd.TheVariants.{Comes}
 use Rattle.set_items.specs.declared.stage.ItemStage.{ItemStage}
 use Rattle.set_items.specs.declared.stage.ItemStage.TheVariants.{Doing, Settled, Partly, Failing}
-use Rattle.set_methods.specs.Checks.{Rules, EmailRules, MailboxRules}
+use Rattle.set_methods.specs.Checks.{Rules, EmailRules, MailboxRules, ImportRules, KnownSteps}
 use Rattle.append_laws.specs.Sent.{IsMadeBy}
 use Rattle.append_laws.proofs.Boxes.{AreOther, IsNoMailbox, no_mailbox}
 use Rattle.append_laws.proofs.Sent.{AreAnswers}
@@ -45,10 +45,12 @@ settled Partly (Ok u) changed done is = absurd (cc)
 settled (Failing why) (Ok u) changed done is = absurd (cc)
 settled stage (Err e) changed done is = absurd (broken e changed done is)
 
--- the job of an item of Email/set selects no folder that was made, and is no Mailbox by itself
+-- but for Mailbox/set the job of an item selects no folder that was made, and is no Mailbox by itself
 abbrev pub MakesNoMailbox : Rules → Job → Type 0
 MakesNoMailbox (EmailRules uploads) job = AreOther job.steps × IsNoMailbox job.done
 MakesNoMailbox (MailboxRules removes) job = Unit {0}
+MakesNoMailbox (ImportRules uploads) job = AreOther job.steps × IsNoMailbox job.done
+MakesNoMailbox (KnownSteps known) job = AreOther job.steps × IsNoMailbox job.done
 
 -- a message is made by one of the item's own exchanges
 pub made : MadeByOne → AreAnswers → (rules : Rules) {job : Job} {call : List Exchange} {before after : Mail} {life left : LinkLife} {client : ClientState}
@@ -61,10 +63,22 @@ made by answers rules {job = job} {call = call} {before = before} {life = life} 
 made by answers (EmailRules uploads) {job = job} {call = call} {before = before} (MadeMailbox number) d nothing none =
     no_mailbox job before d.runs.exchanges (MadeMailbox number) none.0 none.1
     (settled (item_at (item_start job before) d.runs.exchanges).stage d.runs.result (has_changed (ending_of call d.runs)) (MadeMailbox number) d.ends_is)
+made by answers (ImportRules uploads) {job = job} {call = call} {before = before} (MadeMailbox number) d nothing none =
+    no_mailbox job before d.runs.exchanges (MadeMailbox number) none.0 none.1
+    (settled (item_at (item_start job before) d.runs.exchanges).stage d.runs.result (has_changed (ending_of call d.runs)) (MadeMailbox number) d.ends_is)
+made by answers (KnownSteps known) {job = job} {call = call} {before = before} (MadeMailbox number) d nothing none =
+    no_mailbox job before d.runs.exchanges (MadeMailbox number) none.0 none.1
+    (settled (item_at (item_start job before) d.runs.exchanges).stage d.runs.result (has_changed (ending_of call d.runs)) (MadeMailbox number) d.ends_is)
 made by answers (MailboxRules removes) (MadeMailbox number) d nothing none = tt
 made by answers (EmailRules uploads) (Changed number asked) d nothing none = tt
 made by answers (MailboxRules removes) (Changed number asked) d nothing none = tt
+made by answers (ImportRules uploads) (Changed number asked) d nothing none = tt
+made by answers (KnownSteps known) (Changed number asked) d nothing none = tt
 made by answers (EmailRules uploads) (Gone number) d nothing none = tt
 made by answers (MailboxRules removes) (Gone number) d nothing none = tt
+made by answers (ImportRules uploads) (Gone number) d nothing none = tt
+made by answers (KnownSteps known) (Gone number) d nothing none = tt
 made by answers (EmailRules uploads) (Not why) d nothing none = tt
 made by answers (MailboxRules removes) (Not why) d nothing none = tt
+made by answers (ImportRules uploads) (Not why) d nothing none = tt
+made by answers (KnownSteps known) (Not why) d nothing none = tt

@@ -1,5 +1,8 @@
 -- The APPENDs of items, calls, requests and runs: each statement by that of its parts.
-use Rattle.std.proofs.Common.{arith, ◌≤◌, ℕ, List, Option, Result, subst, sym}
+use Rattle.std.proofs.Common.{arith, ◌≡◌, ◌≤◌, ◌++◌, ℕ, Bool, List, [], ◌∷◌, Option, Result, Ok, refl, subst, sym}
+use Rattle.std.specs.List.{All}
+use Rattle.std.proofs.lemmas.List.{map-append}
+use Rattle.std.proofs.lemmas.List.Elements.{All-cons, All-head, All-nil, All-same, All-tail}
 use Rattle.gate_world.specs.declared.event.Event.{Event}
 use Rattle.serde_json.specs.Data.{Data}
 use Rattle.jmap_arguments.specs.declared.method_error.MethodError.{MethodError}
@@ -14,15 +17,19 @@ use Rattle.set_order.specs.Ordered.{Item}
 use Rattle.set_items.specs.Commands.{IsNotMade, appends_of}
 use Rattle.set_items.specs.Talks.{ending_of}
 use Rattle.set_items.specs.declared.item.ItemEnd.{ItemEnd}
-use Rattle.set_methods.specs.Checks.{Rules}
-use Rattle.set_calls.specs.Calls.{SetCall, CallState, StepsItem, TakesItem, Refused, Stepped, StopsAt, DoesItems, NoItems, MoreItems, given_at}
+use Rattle.set_given.specs.Given.{Given}
+use Rattle.email_bodies.specs.Asking.{BodyAsk}
+use Rattle.set_methods.specs.Checks.{Drawn, Prepares, Rules}
+use Rattle.set_calls.specs.Calls.{SetCall, CallState, StepsItem, TakesItem, Refused, Stepped, StopsAt, DoesItems, NoItems, MoreItems, given_at, items_of}
 use Rattle.set_calls.specs.Calls.{RunsItems, AllDone, Stopped, Wanting}
 use Rattle.gate_machine.specs.Machine.{MachineState}
 use Rattle.gate_machine.specs.Progress.{Progress}
 use Rattle.gate_changes.specs.Answering as answering
 use Rattle.gate_changes.specs.Answering.{ChangeState, ChangesAsked, DoesChange, LacksAsked, LacksAnswer}
 use Rattle.gate_changes.specs.Changing as changing
-use Rattle.gate_changes.specs.Changing.{ChangesMail, ItemsCame, LacksChange}
+use Rattle.gate_changes.specs.Changing.{ChangesMail, DoesCourse, LacksChange}
+use Rattle.gate_changes.specs.Importing.{DoesImports, NoImports, OutBefore, ImportDone, ImportEnds, TakesImport, BodyLost, Taken, NoRoom}
+use Rattle.gate_changes.specs.Items.{ItemsCame}
 use Rattle.gate_calls.specs.Calling.{Asked, CallsState, DoesCall, Reads, Changes, DoesCalls, NoCalls, MoreCalls, ReadsInVain, ChangesInVain, LacksNext, AfterLast, InCall}
 use Rattle.gate_calls.specs.ItemChecks.{item_checks}
 use Rattle.gate_calls.specs.Mailings.{Mailing}
@@ -38,12 +45,13 @@ use Rattle.gate_serving.specs.Run.{Run, Begun, Then}
 use Rattle.gate_serving.specs.Segment.{Replies, Answered, LacksReading, LacksAnswering, Segment, NoneComes, NotAccepted, Left, Unasked, Replied}
 use Rattle.append_laws.specs.Sent.{SendsAllowed, appends_allowed, appends_sent}
 use Rattle.append_laws.specs.Items.{DoneAppendOnce, ItemAppendsOnce, ItemsAppendOnce, LastAppendsOnce}
-use Rattle.append_laws.specs.Calls.{AskedAppendsOnce, CallAppendsOnce, CallsAppendOnce, ChangeAppendsOnce, LacksAskedOnce, LacksChangeOnce, LacksNextOnce, LacksSetOnce, SetAppendsOnce}
+use Rattle.append_laws.specs.Calls.{AskedAppendsOnce, CallAppendsOnce, CallsAppendOnce, ChangeAppendsOnce, CourseAppendsOnce, ImportAppendsOnce, ImportsAppendOnce, LacksAskedOnce, LacksChangeOnce, LacksNextOnce, LacksSetOnce, SetAppendsOnce}
 use Rattle.append_laws.specs.Runs.{DoesAppendOnce, ReplyAppendsOnce, RunAppendsOnce, SegmentAppendsOnce, WorkAppendsOnce}
 use Rattle.append_laws.proofs.Sent.{AppendOnce, AreAnswers, sent_most}
 use Rattle.append_laws.proofs.Made.{MadeByOne, made}
-use Rattle.append_laws.proofs.Jobs.{IsAllowed, JobLaws, allowed}
+use Rattle.append_laws.proofs.Jobs.{IsAllowed, JobLaws, allowed, known_allowed}
 use Rattle.append_laws.proofs.Created.{created_made}
+use Rattle.append_laws.proofs.Lives.{life_appends}
 
 -- what is proved of items
 pub record ItemLaws : Type 0 where
@@ -55,6 +63,29 @@ pub record ItemLaws : Type 0 where
 within : (m n l : ℕ) → m ≤ n → n ≤ l → m ≤ l
 within m n l a b = omega (arith, a, b)
 
+-- each job that such an item is by these checks may send what it sends
+abbrev Allows : Rules → (Item → Type 0) → Type 0
+Allows rules Is = (g : Given) (item : Item) (drawn : Option Drawn) (job : Job) → Is item → Prepares rules g item drawn (Ok job) → IsAllowed rules item job
+
+all_apart : (P : Item → Type 0) (xs ys : List Item) → All P (xs ++ ys) → All P xs × All P ys
+all_apart P [] ys all = (All-nil P, all)
+all_apart P (x ∷ xs) ys all =
+    let rest = all_apart P xs ys (All-tail P x (xs ++ ys) all) in (All-cons P x xs (All-head P x (xs ++ ys) all) rest.0, rest.1)
+
+-- of the items that were done, those before the last one, and it
+last_apart : (P : Item → Type 0) (done : List (Item × Done)) (item : Item) (came : Done) → All P (items_of (done ++ (item, came) ∷ [])) → All P (items_of done) × P item
+last_apart P done item came all =
+    let both = all_apart P (items_of done) (item ∷ []) (All-same P _ _ (sym (map-append (λ (e : Item × Done). e.0) done ((item, came) ∷ []))) all) in
+    (both.0, All-head P item [] both.1)
+
+-- any item
+abbrev AnyItem : Item → Type 0
+AnyItem item = Unit {0}
+
+any_items : (items : List Item) → All AnyItem items
+any_items [] = All-nil AnyItem
+any_items (x ∷ xs) = All-cons AnyItem x xs tt (any_items xs)
+
 module _ (laws : ItemLaws) where
   -- ---- items
 
@@ -65,51 +96,78 @@ module _ (laws : ItemLaws) where
       (sent_most laws.once laws.answers before.exchanges steps.does.runs) is.0
 
   item_once : {c : SetCall} {item : Item} {before : CallState} {done : Done} {events : List Event} {after : CallState}
-      (takes : TakesItem c item before done events after) → ItemAppendsOnce takes
-  item_once (Refused drawn e is done_is events_are same) = subst (λ (d : Done). IsNotMade d) (sym done_is) tt
-  item_once {c} {item} {before} {done} (Stepped drawn job doing is steps events_are) =
-      let fits : IsAllowed c.rules item job = allowed laws.jobs c.rules (given_at c before) item drawn job is in
+      {Is : Item → Type 0} → Allows c.rules Is → Is item → (takes : TakesItem c item before done events after) → ItemAppendsOnce takes
+  item_once allows so (Refused drawn e is done_is events_are same) = subst (λ (d : Done). IsNotMade d) (sym done_is) tt
+  item_once {c} {item} {before} {done} allows so (Stepped drawn job doing is steps events_are) =
+      let fits : IsAllowed c.rules item job = allows (given_at c before) item drawn job so is in
       (steps_once c.rules fits steps, made laws.by laws.answers c.rules done steps.does fits.1 fits.2)
 
   done_once : {c : SetCall} {before : CallState} {done : List (Item × Done)} {events : List Event} {after : CallState}
-      (does : DoesItems c before done events after) → DoneAppendOnce does
-  done_once NoItems = tt
-  done_once (MoreItems next rest) = (done_once rest, item_once next.takes)
+      {Is : Item → Type 0} → Allows c.rules Is → All Is (items_of done) → (does : DoesItems c before done events after) → DoneAppendOnce does
+  done_once allows all NoItems = tt
+  done_once {Is = Is} allows all (MoreItems {done = done} next rest) =
+      let both = last_apart Is done next.item next.done all in (done_once allows both.0 rest, item_once allows both.1 next.takes)
 
   last_once : {c : SetCall} {item : Item} {before : CallState} {ends : ItemEnd} {events : List Event} {after : CallState}
-      (stops : StopsAt c item before ends events after) → LastAppendsOnce stops
-  last_once {c} {item} {before} stops =
-      steps_once c.rules (allowed laws.jobs c.rules (given_at c before) item stops.drawn stops.job stops.is_prepared) stops.steps
+      {Is : Item → Type 0} → Allows c.rules Is → Is item → (stops : StopsAt c item before ends events after) → LastAppendsOnce stops
+  last_once {c} {item} {before} allows so stops =
+      steps_once c.rules (allows (given_at c before) item stops.drawn stops.job so stops.is_prepared) stops.steps
 
   items_once : {c : SetCall} {items : List Item} {before : CallState} {result : ItemsCame} {events : List Event} {after : CallState}
-      (runs : RunsItems c items before result events after) → ItemsAppendOnce runs
-  items_once (AllDone done does all is) = done_once does
-  items_once (Stopped done item later mid so_far last ends does stops all whole is) = (done_once does, last_once stops)
-  items_once (Wanting done later so_far drawn does draws all whole is) = done_once does
+      {Is : Item → Type 0} → Allows c.rules Is → All Is items → (runs : RunsItems c items before result events after) → ItemsAppendOnce runs
+  items_once {Is = Is} allows so (AllDone done does all is) = done_once allows (All-same Is _ _ all so) does
+  items_once {Is = Is} allows so (Stopped done item later mid so_far last ends does stops all whole is) =
+      let both = all_apart Is (items_of done) (item ∷ later) (All-same Is _ _ all so) in
+      (done_once allows both.0 does, last_once allows (All-head Is item later both.1) stops)
+  items_once {Is = Is} allows so (Wanting done later so_far drawn does draws all whole is) =
+      done_once allows (all_apart Is (items_of done) later (All-same Is _ _ all so)).0 does
+
+  import_once : {call : SetCall} {uploads : List (List ℕ)} {item : Item} {before : Progress} {asks : List BodyAsk} {ends : ItemEnd} {events : List Event} {after : Progress}
+      (takes : TakesImport call uploads item before asks ends events after) → ImportAppendsOnce takes
+  import_once (BodyLost prepares) = tt
+  import_once {item = item} (Taken made ends prepares does) =
+      items_once {Is = λ (x : Item). x ≡ item} (known_allowed laws.jobs prepares)
+      (All-cons (λ (x : Item). x ≡ item) item [] refl (All-nil (λ (x : Item). x ≡ item))) does.runs
+  import_once (NoRoom lacks) = tt
+
+  imports_once : {call : SetCall} {uploads : List (List ℕ)} {made : Bool} {before : Progress} {items : List Item} {came : ItemsCame} {events : List Event} {after : Progress}
+      (imports : DoesImports call uploads made before items came events after) → ImportsAppendOnce imports
+  imports_once (NoImports here) = tt
+  imports_once (OutBefore here) = tt
+  imports_once (ImportDone item done takes rest) = (import_once takes, imports_once rest)
+  imports_once (ImportEnds item ends not takes) = import_once takes
+
+  course_once : {call : SetCall} {items : List Item} {before : Progress} {came : ItemsCame} {events : List Event} {after : Progress}
+      → Allows call.rules AnyItem → (does : DoesCourse call items before came events after) → CourseAppendsOnce does
+  course_once {items = items} allows (changing.InRow row does) = items_once {Is = AnyItem} allows (any_items items) does.runs
+  course_once allows (changing.OneByOne uploads rules imports) = imports_once imports
 
   -- ---- calls
 
   change_once : {call : SetCall} {items : List Item} {before : Progress} {result : Result (List (Item × Done)) MethodError} {events : List Event} {after : Progress}
-      (changes : ChangesMail call items before result events after) → ChangeAppendsOnce changes
-  change_once (changing.Committed came mid does goes settles stands is) = items_once does.runs
-  change_once (changing.SpentBy came mid spent doing ending does goes settles is hangs whole after_is result_is) = items_once does.runs
-  change_once (changing.FailedInPart mid doing ending does hangs whole after_is is) = items_once does.runs
+      → Allows call.rules AnyItem → (changes : ChangesMail call items before result events after) → ChangeAppendsOnce changes
+  change_once allows (changing.Committed came mid does goes settles stands is) = course_once allows does
+  change_once allows (changing.SpentBy came mid spent doing ending does goes settles is hangs whole after_is result_is) = course_once allows does
+  change_once allows (changing.FailedInPart mid doing ending does hangs whole after_is is) = course_once allows does
 
-  lacks_change : {call : SetCall} {items : List Item} {before : Progress} {events : List Event} {after : Progress} (lacks : LacksChange call items before events after)
-      → LacksChangeOnce lacks
-  lacks_change (changing.InItems mid does is) = items_once does.runs
-  lacks_change (changing.InCommit came mid does goes settles stands) = items_once does.runs
+  lacks_change : {call : SetCall} {items : List Item} {before : Progress} {events : List Event} {after : Progress} → Allows call.rules AnyItem
+      → (lacks : LacksChange call items before events after) → LacksChangeOnce lacks
+  lacks_change allows (changing.InItems mid does is) = course_once allows does
+  lacks_change allows (changing.InCommit came mid does goes settles stands) = course_once allows does
+
+  any_allowed : (uploads : List (List ℕ)) (m : SetMethod) (a : SetAsked) → Allows (item_checks uploads m a) AnyItem
+  any_allowed uploads m a g item drawn job any is = allowed laws.jobs uploads m a g item drawn job is
 
   asked_once : {uploads : List (List ℕ)} {m : SetMethod} {a : SetAsked} {h : MailHistory} {before : ChangeState} {result : Result Data MethodError} {events : List Event}
       {after : ChangeState} (asked : ChangesAsked (item_checks uploads) m a h before result events after) → AskedAppendsOnce asked
   asked_once (answering.Mismatch is result_is none same) = tt
-  asked_once (answering.Changes items came is items_are changes answers) = (change_once changes, created_made answers)
+  asked_once {uploads} {m} {a} (answering.Changes items came is items_are changes answers) = (change_once (any_allowed uploads m a) changes, created_made answers)
 
   lacks_asked : {uploads : List (List ℕ)} {m : SetMethod} {a : SetAsked} {h : MailHistory} {before : ChangeState} {events : List Event} {after : Progress}
       (lacks : LacksAsked (item_checks uploads) m a h before events after) → LacksAskedOnce lacks
   lacks_asked (answering.BeforeItems none same) = tt
-  lacks_asked (answering.Meanwhile items is items_are lacks) = lacks_change lacks
-  lacks_asked (answering.Unanswered items came is items_are changes) = change_once changes
+  lacks_asked {uploads} {m} {a} (answering.Meanwhile items is items_are lacks) = lacks_change (any_allowed uploads m a) lacks
+  lacks_asked {uploads} {m} {a} (answering.Unanswered items came is items_are changes) = change_once (any_allowed uploads m a) changes
 
   set_once : {uploads : List (List ℕ)} {m : SetMethod} {d : Data} {mail : Mailing} {before : ChangeState} {result : Result Data MethodError} {events : List Event}
       {after : ChangeState} (does : DoesChange (item_checks uploads) m d mail before result events after) → SetAppendsOnce does
@@ -154,7 +212,7 @@ module _ (laws : ItemLaws) where
   work_once : {account : Account} {uploads : List (List ℕ)} {before : MachineState} {for : Asking} {events : List Event} {came : Option Answer} {after : Progress}
       (work : RequestWork account uploads before for events came after) → WorkAppendsOnce work
   work_once {for = for} (NoMail apart does none is) = does_once for does
-  work_once {for = for} (WithMail needs work) = does_once for work.does
+  work_once {for = for} (WithMail needs work) = (does_once for work.does, life_appends work)
 
   reply_once : {door : Door} {account : Account} {before after : GateState} {events : List Event} {text : List ℕ}
       (replies : Replies door account before events text after) → ReplyAppendsOnce replies

@@ -23,7 +23,7 @@ AppendOnce = (job : Job) (m : Mail) (xs : List Exchange) → Answers (item_start
 abbrev pub AreAnswers : Type 0
 AreAnswers = (s : ItemState) (life after : LinkLife) (xs : List Exchange) (events : List Event) → Ran (item_plan s) life xs after events → Answers s xs
 
-appends_more : (xs : List Exchange) (x : Exchange) → appends_in (xs ++ x ∷ []) ≡ appends_in xs + append_count x.command
+pub appends_more : (xs : List Exchange) (x : Exchange) → appends_in (xs ++ x ∷ []) ≡ appends_in xs + append_count x.command
 appends_more [] x = omega arith
 appends_more (y ∷ ys) x = omega (arith, appends_more ys x)
 

@@ -9,7 +9,7 @@ use Rattle.set_items.specs.Talks.{ending_of}
 use Rattle.set_items.specs.declared.item.ItemEnd.{ItemEnd}
 use Rattle.set_calls.specs.Calls.{SetCall, CallState, TakesItem, Refused, Stepped, StopsAt, DoesItems, NoItems, MoreItems}
 use Rattle.set_calls.specs.Calls.{RunsItems, AllDone, Stopped, Wanting}
-use Rattle.gate_changes.specs.Changing.{ItemsCame}
+use Rattle.gate_changes.specs.Items.{ItemsCame}
 use Rattle.append_laws.specs.Sent.{IsMadeBy, SendsAllowed}
 
 -- one that is refused before a command is sent for it made nothing

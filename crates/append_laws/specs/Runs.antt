@@ -13,6 +13,7 @@ use Rattle.gate_serving.specs.RequestWork.{RequestWork, NoMail, WithMail}
 use Rattle.gate_serving.specs.Run.{Run, Begun, Then}
 use Rattle.gate_serving.specs.Segment.{Replies, Answered, LacksReading, LacksAnswering, Segment, NoneComes, NotAccepted, Left, Unasked, Replied}
 use Rattle.append_laws.specs.Calls.{CallsAppendOnce, LacksNextOnce}
+use Rattle.append_laws.specs.Lives.{LifeAppendsForItems}
 
 -- what is asked: calls alone have items
 abbrev pub DoesAppendOnce : {account : Account} {uploads : List (List ℕ)} (asking : Asking) {before : Progress} {events : List Event} {after : Progress}
@@ -24,7 +25,7 @@ DoesAppendOnce asking does = Unit {0}
 abbrev pub WorkAppendsOnce : {account : Account} {uploads : List (List ℕ)} {before : MachineState} {asking : Asking} {events : List Event}
     {came : Option Answer} {after : Progress} → RequestWork account uploads before asking events came after → Type 0
 WorkAppendsOnce {asking = asking} (NoMail a does b c) = DoesAppendOnce asking does
-WorkAppendsOnce {asking = asking} (WithMail a work) = DoesAppendOnce asking work.does
+WorkAppendsOnce {asking = asking} (WithMail a work) = DoesAppendOnce asking work.does × LifeAppendsForItems work
 
 -- one client
 abbrev pub ReplyAppendsOnce : {door : Door} {account : Account} {before : GateState} {events : List Event} {text : List ℕ} {after : GateState}

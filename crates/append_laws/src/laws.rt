@@ -1,4 +1,4 @@
-//! APPENDs of the creations of Emails.
+//! APPENDs of the creations and imports of Emails.
 ghost use Rattle.std.specs.Prelude.{ℕ, Bool, List, Option};
 ghost use Rattle.gate_world.specs.declared.event.Event.{Event};
 ghost use Rattle.told_mail.specs.Mail.{Mail};
@@ -15,6 +15,7 @@ ghost use Rattle.append_laws.specs.Reading.{ChangesNothing};
 ghost use Rattle.append_laws.specs.Runs.{RunAppendsOnce, SegmentAppendsOnce};
 
 use email_creation::creations_append_once;
+use email_import::imports_append_once;
 use email_laws::{
     email_destroys_send_both, email_items_append_nothing, email_updates_send_what_is_asked,
 };
@@ -24,8 +25,9 @@ use mailbox_laws::{
 };
 use set_items::{exchanges_are_answers, made_by_one_append, no_append_is_repeated};
 
-/// Whatever a client asks, the store takes octets of one APPEND at most for each creation of an Email, and of none for another item. What comes to a new
-/// Email was put there by that APPEND, which was answered OK with a usable UID that contradicts nothing.
+/// Whatever a client asks, the store takes octets of one APPEND at most for each creation or import of an Email, and of none for another item. What comes to a new
+/// Email was put there by that APPEND, which was answered OK with a usable UID that contradicts nothing. All APPENDs that are completed in the link life of a
+/// request are those of the items of its calls.
 pub fn clients_append_once()
     ensures { (door : Door) (account : Account) (before : GateState) (events : List Event) (how : ClientOutcome) (after : GateState)
         (segment : Segment door account before events how after) → SegmentAppendsOnce segment }
@@ -34,6 +36,7 @@ pub fn clients_append_once()
     no_append_is_repeated();
     made_by_one_append();
     creations_append_once();
+    imports_append_once();
     email_items_append_nothing();
     email_updates_send_what_is_asked();
     email_destroys_send_both();
