@@ -1,0 +1,2 @@
+pub mod SameDrafts
+pub mod OneThing

@@ -1,0 +1,11 @@
+pub mod MimeValues
+pub mod TypeFields
+pub mod NameFields
+pub mod IdFields
+pub mod WrittenHeaders
+pub mod EntityHeaders
+pub mod DashTexts
+pub mod SplitTexts
+pub mod LeafTexts
+pub mod MultiTexts
+pub mod DraftTree
