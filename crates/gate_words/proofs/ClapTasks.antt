@@ -12,14 +12,14 @@ use Rattle.clap.proofs.WalkLemmas.{first_value-rows}
 use Rattle.gate_words.specs.Connections.{CountsConnections}
 use Rattle.gate_words.specs.Options.{Setting, SpellsAll, value_if, values_of}
 use Rattle.gate_words.specs.Rules.{is_user, is_base}
-use Rattle.gate_words.specs.Task.{AnswersAt, IsOnce, IsServe, IsStore, NamesPlace, ServesAt, StoresAt}
-use Rattle.gate_words.specs.reading.Commands.{CountsGiven, IsOnceIn, IsServeIn, IsStoreIn, PlaceIn, ServeIn, id_of, once_app, serve_app, show_app}
-use Rattle.gate_words.specs.reading.Commands.{store_app, value_in, with_listening, with_place}
+use Rattle.gate_words.specs.Task.{AnswersAt, ChecksAt, IsCheck, IsOnce, IsServe, IsStore, NamesPlace, ServesAt, StoresAt}
+use Rattle.gate_words.specs.reading.Commands.{CountsGiven, IsCheckIn, IsOnceIn, IsServeIn, IsStoreIn, PlaceIn, ServeIn, id_of, once_app, serve_app, show_app}
+use Rattle.gate_words.specs.reading.Commands.{check_app, store_app, value_in, with_account, with_listening, with_place}
 use Rattle.gate_words.specs.declared.option.Name.{Name}
 use Rattle.gate_words.specs.declared.option.Name.TheVariants as option
 use Rattle.gate_words.specs.declared.place.Place.{Place}
 use Rattle.gate_words.specs.declared.task.Task.{Task}
-use Rattle.gate_words.specs.declared.task.Task.TheVariants.{Serve, Once, Show, Store, Explain}
+use Rattle.gate_words.specs.declared.task.Task.TheVariants.{Serve, Once, Show, Store, Check, Explain}
 use Rattle.gate_words.specs.declared.task.WordsError.{WordsError}
 use Rattle.gate_words.specs.declared.task.WordsError.TheVariants.{Refused}
 use Rattle.gate_words.proofs.ClapRows.{AreSingle, filled, first-row, given-row, row}
@@ -35,6 +35,9 @@ once_shape = (built once_app).top
 
 abbrev store_shape : Shape
 store_shape = (built store_app).top
+
+abbrev check_shape : Shape
+check_shape = (built check_app).top
 
 -- what the commands are made of
 pub serve-is : with_listening (with_place (new_app (codes "serve"))) ≡ serve_app
@@ -56,6 +59,11 @@ pub store-is : with_listening (new_app (codes "store")) ≡ store_app
 unfolding store_app
 store-is = refl
 
+-- and of `check`
+pub check-is : with_account (new_app (codes "check")) ≡ check_app
+unfolding check_app
+check-is = refl
+
 -- their matches are those of clap's definition
 pub serve-simple : is_simple serve_app ≡ true
 unfolding serve_app
@@ -70,6 +78,11 @@ once-simple = refl
 pub store-simple : is_simple store_app ≡ true
 unfolding store_app
 store-simple = refl
+
+-- and of `check`
+pub check-simple : is_simple check_app ≡ true
+unfolding check_app
+check-simple = refl
 
 -- the rows that a command finds, where it is this one
 pub rows-by : (r : Result ArgMatches WordsError) (app this : App) (words : List Text) → app ≡ this → is_simple this ≡ true → IfOk r (HasMatchesOf app words)
@@ -98,6 +111,13 @@ OfStore option.User = ⊥
 OfStore option.Base = ⊥
 OfStore option.Listen = Unit {0}
 OfStore option.Connections = Unit {0}
+
+abbrev OfCheck : Name → Type 0
+OfCheck option.Store = Unit {0}
+OfCheck option.User = Unit {0}
+OfCheck option.Base = ⊥
+OfCheck option.Listen = ⊥
+OfCheck option.Connections = ⊥
 
 serve-long : (name : Name) → OfServe name → arg_by_long serve_shape.rules (id_of name) ≡ Some (filled name)
 unfolding serve_app
@@ -147,6 +167,22 @@ store-id option.Base has = absurd has
 store-id option.Listen has = refl
 store-id option.Connections has = refl
 
+check-long : (name : Name) → OfCheck name → arg_by_long check_shape.rules (id_of name) ≡ Some (filled name)
+unfolding check_app
+check-long option.Store has = refl
+check-long option.User has = refl
+check-long option.Base has = absurd has
+check-long option.Listen has = absurd has
+check-long option.Connections has = absurd has
+
+check-id : (name : Name) → OfCheck name → arg_by_id check_shape.rules (id_of name) ≡ Some (filled name)
+unfolding check_app
+check-id option.Store has = refl
+check-id option.User has = refl
+check-id option.Base has = absurd has
+check-id option.Listen has = absurd has
+check-id option.Connections has = absurd has
+
 serve-options : HasOptions serve_shape OfServe
 unfolding serve_app
 serve-options = record { by_long = serve-long; by_id = serve-id; empty = (refl, (refl, (refl, (refl, (refl, (refl, tt)))))); defaults = refl }
@@ -158,6 +194,10 @@ once-options = record { by_long = once-long; by_id = once-id; empty = (refl, (re
 store-options : HasOptions store_shape OfStore
 unfolding store_app
 store-options = record { by_long = store-long; by_id = store-id; empty = (refl, (refl, (refl, tt))); defaults = refl }
+
+check-options : HasOptions check_shape OfCheck
+unfolding check_app
+check-options = record { by_long = check-long; by_id = check-id; empty = (refl, (refl, (refl, tt))); defaults = refl }
 
 -- ---- settings that the rule takes
 
@@ -193,6 +233,13 @@ store-single settings listen count means option.Base = no-value (values_of optio
 store-single settings listen count means option.Listen = one (values_of option.Listen settings) listen means.listens
 store-single settings listen count means option.Connections = few (values_of option.Connections settings) count means.counts
 
+check-single : (settings : List Setting) (store user : List ℕ) → ChecksAt settings store user → AreSingle settings
+check-single settings store user means option.Store = one (values_of option.Store settings) store means.store_is
+check-single settings store user means option.User = one (values_of option.User settings) user means.user_is
+check-single settings store user means option.Base = no-value (values_of option.Base settings) means.base
+check-single settings store user means option.Listen = no-value (values_of option.Listen settings) means.listens
+check-single settings store user means option.Connections = no-value (values_of option.Connections settings) means.counts
+
 serve-have : (settings : List Setting) → AllHave OfServe settings
 serve-have [] = tt
 serve-have (setting ∷ settings) = (tt, serve-have settings)
@@ -226,6 +273,22 @@ store-have (setting ∷ settings) s u b =
     let k = kept-listening setting.name setting.value (values_of option.Store settings) (values_of option.User settings) (values_of option.Base settings) s u b in
     (k.0, store-have settings k.1 k.2 k.3)
 
+kept-account : (name : Name) (value : List ℕ) (bases listens counts : List (List ℕ)) → value_if option.Base name value bases ≡ []
+    → value_if option.Listen name value listens ≡ [] → value_if option.Connections name value counts ≡ []
+    → OfCheck name × (bases ≡ []) × (listens ≡ []) × (counts ≡ [])
+kept-account option.Store value bases listens counts b l c = (tt, b, l, c)
+kept-account option.User value bases listens counts b l c = (tt, b, l, c)
+kept-account option.Base value bases listens counts b l c = absurd (let e : value ∷ bases ≡ [] = b in cc)
+kept-account option.Listen value bases listens counts b l c = absurd (let e : value ∷ listens ≡ [] = l in cc)
+kept-account option.Connections value bases listens counts b l c = absurd (let e : value ∷ counts ≡ [] = c in cc)
+
+check-have : (settings : List Setting) → values_of option.Base settings ≡ [] → values_of option.Listen settings ≡ []
+    → values_of option.Connections settings ≡ [] → AllHave OfCheck settings
+check-have [] b l c = tt
+check-have (setting ∷ settings) b l c =
+    let k = kept-account setting.name setting.value (values_of option.Base settings) (values_of option.Listen settings) (values_of option.Connections settings) b l c in
+    (k.0, check-have settings k.1 k.2 k.3)
+
 serve-valid : (settings : List Setting) (place : Place) (listen : List ℕ) (count : ℕ) → ServesAt settings place listen count
     → is_valid serve_shape (map row settings) false ≡ true
 unfolding serve_app
@@ -247,6 +310,13 @@ once-valid settings place names =
 store-valid : (settings : List Setting) (listen : List ℕ) (count : ℕ) → StoresAt settings listen count → is_valid store_shape (map row settings) false ≡ true
 unfolding store_app
 store-valid settings listen count means = rw (given-row option.Listen settings listen [] means.listens) refl
+
+check-valid : (settings : List Setting) (store user : List ℕ) → ChecksAt settings store user → is_valid check_shape (map row settings) false ≡ true
+unfolding check_app
+check-valid settings store user means =
+    let stored = given-row option.Store settings store [] means.store_is in
+    let used = given-row option.User settings user [] means.user_is in
+    rw (stored, used) refl
 
 -- ---- what clap does with their words
 
@@ -302,6 +372,25 @@ unfolding store_app
 store-rows words settings listen count spelled means =
     (read store_shape OfStore store-options settings (drop 1 words) (store-single settings listen count means) spelled
     (store-have settings means.store means.user means.base)).0
+
+-- the command `check` takes words whose settings the rule takes
+pub check-takes : (words : List Text) (settings : List Setting) (store user : List ℕ) → SpellsAll settings (drop 1 words) → ChecksAt settings store user
+    → takes check_app words ≡ true
+unfolding check_app
+check-takes words settings store user spelled means =
+    let r = read check_shape OfCheck check-options settings (drop 1 words) (check-single settings store user means) spelled
+    (check-have settings means.base means.listens means.counts) in
+    ap (λ (o : Option (Text × List Text)). entered_passes (built check_app) o
+    && level_passes check_shape [] nothing_held (drop 1 words) (is_some (entered (built check_app) o))) r.1
+    ∙ r.2 (check-valid settings store user means)
+
+-- and has a row for each setting
+pub check-rows : (words : List Text) (settings : List Setting) (store user : List ℕ) → SpellsAll settings (drop 1 words) → ChecksAt settings store user
+    → matches_of check_app words ≡ map row settings
+unfolding check_app
+check-rows words settings store user spelled means =
+    (read check_shape OfCheck check-options settings (drop 1 words) (check-single settings store user means) spelled
+    (check-have settings means.base means.listens means.counts)).0
 
 show-none : built_takes (built show_app) nothing_held [] ≡ true
 unfolding clap_on_literals show_app
@@ -376,6 +465,7 @@ serve-meant settings matches place listen some rows means (Serve finds hears cou
 serve-meant settings matches place listen some rows means (Once finds) given = absurd given
 serve-meant settings matches place listen some rows means Show given = absurd given
 serve-meant settings matches place listen some rows means (Store hears count) given = absurd given
+serve-meant settings matches place listen some rows means (Check store user) given = absurd given
 serve-meant settings matches place listen some rows means (Explain page) given = absurd given
 
 -- and one that they mean is found
@@ -390,6 +480,7 @@ serve-none settings matches rows none (Serve place listen count) means = none (S
 serve-none settings matches rows none (Once place) means = absurd means
 serve-none settings matches rows none Show means = absurd means
 serve-none settings matches rows none (Store hears count) means = absurd means
+serve-none settings matches rows none (Check store user) means = absurd means
 serve-none settings matches rows none (Explain page) means = absurd means
 
 -- the same of `once`: a task that is found is the one that the settings mean
@@ -403,6 +494,7 @@ once-meant settings matches place rows means (Once finds) given = record {
 once-meant settings matches place rows means (Serve finds hears count) given = absurd given
 once-meant settings matches place rows means Show given = absurd given
 once-meant settings matches place rows means (Store hears count) given = absurd given
+once-meant settings matches place rows means (Check store user) given = absurd given
 once-meant settings matches place rows means (Explain page) given = absurd given
 
 -- and one that they mean is found
@@ -412,6 +504,7 @@ once-none settings matches rows none (Once place) means = none (Once place) (pla
 once-none settings matches rows none (Serve place listen count) means = absurd means
 once-none settings matches rows none Show means = absurd means
 once-none settings matches rows none (Store hears count) means = absurd means
+once-none settings matches rows none (Check store user) means = absurd means
 once-none settings matches rows none (Explain page) means = absurd means
 
 -- the same of `store`: a task that is found is the one that the settings mean
@@ -428,6 +521,7 @@ store-meant settings matches listen some rows means (Store hears count) given = 
 store-meant settings matches listen some rows means (Serve finds hears count) given = absurd given
 store-meant settings matches listen some rows means (Once finds) given = absurd given
 store-meant settings matches listen some rows means Show given = absurd given
+store-meant settings matches listen some rows means (Check store user) given = absurd given
 store-meant settings matches listen some rows means (Explain page) given = absurd given
 
 -- and one that they mean is found
@@ -441,4 +535,37 @@ store-none settings matches rows none (Store listen count) means = none (Store l
 store-none settings matches rows none (Serve place listen count) means = absurd means
 store-none settings matches rows none (Once place) means = absurd means
 store-none settings matches rows none Show means = absurd means
+store-none settings matches rows none (Check store user) means = absurd means
 store-none settings matches rows none (Explain page) means = absurd means
+
+-- the same of `check`: a task that is found is the one that the settings mean
+pub check-meant : (settings : List Setting) (matches : ArgMatches) (store user : List ℕ) → rows_of (found_of matches) ≡ map row settings
+    → ChecksAt settings store user → (task : Task) → IsCheckIn (value_in matches) task → IsCheck settings task
+check-meant settings matches store user rows means (Check finds uses) given =
+    let used = same-value settings matches option.User user uses rows means.user_is given.user_is in
+    record {
+      store_is = means.store_is ∙ ap (λ (t : List ℕ). t ∷ []) (same-value settings matches option.Store store finds rows means.store_is given.store_is);
+      user_is = means.user_is ∙ ap (λ (t : List ℕ). t ∷ []) used;
+      user_rule = subst (λ (t : List ℕ). IsTrue (is_user t)) used means.user_rule;
+      base = means.base;
+      listens = means.listens;
+      counts = means.counts;
+    }
+check-meant settings matches store user rows means (Serve finds hears count) given = absurd given
+check-meant settings matches store user rows means (Once finds) given = absurd given
+check-meant settings matches store user rows means Show given = absurd given
+check-meant settings matches store user rows means (Store hears count) given = absurd given
+check-meant settings matches store user rows means (Explain page) given = absurd given
+
+-- and one that they mean is found
+pub check-none : (settings : List Setting) (matches : ArgMatches) → rows_of (found_of matches) ≡ map row settings
+    → ((task : Task) → IsCheckIn (value_in matches) task → ⊥) → (task : Task) → IsCheck settings task → ⊥
+check-none settings matches rows none (Check store user) means = none (Check store user) (record {
+  store_is = found settings matches rows option.Store ∙ ap first means.store_is;
+  user_is = found settings matches rows option.User ∙ ap first means.user_is;
+})
+check-none settings matches rows none (Serve place listen count) means = absurd means
+check-none settings matches rows none (Once place) means = absurd means
+check-none settings matches rows none Show means = absurd means
+check-none settings matches rows none (Store listen count) means = absurd means
+check-none settings matches rows none (Explain page) means = absurd means

@@ -4,7 +4,7 @@ use Rattle.std.proofs.lemmas.Option.{none-some, same_Some}
 use Rattle.gate_words.specs.reading.Words.{page_by, page_on, page_of}
 use Rattle.gate_words.specs.Task.{AsksFor}
 use Rattle.gate_words.specs.declared.page.Page.{Page}
-use Rattle.gate_words.specs.declared.page.Page.TheVariants.{Program, Serve, Once, Show, Store, Version}
+use Rattle.gate_words.specs.declared.page.Page.TheVariants.{Program, Serve, Once, Show, Store, Check, Version}
 use Rattle.octets.proofs.Steps.{and_then-some, is_or_not}
 
 by-is : (option : List ℕ) (on found : Page) → page_by option on ≡ Some found → ((option ≡ codes "--help") × (found ≡ on)) ⊎ ((option ≡ codes "--version") × (found ≡ Version))
@@ -19,7 +19,7 @@ by-is option on found is =
 
 on-is : (command : List ℕ) (found : Page) → page_on command ≡ Some found
     → ((command ≡ codes "serve") × (found ≡ Serve)) ⊎ ((command ≡ codes "once") × (found ≡ Once)) ⊎ ((command ≡ codes "show") × (found ≡ Show))
-    ⊎ ((command ≡ codes "store") × (found ≡ Store))
+    ⊎ ((command ≡ codes "store") × (found ≡ Store)) ⊎ ((command ≡ codes "check") × (found ≡ Check))
 on-is command found is =
     elim (is_or_not command (codes "serve")) [
       | inl serve ↦ inl (serve, same_Some found Serve (sym is ∙ ap page_on serve))
@@ -28,8 +28,11 @@ on-is command found is =
         | inr no_once ↦ elim (is_or_not command (codes "show")) [
           | inl show ↦ inr (inr (inl (show, same_Some found Show (sym is ∙ ap page_on show))))
           | inr no_show ↦ elim (is_or_not command (codes "store")) [
-            | inl store ↦ inr (inr (inr (store, same_Some found Store (sym is ∙ ap page_on store))))
-            | inr no_store ↦ absurd (none-some found (rw (no_serve, no_once, no_show, no_store) at is))
+            | inl store ↦ inr (inr (inr (inl (store, same_Some found Store (sym is ∙ ap page_on store)))))
+            | inr no_store ↦ elim (is_or_not command (codes "check")) [
+              | inl check ↦ inr (inr (inr (inr (check, same_Some found Check (sym is ∙ ap page_on check)))))
+              | inr no_check ↦ absurd (none-some found (rw (no_serve, no_once, no_show, no_store, no_check) at is))
+            ]
           ]
         ]
       ]
@@ -38,7 +41,7 @@ on-is command found is =
 -- a command and an option, whatever they are
 after-command : (command option : List ℕ) (on found : Page)
     → ((command ≡ codes "serve") × (on ≡ Serve)) ⊎ ((command ≡ codes "once") × (on ≡ Once)) ⊎ ((command ≡ codes "show") × (on ≡ Show))
-    ⊎ ((command ≡ codes "store") × (on ≡ Store))
+    ⊎ ((command ≡ codes "store") × (on ≡ Store)) ⊎ ((command ≡ codes "check") × (on ≡ Check))
     → ((option ≡ codes "--help") × (found ≡ on)) ⊎ ((option ≡ codes "--version") × (found ≡ Version)) → AsksFor found (command ∷ option ∷ [])
 after-command command option on found (inl c) (inl o) = rw (c.0, o.0, o.1, c.1) refl
 after-command command option on found (inl c) (inr o) = rw (c.0, o.0, o.1) (inr (inl refl))
@@ -46,8 +49,10 @@ after-command command option on found (inr (inl c)) (inl o) = rw (c.0, o.0, o.1,
 after-command command option on found (inr (inl c)) (inr o) = rw (c.0, o.0, o.1) (inr (inr (inl refl)))
 after-command command option on found (inr (inr (inl c))) (inl o) = rw (c.0, o.0, o.1, c.1) refl
 after-command command option on found (inr (inr (inl c))) (inr o) = rw (c.0, o.0, o.1) (inr (inr (inr (inl refl))))
-after-command command option on found (inr (inr (inr c))) (inl o) = rw (c.0, o.0, o.1, c.1) refl
-after-command command option on found (inr (inr (inr c))) (inr o) = rw (c.0, o.0, o.1) (inr (inr (inr (inr refl))))
+after-command command option on found (inr (inr (inr (inl c)))) (inl o) = rw (c.0, o.0, o.1, c.1) refl
+after-command command option on found (inr (inr (inr (inl c)))) (inr o) = rw (c.0, o.0, o.1) (inr (inr (inr (inr (inl refl)))))
+after-command command option on found (inr (inr (inr (inr c)))) (inl o) = rw (c.0, o.0, o.1, c.1) refl
+after-command command option on found (inr (inr (inr (inr c)))) (inr o) = rw (c.0, o.0, o.1) (inr (inr (inr (inr (inr refl)))))
 
 alone : (option : List ℕ) (found : Page) → ((option ≡ codes "--help") × (found ≡ Program)) ⊎ ((option ≡ codes "--version") × (found ≡ Version)) → AsksFor found (option ∷ [])
 alone option found (inl o) = rw (o.0, o.1) refl
@@ -69,8 +74,10 @@ asked-page Version words (inl is) = ap page_of is
 asked-page Version words (inr (inl is)) = ap page_of is
 asked-page Version words (inr (inr (inl is))) = ap page_of is
 asked-page Version words (inr (inr (inr (inl is)))) = ap page_of is
-asked-page Version words (inr (inr (inr (inr is)))) = ap page_of is
+asked-page Version words (inr (inr (inr (inr (inl is))))) = ap page_of is
+asked-page Version words (inr (inr (inr (inr (inr is))))) = ap page_of is
 asked-page Serve words is = ap page_of is
 asked-page Once words is = ap page_of is
 asked-page Show words is = ap page_of is
 asked-page Store words is = ap page_of is
+asked-page Check words is = ap page_of is

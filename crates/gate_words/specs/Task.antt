@@ -8,7 +8,7 @@ use Rattle.gate_words.specs.declared.page.Page.{Page}
 use Rattle.gate_words.specs.declared.page.Page.TheVariants as page
 use Rattle.gate_words.specs.declared.place.Place.{Place}
 use Rattle.gate_words.specs.declared.task.Task.{Task}
-use Rattle.gate_words.specs.declared.task.Task.TheVariants.{Serve, Once, Show, Store, Explain}
+use Rattle.gate_words.specs.declared.task.Task.TheVariants.{Serve, Once, Show, Store, Check, Explain}
 
 -- Three options are each given one value, the user and the base by their rules.
 pub record NamesPlace (settings : List Setting) (place : Place) : Type 0 where
@@ -38,6 +38,15 @@ pub record StoresAt (settings : List Setting) (listen : List ℕ) (connections :
   pub user : values_of option.User settings ≡ []
   pub base : values_of option.Base settings ≡ []
 
+-- the settings of the command `check`, which is given a store and its user, by the rule, and nothing else
+pub record ChecksAt (settings : List Setting) (store user : List ℕ) : Type 0 where
+  pub store_is : values_of option.Store settings ≡ store ∷ []
+  pub user_is : values_of option.User settings ≡ user ∷ []
+  pub user_rule : IsTrue (is_user user)
+  pub base : values_of option.Base settings ≡ []
+  pub listens : values_of option.Listen settings ≡ []
+  pub counts : values_of option.Connections settings ≡ []
+
 -- settings in any order
 abbrev pub Spelled : (List Setting → Task → Type 0) → List (List ℕ) → Task → Type 0
 Spelled Means options task = (settings : List Setting) × SpellsAll settings options × Means settings task
@@ -54,6 +63,10 @@ abbrev pub IsStore : List Setting → Task → Type 0
 IsStore settings (Store listen connections) = StoresAt settings listen connections
 IsStore settings _ = ⊥
 
+abbrev pub IsCheck : List Setting → Task → Type 0
+IsCheck settings (Check store user) = ChecksAt settings store user
+IsCheck settings _ = ⊥
+
 -- the command, then its settings
 abbrev pub Commands : List ℕ → (List Setting → Task → Type 0) → List (List ℕ) → Task → Type 0
 Commands command Means words task = (options : List (List ℕ)) × (words ≡ command ∷ options) × Spelled Means options task
@@ -63,11 +76,12 @@ abbrev pub AsksFor : Page → List (List ℕ) → Type 0
 AsksFor page.Program words = words ≡ codes "--help" ∷ []
 AsksFor page.Version words = (words ≡ codes "--version" ∷ []) ⊎ (words ≡ codes "serve" ∷ codes "--version" ∷ [])
     ⊎ (words ≡ codes "once" ∷ codes "--version" ∷ []) ⊎ (words ≡ codes "show" ∷ codes "--version" ∷ [])
-    ⊎ (words ≡ codes "store" ∷ codes "--version" ∷ [])
+    ⊎ (words ≡ codes "store" ∷ codes "--version" ∷ []) ⊎ (words ≡ codes "check" ∷ codes "--version" ∷ [])
 AsksFor page.Serve words = words ≡ codes "serve" ∷ codes "--help" ∷ []
 AsksFor page.Once words = words ≡ codes "once" ∷ codes "--help" ∷ []
 AsksFor page.Show words = words ≡ codes "show" ∷ codes "--help" ∷ []
 AsksFor page.Store words = words ≡ codes "store" ∷ codes "--help" ∷ []
+AsksFor page.Check words = words ≡ codes "check" ∷ codes "--help" ∷ []
 
 -- the words, without the program's name, ask for the task
 abbrev pub IsTask : List (List ℕ) → Task → Type 0
@@ -75,4 +89,5 @@ IsTask words (Serve place listen connections) = Commands (codes "serve") IsServe
 IsTask words (Once place) = Commands (codes "once") IsOnce words (Once place)
 IsTask words Show = words ≡ codes "show" ∷ []
 IsTask words (Store listen connections) = Commands (codes "store") IsStore words (Store listen connections)
+IsTask words (Check store user) = Commands (codes "check") IsCheck words (Check store user)
 IsTask words (Explain page) = AsksFor page words

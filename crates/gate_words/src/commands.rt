@@ -17,16 +17,23 @@ fn option_with<'a>(alloc: Global, id: &'a str, is_required: bool) -> Arg<'a>
     Arg::new(alloc, id).long(id).required(is_required)
 }
 
+/// The command with the options that name a store and its user.
+fn with_account<'a>(alloc: Global, command: Command<'a>) -> Result<Command<'a>, AllocError>
+    ensures { IfOk result (λ c. app_of c ≡ spec.with_account (app_of command.entry)) }
+{
+    let store = option_with(alloc, "store", true);
+    let user = option_with(alloc, "user", true);
+    let stored = command.arg(store)?;
+    stored.arg(user)
+}
+
 /// The command with the options that name a place.
 fn with_place<'a>(alloc: Global, command: Command<'a>) -> Result<Command<'a>, AllocError>
     ensures { IfOk result (λ c. app_of c ≡ spec.with_place (app_of command.entry)) }
 {
-    let store = option_with(alloc, "store", true);
-    let user = option_with(alloc, "user", true);
     let base = option_with(alloc, "base", true);
-    let stored = command.arg(store)?;
-    let used = stored.arg(user)?;
-    used.arg(base)
+    let account = with_account(alloc, command)?;
+    account.arg(base)
 }
 
 /// The command with the options that say where clients are accepted, and how many.
@@ -104,5 +111,17 @@ pub(crate) fn store_matches<'a>(
     ensures refused { IfErr result (λ error. error ≡ Refused → takes spec.store_app (map string_bytes words.entry.now) ≡ true → ⊥) }
 {
     let command = with_listening(alloc, Command::new(alloc, "store"))?;
+    found(command, words)
+}
+
+/// What the command `check` finds in the words.
+pub(crate) fn check_matches<'a>(
+    alloc: Global,
+    words: &'a [String],
+) -> Result<ArgMatches<'a>, WordsError>
+    ensures found { IfOk result (λ m. rows_of (found_of m) ≡ matches_of spec.check_app (map string_bytes words.entry.now)) }
+    ensures refused { IfErr result (λ error. error ≡ Refused → takes spec.check_app (map string_bytes words.entry.now) ≡ true → ⊥) }
+{
+    let command = with_account(alloc, Command::new(alloc, "check"))?;
     found(command, words)
 }

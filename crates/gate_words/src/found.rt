@@ -1,6 +1,6 @@
 // The tasks that what clap found comes to.
 ghost use Rattle.std.specs.Prelude.{◌≡◌, IfOk, IfErr, IfSome, IfNone};
-ghost use Rattle.gate_words.specs.reading.Commands.{IsOnceIn, IsServeIn, IsStoreIn, PlaceIn, value_in};
+ghost use Rattle.gate_words.specs.reading.Commands.{IsCheckIn, IsOnceIn, IsServeIn, IsStoreIn, PlaceIn, value_in};
 ghost use Rattle.gate_words.specs.reading.Lent.{place_in};
 ghost use Rattle.gate_words.specs.declared.place.Place.{Place};
 ghost use Rattle.gate_words.specs.declared.task.Task.{Task};
@@ -72,5 +72,22 @@ pub(crate) fn store_found(alloc: Global, matches: &ArgMatches<'_>) -> Result<Tas
     Ok(Task::Store {
         listen: Text::copy_of(alloc, listen)?,
         connections,
+    })
+}
+
+/// The task of the command `check` that was found.
+pub(crate) fn check_found(alloc: Global, matches: &ArgMatches<'_>) -> Result<Task, WordsError>
+    ensures ok { IfOk result (IsCheckIn (value_in matches.now)) }
+    ensures refused { IfErr result (λ error. error ≡ Refused → (task : Task) → IsCheckIn (value_in matches.now) task → ⊥) }
+{
+    let Some(store) = matches.get_str("store") else {
+        return Err(WordsError::Refused);
+    };
+    let Some(user) = matches.get_str("user") else {
+        return Err(WordsError::Refused);
+    };
+    Ok(Task::Check {
+        store: Text::copy_of(alloc, store)?,
+        user: Text::copy_of(alloc, user)?,
     })
 }

@@ -20,7 +20,9 @@ mod found;
 mod reading;
 
 pub use connections::MAX_CONNECTIONS;
-pub use page::{ONCE_PAGE, PROGRAM_PAGE, Page, SERVE_PAGE, SHOW_PAGE, STORE_PAGE, VERSION_PAGE};
+pub use page::{
+    CHECK_PAGE, ONCE_PAGE, PROGRAM_PAGE, Page, SERVE_PAGE, SHOW_PAGE, STORE_PAGE, VERSION_PAGE,
+};
 pub use place::Place;
 pub use reading::{one_task, read_words};
 pub use task::{Task, WordsError};

@@ -12,6 +12,7 @@ Usage: jmapgate COMMAND [OPTION VALUE].. | jmapgate --help | jmapgate --version
 Commands:
   serve    answers clients over HTTP, from the mail of a store
   once     answers one JMAP request on standard input, from the mail of a store
+  check    asks a store whether it can be used, and says why where it cannot
   show     writes the message on standard input as an Email object in JSON
   store    serves a small IMAP store in memory, for tests and for trying it out
 
@@ -19,7 +20,7 @@ jmapgate COMMAND --help says what a command does, with its options and an
 example. Options come in any order, each once, as --name value or --name=value.
 
 Environment:
-  JMAPGATE_PASSWORD    the user's password at the store (serve, once)
+  JMAPGATE_PASSWORD    the user's password at the store (serve, once, check)
   JMAPGATE_TOKEN       the token that a client must send (serve)
 
 Example:
@@ -114,6 +115,34 @@ Example:
   jmapgate store --listen 127.0.0.1:1143
 ";
 
+/// The page on the command `check`.
+pub const CHECK_PAGE: &str = "\
+jmapgate check asks an IMAP store, in one connection, what `serve` asks it at
+first, and says in plain lines on standard output what it found: whether the
+store lets the user in, what it lacks, each folder, and what a first round takes.
+The last line says that the store can be used (exit status 0), or why it cannot
+and what to do (exit status 8).
+
+It sends no command that changes mail, and writes neither the password nor what
+messages hold. It asks for the headers of all messages, as `serve` does at its
+first request: with much mail that takes a while.
+
+Usage: jmapgate check --store ADDR --user USER
+
+Options:
+  --store ADDR    the IMAP store: a name or an address, `:` and a port
+  --user USER     the user at the store
+
+Environment:
+  JMAPGATE_PASSWORD    the user's password at the store
+
+There is no TLS: put a tunnel in front, or name a port of IMAP without TLS.
+
+Example:
+  export JMAPGATE_PASSWORD=pw
+  jmapgate check --store 127.0.0.1:143 --user alice
+";
+
 /// The page on the version.
 pub const VERSION_PAGE: &str = "jmapgate 0.1\n";
 
@@ -130,6 +159,8 @@ pub enum Page {
     Show,
     /// For `store --help`.
     Store,
+    /// For `check --help`.
+    Check,
     /// For `--version`, alone or after a command: one line.
     Version,
 }
@@ -145,6 +176,7 @@ impl Page {
             Page::Once => ONCE_PAGE,
             Page::Show => SHOW_PAGE,
             Page::Store => STORE_PAGE,
+            Page::Check => CHECK_PAGE,
             Page::Version => VERSION_PAGE,
         }
     }

@@ -3,15 +3,17 @@ ghost use Rattle.std.specs.Prelude.{◌≡◌, List, ℕ, [], ◌∷◌, codes, 
 ghost use Rattle.gate_words.specs.reading.Lent.{setting_in, place_in};
 ghost use Rattle.gate_words.specs.reading.Words as spec;
 ghost use Rattle.gate_words.specs.Rules as rule;
-ghost use Rattle.gate_words.specs.Task.{IsTask, IsServe, IsOnce, IsStore, Spelled, NamesPlace};
+ghost use Rattle.gate_words.specs.Options.{values_of};
+ghost use Rattle.gate_words.specs.Task.{IsTask, IsServe, IsOnce, IsStore, IsCheck, Spelled, NamesPlace};
+ghost use Rattle.gate_words.specs.declared.option.Name.TheVariants.{User};
 ghost use Rattle.gate_words.specs.declared.place.Place.{Place};
 ghost use Rattle.gate_words.specs.declared.task.Task.{Task};
 ghost use Rattle.gate_words.specs.declared.task.Task.TheVariants.{Show};
 ghost use Rattle.gate_words.specs.declared.task.WordsError.TheVariants.{Refused};
 
-use crate::commands::{once_matches, serve_matches, show_matches, store_matches};
+use crate::commands::{check_matches, once_matches, serve_matches, show_matches, store_matches};
 use crate::connections::connections_in;
-use crate::found::{once_found, serve_found, store_found};
+use crate::found::{check_found, once_found, serve_found, store_found};
 use crate::option::{LentSetting, Name};
 use crate::place::LentPlace;
 use crate::rules::{is_base, is_user};
@@ -40,6 +42,15 @@ fn place_named<'a>(settings: &[LentSetting<'a>]) -> Option<LentPlace<'a>>
     let user = single(settings, Name::User)?;
     let base = single(settings, Name::Base)?;
     ruled(LentPlace { store, user, base })
+}
+
+/// The user that settings name.
+fn user_named<'a>(settings: &[LentSetting<'a>]) -> Option<&'a str>
+    ensures some { IfSome result (λ user. (values_of User (map setting_in settings.now) ≡ user.now ∷ []) × IsTrue (rule.is_user user.now)) }
+    ensures none { IfNone result ((user : List ℕ) → values_of User (map setting_in settings.now) ≡ user ∷ [] → IsTrue (rule.is_user user) → ⊥) }
+{
+    let user = single(settings, Name::User)?;
+    if is_user(user) { Some(user) } else { None }
 }
 
 /// The task of the command `serve` that words ask for, which spell these settings.
@@ -117,6 +128,34 @@ fn store_by(
     }
 }
 
+/// The task of the command `check` that words ask for, which spell these settings.
+fn check_by(
+    alloc: Global,
+    words: &[String],
+    settings: &[LentSetting<'_>],
+) -> Result<Task, WordsError>
+    requires spelled { spec.settings None (drop 1 (map string_bytes words.now)) ≡ Some (map setting_in settings.now) }
+    ensures ok { IfOk result (IsCheck (map setting_in settings.now)) }
+    ensures refused { IfErr result (λ error. error ≡ Refused → (task : Task) → IsCheck (map setting_in settings.now) task → ⊥) }
+{
+    let Some(_store) = single(settings, Name::Store) else {
+        return Err(WordsError::Refused);
+    };
+    let Some(_user) = user_named(settings) else {
+        return Err(WordsError::Refused);
+    };
+    if !is_absent(settings, Name::Base)
+        || !is_absent(settings, Name::Listen)
+        || !is_absent(settings, Name::Connections)
+    {
+        return Err(WordsError::Refused);
+    }
+    match check_matches(alloc, words) {
+        Ok(matches) => check_found(alloc, &matches),
+        Err(error) => Err(error),
+    }
+}
+
 /// The task of the command `serve`, which the words are with these options.
 fn serve(alloc: Global, words: &[String], options: &[String]) -> Result<Task, WordsError>
     requires words { drop 1 (map string_bytes words.now) ≡ map string_bytes options.now }
@@ -149,6 +188,18 @@ fn store(alloc: Global, words: &[String], options: &[String]) -> Result<Task, Wo
 {
     match settings_of(alloc, options) {
         Ok(settings) => store_by(alloc, words, settings.as_slice()),
+        Err(error) => Err(error),
+    }
+}
+
+/// The task of the command `check`, which the words are with these options.
+fn check(alloc: Global, words: &[String], options: &[String]) -> Result<Task, WordsError>
+    requires words { drop 1 (map string_bytes words.now) ≡ map string_bytes options.now }
+    ensures ok { IfOk result (Spelled IsCheck (map string_bytes options.now)) }
+    ensures refused { IfErr result (λ error. error ≡ Refused → (task : Task) → Spelled IsCheck (map string_bytes options.now) task → ⊥) }
+{
+    match settings_of(alloc, options) {
+        Ok(settings) => check_by(alloc, words, settings.as_slice()),
         Err(error) => Err(error),
     }
 }
@@ -188,6 +239,7 @@ fn page_on(command: &str) -> Option<Page>
         "once" => Some(Page::Once),
         "show" => Some(Page::Show),
         "store" => Some(Page::Store),
+        "check" => Some(Page::Check),
         _ => None,
     }
 }
@@ -218,6 +270,7 @@ fn command_task(alloc: Global, words: &[String]) -> Result<Task, WordsError>
         "once" => once(alloc, words, options),
         "show" => show(alloc, words, options),
         "store" => store(alloc, words, options),
+        "check" => check(alloc, words, options),
         _ => Err(WordsError::Refused),
     }
 }

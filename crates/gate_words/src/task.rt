@@ -31,6 +31,13 @@ pub enum Task {
         /// From 1 to `MAX_CONNECTIONS`.
         connections: u64,
     },
+    /// Asks a store what serving asks it at first, and says whether it can be used.
+    Check {
+        /// The store's address.
+        store: Text,
+        /// The user at the store, which is not empty and has no control character.
+        user: Text,
+    },
     /// Writes a page of help.
     Explain {
         page: Page,

@@ -12,7 +12,7 @@ use Rattle.gate_serving.specs.Run.{Run, account_of}
 use Rattle.gate_serving.specs.Segment.{Segment}
 use Rattle.append_laws.specs.Runs.{RunAppendsOnce, SegmentAppendsOnce}
 use Rattle.gateway.specs.Appending.{AppendsOnce, TaskAppendsOnce}
-use Rattle.gateway.specs.Program.{Performed, Unopened, ServedMany, ServedOnce, StoreUnmade, ServedStore, ShownOne, Explained, Refused, OutOfMemory, Done}
+use Rattle.gateway.specs.Program.{Performed, Unopened, ServedMany, ServedOnce, StoreUnmade, ServedStore, ShownOne, CheckLacks, CheckedOne, Explained, Refused, OutOfMemory, Done}
 
 -- what is proved of each client, and of those of a run
 abbrev pub ClientsLaw : Type 0
@@ -33,6 +33,8 @@ task_once clients runs {secrets = secrets} (ServedOnce place is serves) =
 task_once clients runs (StoreUnmade listen most a b c d) = tt
 task_once clients runs (ServedStore listen most a b) = tt
 task_once clients runs (ShownOne a b) = tt
+task_once clients runs (CheckLacks store user a b c d) = tt
+task_once clients runs (CheckedOne store user a b) = tt
 task_once clients runs (Explained page a b) = tt
 
 pub program_once : ClientsLaw → RunsLaw → (words : List (List ℕ)) (secrets : Hidden) (status : ℕ) (events : List Event) → AppendsOnce words secrets status events

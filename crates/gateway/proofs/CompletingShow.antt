@@ -9,7 +9,7 @@ use Rattle.gate_world.specs.Sending.{Sends}
 use Rattle.gate_world.specs.declared.outside.Failed.{Failed}
 use Rattle.gate_world.specs.Octets.{client_gave_in, client_took_in}
 use Rattle.gate_words.specs.declared.page.Page.{Page}
-use Rattle.gate_words.specs.declared.task.Task.TheVariants.{Serve, Once, Store, Show, Explain}
+use Rattle.gate_words.specs.declared.task.Task.TheVariants.{Serve, Once, Store, Show, Check, Explain}
 use Rattle.gate_words.proofs.Tasks.{same-task}
 use Rattle.gate_serving.specs.declared.front.FrontError.{FrontError}
 use Rattle.gate_serving.specs.declared.front.FrontError.TheVariants as error
@@ -20,7 +20,7 @@ use Rattle.gateway.specs.Show.{ShowsObject, AnswersShow, Unread, Sent, SendsLine
 use Rattle.gate_words.specs.declared.task.Task.{Task}
 use Rattle.gate_words.specs.declared.place.Place.{Place}
 use Rattle.gate_world.specs.Causes.{Faults, Hidden}
-use Rattle.gateway.specs.Program.{Runs, Refused, OutOfMemory, Done, Performed, Unopened, ServedMany, ServedOnce, StoreUnmade, ServedStore, ShownOne, Explained, EndsOne, IsAt}
+use Rattle.gateway.specs.Program.{Runs, Refused, OutOfMemory, Done, Performed, Unopened, ServedMany, ServedOnce, StoreUnmade, ServedStore, ShownOne, CheckLacks, CheckedOne, Explained, EndsOne, IsAt}
 use Rattle.gateway.specs.Complete.{asked_for, GivesWhole, TellsObject, CompletesShow}
 use Rattle.store_sessions.proofs.Answered.{heard_gives_nothing}
 use Rattle.gateway.proofs.Quiet.{gives_took, gives_gave, before_one}
@@ -118,6 +118,9 @@ not_served place listen most is = cc
 not_store : (listen : List ℕ) (most : ℕ) → Store listen most ≡ Show → ⊥
 not_store listen most is = cc
 
+not_checked : (store user : List ℕ) → Check store user ≡ Show → ⊥
+not_checked store user is = cc
+
 not_explained : (page : Page) → Explain page ≡ Show → ⊥
 not_explained page is = cc
 
@@ -134,6 +137,8 @@ ran_told behind events (StoreUnmade listen most is a b c) shows well came = absu
 ran_told behind events (ServedStore listen most is serves) shows well came = absurd (not_store listen most (sym is ∙ shows))
 ran_told {status = status} behind events (ShownOne is one) shows well came =
     shows_told one.outcome status behind one.said one.shown events one.shows well one.ends one.whole came
+ran_told behind events (CheckLacks store user is a b c) shows well came = absurd (not_checked store user (sym is ∙ shows))
+ran_told behind events (CheckedOne store user is a) shows well came = absurd (not_checked store user (sym is ∙ shows))
 ran_told behind events (Explained page is one) shows well came = absurd (not_explained page (sym is ∙ shows))
 
 -- where the status isn't 6, whoever comes with a message to be shown is told its Email object, or memory ran out

@@ -1,14 +1,16 @@
 -- What a task comes to.
-use Rattle.std.proofs.Common.{arith, ◌≡◌, ◌⊎◌, ◌++◌, ℕ, List, [], Some, None, Result, Ok, Err, refl, ap, subst}
-use Rattle.gate_world.specs.Causes.{Faults, FrontAlone, Hidden, NoFault, Later, SayAlone, Rose, RoseBy, no_faults}
+use Rattle.std.proofs.Common.{arith, ◌≡◌, ◌⊎◌, ◌++◌, ◌+◌, ◌≤◌, ℕ, Bool, true, false, if◌then◌else◌, Option, List, [], Some, None, Result, Ok, Err, refl, sym, ap, subst}
+use Rattle.gate_world.specs.Causes.{Faults, FrontAlone, Hidden, LinkAlone, NoFault, Later, SayAlone, Rose, RoseBy, no_faults}
 use Rattle.gate_world.specs.declared.event.Event.{Event}
 use Rattle.gate_words.specs.Pages.{page_text}
 use Rattle.gate_words.specs.Task.{IsTask}
 use Rattle.gate_words.specs.declared.page.Page.{Page}
 use Rattle.gate_words.specs.declared.place.Place.{Place}
 use Rattle.gate_words.specs.declared.task.Task.{Task}
-use Rattle.gate_words.specs.declared.task.Task.TheVariants.{Serve, Once, Store, Show, Explain}
+use Rattle.gate_words.specs.declared.task.Task.TheVariants.{Serve, Once, Store, Show, Check, Explain}
 use Rattle.gate_machine.specs.Progress.{Bears}
+use Rattle.store_causes.specs.declared.cause.StoreCause.{StoreCause}
+use Rattle.store_causes.specs.Causes.{loses_link}
 use Rattle.gate_serving.specs.declared.door.Door.{Door}
 use Rattle.gate_serving.specs.declared.door.Door.TheVariants.{Bare, Http}
 use Rattle.gate_serving.specs.declared.front.FrontError.{FrontError}
@@ -22,8 +24,11 @@ use Rattle.gate_serving.proofs.Answering.{bears_none, bears_later, bears_earlier
 use Rattle.honest_store.specs.Sessions.{StoreSession}
 use Rattle.small_answers.specs.Changes.{first_session}
 use Rattle.store_sessions.specs.Clients.{ServesAll, ServesSessions}
-use Rattle.gateway.specs.Program.{EndsDone, EndsFailed, EndsOnce, EndsOne, EndsStore, IsAt, IsSaid, one_blamed, words_refused, Unopened, ServedMany, ServedOnce, StoreUnmade, ServedStore, ShownOne, Explained, Refused}
-use Rattle.gateway.specs.Program.{OutOfMemory, Done, RunsShow, RunsExplain, RunsStore, Performs, IsWholeRun}
+use Rattle.gateway.specs.Program.{EndsCheck, EndsDone, EndsFailed, EndsOnce, EndsOne, EndsStore, IsAt, IsSaid, check_blamed, one_blamed, words_refused, Unopened, ServedMany, ServedOnce, StoreUnmade, ServedStore, ShownOne, CheckLacks, CheckedOne, Explained, Refused}
+use Rattle.gateway.specs.Program.{OutOfMemory, Done, RunsShow, RunsExplain, RunsStore, TellsReport, Performs, IsWholeRun}
+use Rattle.std.specs.declared.alloc.AllocError.{AllocError}
+use Rattle.gateway.specs.declared.check.Report.{Report}
+use Rattle.gateway.specs.Check.{IsReport, LacksReport, ReportsOn}
 
 later_say : (was now : Faults) → SayAlone was now → Later was now
 later_say was now alone = record { link = omega (arith, alone.link); keep = omega (arith, alone.keep); front = omega (arith, alone.front); say = alone.say }
@@ -200,6 +205,87 @@ performs_explain {was = was} {now = now} {status = status} page later failed (ex
           record { explained = explained; said = said; outcome = outcome; explains = explains; ends = ends; blames_are = refl; whole = is };
       bears = bears_one outcome status said was now later failed ends;
     }
+
+-- the task that checks a store: one client is told the report
+blames_lost : (lost : Bool) (was now : ℕ) → was ≤ now → (lost ≡ true → Rose was now) → RoseBy (0 + (if lost then 1 else 0)) was now
+blames_lost true was now later rose = omega (arith, rose refl)
+blames_lost false was now later rose = omega (arith, later)
+
+with_lost : {was now : Faults} (cause : Option StoreCause) (outcome : Result (Unit {0}) FrontError) → Later was now → (loses_link cause ≡ true → Rose was.link now.link)
+    → (one_blamed outcome).link ≡ 0 → Bears (one_blamed outcome) was now → Bears (check_blamed cause outcome) was now
+with_lost {was} {now} cause outcome later lost none bears = record {
+  link = subst (λ (n : ℕ). RoseBy (n + (if loses_link cause then 1 else 0)) was.link now.link) (sym none) (blames_lost (loses_link cause) was.link now.link later.link lost);
+  keep = bears.keep;
+  front = bears.front;
+  say = bears.say;
+}
+
+bears_check : (found : ℕ) (cause : Option StoreCause) (outcome : Result (Unit {0}) FrontError) (status : ℕ) (said : List Event) (was now : Faults) → Later was now
+    → (loses_link cause ≡ true → Rose was.link now.link) → (status ≡ 6 → Rose was.front now.front) → EndsCheck found outcome status said
+    → Bears (check_blamed cause outcome) was now
+bears_check found cause (Ok u) status said was now later lost failed ends = with_lost cause (Ok u) later lost refl (bears_none was now later)
+bears_check found cause (Err front.Memory) status said was now later lost failed ends = with_lost cause (Err front.Memory) later lost refl (bears_none was now later)
+bears_check found cause (Err front.Failed) status said was now later lost failed ends =
+    with_lost cause (Err front.Failed) later lost refl (bears_failed was now later (failed ends.0))
+
+rose_later : (was mid now : ℕ) → mid ≤ now → Rose was mid → Rose was now
+rose_later was mid now later rose = omega (arith, later, rose)
+
+pub later_link : (was mid now : Faults) → LinkAlone was mid → Later mid now → Later was now
+later_link was mid now alone later = record {
+  link = omega (arith, alone.link, later.link);
+  keep = omega (arith, alone.keep, later.keep);
+  front = omega (arith, alone.front, later.front);
+  say = omega (arith, alone.say, later.say);
+}
+
+pub rose_link : (was mid now : Faults) → LinkAlone was mid → Rose mid.front now.front → Rose was.front now.front
+rose_link was mid now alone rose = subst (λ (n : ℕ). Rose n now.front) alone.front rose
+
+pub performs_check : {store user : List ℕ} {secrets : Hidden} {was mid now : Faults} {found status : ℕ} {text : List ℕ} {xs : List Event} (ys : List Event)
+    → (report : IsReport store user secrets.password text found xs) → (loses_link report.checked.cause ≡ true → Rose was.link mid.link) → LinkAlone was mid → Later mid now → (status ≡ 6 → Rose mid.front now.front) → TellsReport text found status ys
+    → Performs (Check store user) secrets was now status (xs ++ ys)
+performs_check {store} {user} {secrets} {was} {mid} {now} {found} {status} {text} {xs} ys report lost alone later failed (telling, said, outcome, is, explains, ends) =
+    record {
+      blames = check_blamed report.checked.cause outcome;
+      ran = CheckedOne store user refl record {
+        checking = xs;
+        telling = telling;
+        said = said;
+        text = text;
+        found = found;
+        outcome = outcome;
+        report = report;
+        explains = explains;
+        ends = ends;
+        blames_are = refl;
+        whole = ap (λ (l : List Event). xs ++ l) is;
+      };
+      bears = bears_check found report.checked.cause outcome status said was now (later_link was mid now alone later)
+          (λ loses. rose_later was.link mid.link now.link later.link (lost loses)) (λ six. rose_link was mid now alone (failed six)) ends;
+    }
+
+-- no report was made
+pub lacks_report : {events : List Event} (store user password : List ℕ) (was now : Faults) (made : Result Report AllocError) (f : AllocError) → made ≡ Err f
+    → LacksReport user password events → ReportsOn store user password was now made events
+lacks_report {events} store user password was now made f is lacks =
+    subst (λ (r : Result Report AllocError). ReportsOn store user password was now r events) (sym is) lacks
+
+-- and memory ran out before that
+pub lacks_check : {store user : List ℕ} {secrets : Hidden} {was now : Faults} {xs : List Event} → LacksReport user secrets.password xs → LinkAlone was now
+    → Performs (Check store user) secrets was now 5 xs
+lacks_check {store} {user} {was = was} {now} lacks alone =
+    record {
+      blames = no_faults;
+      ran = CheckLacks store user refl lacks refl refl;
+      bears = bears_none was now (record { link = alone.link; keep = omega (arith, alone.keep); front = omega (arith, alone.front); say = omega (arith, alone.say) });
+    }
+
+-- the check of a store and a user that are named by these texts
+pub check_named : {store user named used : List ℕ} {secrets : Hidden} {was now : Faults} {status : ℕ} {events : List Event} → named ≡ store → used ≡ user
+    → Performs (Check named used) secrets was now status events → Performs (Check store user) secrets was now status events
+check_named {secrets = secrets} {was} {now} {status} {events} same same_user performs =
+    subst (λ (t : Task). Performs t secrets was now status events) (λ i. Check (same i) (same_user i)) performs
 
 -- a run over words that are a task is what the task adds
 pub runs_task : {words : List (List ℕ)} {task : Task} {secrets : Hidden} {was now : Faults} {status : ℕ} {events : List Event} → IsTask words task

@@ -27,11 +27,17 @@ ends_unread words (Ok task) status is none refused memory = absurd (none task is
 ends_unread words (Err Refused) status is none refused memory = inl (refused.1 refl)
 ends_unread words (Err Memory) status is none refused memory = inr (memory refl)
 
+never_two : (status : ℕ) → (status ≡ 0) ⊎ (status ≡ 5) ⊎ (status ≡ 6) ⊎ (status ≡ 8) → status ≡ 2 → ⊥
+never_two status (inl done) two = cc (done, two)
+never_two status (inr (inl memory)) two = cc (memory, two)
+never_two status (inr (inr (inl front))) two = cc (front, two)
+never_two status (inr (inr (inr store))) two = cc (store, two)
+
 -- words that are a task aren't refused
-pub not_refused : (read : Result Task WordsError) (task : Task) (status : ℕ) → read ≡ Ok task → (status ≡ 0) ⊎ (status ≡ 5) ⊎ (status ≡ 6)
+pub not_refused : (read : Result Task WordsError) (task : Task) (status : ℕ) → read ≡ Ok task → (status ≡ 0) ⊎ (status ≡ 5) ⊎ (status ≡ 6) ⊎ (status ≡ 8)
     → (status ≡ 2) ↔ IsErrOf read Refused
 not_refused read task status is ends = (
-  λ two. elim ends [ inl done ↦ absurd (cc (done, two)) | inr failed ↦ elim failed [ inl memory ↦ absurd (cc (memory, two)) | inr front ↦ absurd (cc (front, two)) ] ],
+  λ two. absurd (never_two status ends two),
   λ refused. absurd (let never : Ok task ≡ Err Refused = sym is ∙ refused in cc),
 )
 
@@ -53,3 +59,13 @@ where_lacking read error status is ends both lacking =
 
 pub never_front : (status : ℕ) → (status ≡ 2) ⊎ (status ≡ 5) → status ≡ 6 → ⊥
 never_front status ends six = elim ends [ inl two ↦ cc (two, six) | inr five ↦ cc (five, six) ]
+
+-- where words weren't read as a task, no store is checked
+pub never_store : (status : ℕ) → (status ≡ 2) ⊎ (status ≡ 5) → status ≡ 8 → ⊥
+never_store status ends eight = elim ends [ inl two ↦ cc (two, eight) | inr five ↦ cc (five, eight) ]
+
+-- a task that has these statuses alone checks none
+pub not_store : (status : ℕ) → (status ≡ 0) ⊎ (status ≡ 5) ⊎ (status ≡ 6) → status ≡ 8 → ⊥
+not_store status (inl done) eight = cc (done, eight)
+not_store status (inr (inl memory)) eight = cc (memory, eight)
+not_store status (inr (inr front)) eight = cc (front, eight)

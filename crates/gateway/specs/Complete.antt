@@ -1,5 +1,5 @@
 -- What clients are owed.
-use Rattle.std.specs.Prelude.{◌≡◌, ◌⊎◌, ◌++◌, ℕ, List, [], ◌∷◌, length}
+use Rattle.std.specs.Prelude.{◌≡◌, false, ◌⊎◌, ◌++◌, ℕ, List, [], ◌∷◌, length}
 use Rattle.std.specs.List.{flat_map}
 use Rattle.gate_world.specs.Causes.{Faults, Hidden, no_faults}
 use Rattle.gate_world.specs.Octets.{client_gave_in, client_took_in}
@@ -12,7 +12,8 @@ use Rattle.gate_serving.specs.declared.door.Door.TheVariants.{Bare}
 use Rattle.gate_serving.specs.Complete.{AreObeyedTold, IsSegmentObeyed, IsClientTold, IsRunTold}
 use Rattle.gate_serving.specs.Run.{account_of}
 use Rattle.gate_serving.specs.Segment.{blamed}
-use Rattle.gateway.specs.Program.{Performed, Unopened, ServedMany, ServedOnce, StoreUnmade, ServedStore, ShownOne, Explained, Runs, Refused, OutOfMemory, Done}
+use Rattle.store_causes.specs.Causes.{loses_link}
+use Rattle.gateway.specs.Program.{Performed, Unopened, ServedMany, ServedOnce, StoreUnmade, ServedStore, ShownOne, CheckLacks, CheckedOne, Explained, Runs, Refused, OutOfMemory, Done}
 use Rattle.gateway.specs.Show.{message_limit, ShowsObject}
 
 -- all octets that the client gave
@@ -44,6 +45,8 @@ IsTaskTold {secrets = secrets} (ServedOnce place a serves) =
 IsTaskTold (StoreUnmade listen most a b c d) = Unit {0}
 IsTaskTold (ServedStore listen most a b) = Unit {0}
 IsTaskTold (ShownOne a b) = Unit {0}
+IsTaskTold (CheckLacks store user a b c d) = Unit {0}
+IsTaskTold (CheckedOne store user a b) = Unit {0}
 IsTaskTold (Explained page a b) = Unit {0}
 
 abbrev pub AreTold : {words : List (List ℕ)} {secrets : Hidden} {status : ℕ} {blames : Faults} {events : List Event}
@@ -52,7 +55,7 @@ AreTold (Refused a b c d) = Unit {0}
 AreTold (OutOfMemory a b c) = Unit {0}
 AreTold (Done task a ran) = IsTaskTold ran
 
--- What comes of each client of a task for whom the store obeyed, where nothing is blamed: a small store's clients are served to their ends,
+-- What comes of each client of a task for whom the store obeyed, where nothing is blamed: a small store's clients are served to their ends, a store is checked over a link that isn't lost,
 -- or memory ran out.
 abbrev pub IsTaskAnswered : {task : Task} {secrets : Hidden} {status : ℕ} {blames : Faults} {events : List Event}
     → Performed task secrets status blames events → Type 0
@@ -63,6 +66,8 @@ IsTaskAnswered {secrets = secrets} (ServedOnce place a serves) =
 IsTaskAnswered (StoreUnmade listen most a b c d) = Unit {0}
 IsTaskAnswered (ServedStore listen most a serves) = serves.failed ≡ 0
 IsTaskAnswered (ShownOne a b) = Unit {0}
+IsTaskAnswered (CheckLacks store user a b c d) = Unit {0}
+IsTaskAnswered (CheckedOne store user a checks) = loses_link checks.report.checked.cause ≡ false
 IsTaskAnswered (Explained page a b) = Unit {0}
 
 abbrev pub AreAnswered : {words : List (List ℕ)} {secrets : Hidden} {status : ℕ} {blames : Faults} {events : List Event}

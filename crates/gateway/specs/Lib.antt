@@ -1,6 +1,7 @@
--- Program says what a run of the program is, Complete what its clients are owed, Appending what it sends for creations, ReadWords what words were read as.
+-- Program says what a run of the program is, Check what the report on a store is, Complete what its clients are owed, Appending what it sends for creations and imports, ReadWords what words were read as.
 pub mod Show
 pub mod Explain
+pub mod Check
 pub mod Program
 pub mod Complete
 pub mod Appending

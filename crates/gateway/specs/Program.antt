@@ -1,5 +1,5 @@
 -- A run of the program over its words and the outside.
-use Rattle.std.specs.Prelude.{◌≡◌, ◌⊎◌, ◌++◌, ℕ, List, [], ◌∷◌, Some, None, Result, Ok, Err, codes}
+use Rattle.std.specs.Prelude.{◌≡◌, ◌⊎◌, ◌++◌, ℕ, List, [], ◌∷◌, if◌then◌else◌, Option, Some, None, Result, Ok, Err, codes}
 use Rattle.gate_world.specs.Causes.{Faults, Hidden, no_faults}
 use Rattle.gate_world.specs.declared.event.Event.{Event}
 use Rattle.gate_world.specs.declared.event.Event.TheVariants.{Said, SayFailed}
@@ -8,8 +8,10 @@ use Rattle.gate_words.specs.Task.{IsTask}
 use Rattle.gate_words.specs.declared.page.Page.{Page}
 use Rattle.gate_words.specs.declared.place.Place.{Place}
 use Rattle.gate_words.specs.declared.task.Task.{Task}
-use Rattle.gate_words.specs.declared.task.Task.TheVariants.{Serve, Once, Store, Show, Explain}
-use Rattle.gate_machine.specs.Progress.{Bears}
+use Rattle.gate_words.specs.declared.task.Task.TheVariants.{Serve, Once, Store, Show, Check, Explain}
+use Rattle.gate_machine.specs.Progress.{Bears, blame_link}
+use Rattle.store_causes.specs.declared.cause.StoreCause.{StoreCause}
+use Rattle.store_causes.specs.Causes.{loses_link}
 use Rattle.honest_store.specs.Sessions.{StoreSession}
 use Rattle.small_answers.specs.Changes.{first_session}
 use Rattle.store_sessions.specs.Clients.{ServesSessions}
@@ -22,6 +24,7 @@ use Rattle.gate_serving.specs.GateState.{GateState}
 use Rattle.gate_serving.specs.Run.{Run, Ends, Opens, account_of, run_blamed}
 use Rattle.gate_serving.specs.Segment.{Segment, blamed, blame_front}
 use Rattle.gateway.specs.Explain.{Explains}
+use Rattle.gateway.specs.Check.{IsReport, LacksReport}
 use Rattle.gateway.specs.Show.{Shows}
 
 -- ---- what is said
@@ -68,6 +71,15 @@ abbrev pub one_blamed : Result (Unit {0}) FrontError → Faults
 one_blamed (Err front.Failed) = blame_front 1 no_faults
 one_blamed _ = no_faults
 
+-- the same of a check, where the link was lost too
+abbrev pub check_blamed : Option StoreCause → Result (Unit {0}) FrontError → Faults
+check_blamed cause outcome = blame_link (if loses_link cause then 1 else 0) (one_blamed outcome)
+
+-- The status after one that is told the report on a store, by the status of that, and what is said: status 6 where the front failed, whatever was found out.
+abbrev pub EndsCheck : ℕ → Result (Unit {0}) FrontError → ℕ → List Event → Type 0
+EndsCheck found (Ok _) status said = (status ≡ found) × (said ≡ [])
+EndsCheck found (Err e) status said = EndsOne (Err e) status said
+
 -- ---- what tasks add
 
 -- the task opens a gate at this place
@@ -76,6 +88,7 @@ IsAt (Serve place listen connections) at = place ≡ at
 IsAt (Once place) at = place ≡ at
 IsAt (Store listen connections) at = ⊥
 IsAt Show at = ⊥
+IsAt (Check store user) at = ⊥
 IsAt (Explain page) at = ⊥
 
 -- it has nothing to do with a store over the link
@@ -85,6 +98,12 @@ IsApart Show = Unit {0}
 IsApart (Explain page) = Unit {0}
 IsApart (Serve place listen connections) = ⊥
 IsApart (Once place) = ⊥
+IsApart (Check store user) = ⊥
+
+-- it checks a store
+abbrev pub ChecksStore : Task → Type 0
+ChecksStore (Check store user) = Unit {0}
+ChecksStore _ = ⊥
 
 -- A gate is opened and clients are served over HTTP.
 pub record ServesClients (place : Place) (most : ℕ) (secrets : Hidden) (status : ℕ) (blames : Faults) (events : List Event) : Type 0 where
@@ -145,6 +164,20 @@ pub record ExplainsOne (page : Page) (status : ℕ) (blames : Faults) (events : 
   pub blames_are : blames ≡ one_blamed outcome
   pub whole : events ≡ explained ++ said
 
+-- A store is checked, and then one client is told the report on it.
+pub record ChecksOne (store user password : List ℕ) (status : ℕ) (blames : Faults) (events : List Event) : Type 0 where
+  pub checking : List Event
+  pub telling : List Event
+  pub said : List Event
+  pub text : List ℕ
+  pub found : ℕ
+  pub outcome : Result (Unit {0}) FrontError
+  pub report : IsReport store user password text found checking
+  pub explains : Explains text outcome telling
+  pub ends : EndsCheck found outcome status said
+  pub blames_are : blames ≡ check_blamed report.checked.cause outcome
+  pub whole : events ≡ checking ++ (telling ++ said)
+
 -- What a task adds, with its status and the faults that are blamed.
 pub data Performed (task : Task) (secrets : Hidden) (status : ℕ) (blames : Faults) (events : List Event) : Type 0 where
   -- opening came to nothing
@@ -158,6 +191,11 @@ pub data Performed (task : Task) (secrets : Hidden) (status : ℕ) (blames : Fau
       → Performed task secrets status blames events
   ServedStore : (listen : List ℕ) (most : ℕ) → task ≡ Store listen most → ServesStore most status blames events → Performed task secrets status blames events
   ShownOne : task ≡ Show → ShowsOne status blames events → Performed task secrets status blames events
+  -- memory ran out before what was found out could be told
+  CheckLacks : (store user : List ℕ) → task ≡ Check store user → LacksReport user secrets.password events → status ≡ 5 → blames ≡ no_faults
+      → Performed task secrets status blames events
+  CheckedOne : (store user : List ℕ) → task ≡ Check store user → ChecksOne store user secrets.password status blames events
+      → Performed task secrets status blames events
   Explained : (page : Page) → task ≡ Explain page → ExplainsOne page status blames events → Performed task secrets status blames events
 
 -- The run of the program over its words: they are refused, memory runs out before anything is asked of the outside, or what
@@ -178,6 +216,11 @@ RunsShow status events = (shown : List Event) × (said : List Event) × (outcome
 abbrev pub RunsExplain : List ℕ → ℕ → List Event → Type 0
 RunsExplain text status events = (explained : List Event) × (said : List Event) × (outcome : Result (Unit {0}) FrontError) × (events ≡ explained ++ said)
     × Explains text outcome explained × EndsOne outcome status said
+
+-- what telling one client the report on a store adds, of which this is the status
+abbrev pub TellsReport : List ℕ → ℕ → ℕ → List Event → Type 0
+TellsReport text found status events = (telling : List Event) × (said : List Event) × (outcome : Result (Unit {0}) FrontError) × (events ≡ telling ++ said)
+    × Explains text outcome telling × EndsCheck found outcome status said
 
 -- what a task adds, the counts bearing its blames
 pub record Performs (task : Task) (secrets : Hidden) (was now : Faults) (status : ℕ) (events : List Event) : Type 0 where

@@ -30,8 +30,8 @@ pub fn quiet_programs_tell()
     quiet_runs_are_told();
 }
 
-/// For each creation of an Email that is asked of the program the store takes octets of one APPEND at most, and of none for anything else that a call is to
-/// change; a new Email was put there by that APPEND.
+/// For each creation or import of an Email that is asked of the program the store takes octets of one APPEND at most, and of none for anything else that
+/// a call is to change; a new Email was put there by that APPEND.
 pub fn programs_append_once()
     ensures { (words : List (List ℕ)) (secrets : Hidden) (status : ℕ) (events : List Event) → AppendsOnce words secrets status events }
 {

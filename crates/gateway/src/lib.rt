@@ -1,7 +1,8 @@
-//! The gateway: the top call, a message that is shown, and pages of help.
+//! The gateway: the top call, a message that is shown, a store that is checked, and pages of help.
 #![tactic(auto)]
 
-// A message shown, and pages of help.
+// A message shown, a store checked, and pages of help.
+mod check;
 mod explain;
 mod show;
 

@@ -8,15 +8,17 @@ ghost use Rattle.gate_words.specs.declared.task.Task.{Task};
 ghost use Rattle.gate_serving.specs.Run.{Stood};
 ghost use Rattle.gateway.specs.Appending.{AppendsOnce};
 ghost use Rattle.gateway.specs.Complete.{AnswersAll, CompletesServing, CompletesShow};
-ghost use Rattle.gateway.specs.Program.{EndsDone, EndsFailed, EndsOnce, EndsStore, IsApart, IsSaid, IsWholeRun, Performs, RunsExplain, RunsShow, RunsStore, front_failed, words_refused};
+ghost use Rattle.gateway.specs.Program.{EndsDone, EndsFailed, EndsOnce, EndsStore, IsApart, ChecksStore, IsSaid, IsWholeRun, Performs, RunsExplain, RunsShow, RunsStore, TellsReport, front_failed, words_refused};
 ghost use Rattle.gateway.specs.ReadWords.{AreRead};
 
+use crate::check::{Report, report_on};
 use crate::explain::explain_one;
 use crate::laws::{obeyed_programs_tell, programs_append_once, quiet_programs_tell};
 use crate::show::show_one;
 use gate_serving::{ClientOutcome, Door, FrontError, Gate, serve};
 use gate_words::{Page, Place, Task, WordsError, read_words};
 use gate_world::{Failed, Watcher, World};
+use octets::Text;
 use small_store::StoreMachine;
 use std::alloc::Global;
 use store_sessions::serve_sessions;
@@ -184,11 +186,47 @@ fn explain<W: World>(world: &mut W, page: Page) -> u8
     }
 }
 
+// Tells one client the report on a store.
+fn tell_report<W: World>(world: &mut W, report: &Report) -> u8
+    requires { (report.now.status ≡ 0) ⊎ (report.now.status ≡ 8) }
+    ensures told { Adds (W.tape world.old) (W.tape world.new) (TellsReport report.now.text.items report.now.status result) }
+    ensures statuses { (result ≡ 0) ⊎ (result ≡ 6) ⊎ (result ≡ 8) }
+    ensures front { result ≡ 6 → Rose (W.faults world.old).front (W.faults world.new).front }
+    ensures later { Later (W.faults world.old) (W.faults world.new) }
+    ensures hidden { W.hidden world.new ≡ W.hidden world.old }
+{
+    match explain_one(world, report.text.as_slice()) {
+        Ok(()) => report.status,
+        Err(Failed) => end_failed(world),
+    }
+}
+
+// Checks a store, and tells one client what was found out.
+fn check<W: World>(alloc: Global, world: &mut W, store: &Text, user: &Text) -> u8
+    ensures run { Adds (W.tape world.old) (W.tape world.new)
+        (Performs (Task.Check store.now user.now) (W.hidden world.old) (W.faults world.old) (W.faults world.new) result) }
+    ensures statuses { (result ≡ 0) ⊎ (result ≡ 5) ⊎ (result ≡ 6) ⊎ (result ≡ 8) }
+    ensures front { result ≡ 6 → Rose (W.faults world.old).front (W.faults world.new).front }
+    ensures later { Later (W.faults world.old) (W.faults world.new) }
+    ensures hidden { W.hidden world.new ≡ W.hidden world.old }
+{
+    match report_on(
+        alloc,
+        world,
+        store.as_str().as_bytes(),
+        user.as_str().as_bytes(),
+    ) {
+        Err(_) => STATUS_MEMORY,
+        Ok(report) => tell_report(world, &report),
+    }
+}
+
 // Does what the task asks.
 fn perform<W: World>(alloc: Global, world: &mut W, task: &Task) -> u8
     ensures run { Adds (W.tape world.old) (W.tape world.new)
         (Performs task.now (W.hidden world.old) (W.faults world.old) (W.faults world.new) result) }
-    ensures statuses { (result ≡ 0) ⊎ (result ≡ 5) ⊎ (result ≡ 6) }
+    ensures statuses { (result ≡ 0) ⊎ (result ≡ 5) ⊎ (result ≡ 6) ⊎ (result ≡ 8) }
+    ensures store { result ≡ 8 → ChecksStore task.now }
     ensures front { result ≡ 6 → Rose (W.faults world.old).front (W.faults world.new).front }
     ensures later { Later (W.faults world.old) (W.faults world.new) }
     ensures apart { IsApart task.now → (W.faults world.new).link ≡ (W.faults world.old).link }
@@ -203,6 +241,7 @@ fn perform<W: World>(alloc: Global, world: &mut W, task: &Task) -> u8
         Task::Once { place } => once(alloc, world, place),
         Task::Store { connections, .. } => store(alloc, world, *connections),
         Task::Show => show(alloc, world),
+        Task::Check { store, user } => check(alloc, world, store, user),
         Task::Explain { page } => explain(world, *page),
     }
 }
@@ -236,8 +275,9 @@ pub fn run_read<W: World>(alloc: Global, read: Result<Task, WordsError>, world: 
     ensures appends { Adds (W.tape world.old) (W.tape world.new) (λ es. (words : List (List ℕ)) → AreRead words read
         → AppendsOnce words (W.hidden world.old) result es) }
 
-    ensures statuses { (result ≡ 0) ⊎ (result ≡ 2) ⊎ (result ≡ 5) ⊎ (result ≡ 6) }
+    ensures statuses { (result ≡ 0) ⊎ (result ≡ 2) ⊎ (result ≡ 5) ⊎ (result ≡ 6) ⊎ (result ≡ 8) }
     ensures refused { (result ≡ 2) ↔ IsErrOf read WordsError.Refused }
+    ensures store { result ≡ 8 → (words : List (List ℕ)) (task : Task) → AreRead words read → IsTask words task → ChecksStore task }
     ensures memory { IsErrOf read WordsError.Memory → result ≡ 5 }
     ensures front { result ≡ 6 → Rose (W.faults world.old).front (W.faults world.new).front }
 
@@ -275,12 +315,13 @@ pub fn run<W: World>(words: &[String], world: &mut W, watchers: &mut Vec<Box<dyn
     // ran out, and nothing was sent.
     ensures shown { (result ≡ 6 → ⊥) → Adds (W.tape world.old) (W.tape world.new) (CompletesShow (map string_bytes words.now) result) }
 
-    // A law over that run: for each creation of an Email the store takes octets of one APPEND at most, and of none for anything else that a call is to
-    // change. A creation comes to a new Email only by that APPEND, which was answered OK with a usable UID.
+    // A law over that run: for each creation or import of an Email the store takes octets of one APPEND at most, and of none for anything else that a call
+    // is to change. Either comes to a new Email only by that APPEND, which was answered OK with a usable UID. A link life has no APPENDs besides these.
     ensures appends { Adds (W.tape world.old) (W.tape world.new) (AppendsOnce (map string_bytes words.now) (W.hidden world.old) result) }
 
-    // When each status comes, in every world. Out of memory in the words comes before their refusal.
-    ensures statuses { (result ≡ 0) ⊎ (result ≡ 2) ⊎ (result ≡ 5) ⊎ (result ≡ 6) }
+    // When each status comes, in every world: 8 of a check alone. Out of memory in the words comes before their refusal.
+    ensures statuses { (result ≡ 0) ⊎ (result ≡ 2) ⊎ (result ≡ 5) ⊎ (result ≡ 6) ⊎ (result ≡ 8) }
+    ensures store { result ≡ 8 → (task : Task) → IsTask (map string_bytes words.now) task → ChecksStore task }
     ensures words { result ≡ 2 → (task : Task) → IsTask (map string_bytes words.now) task → ⊥ }
     ensures refused { ((task : Task) → IsTask (map string_bytes words.now) task → ⊥) → (result ≡ 2) ⊎ (result ≡ 5) }
     ensures front { result ≡ 6 → Rose (W.faults world.old).front (W.faults world.new).front }

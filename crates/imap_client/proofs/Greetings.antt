@@ -17,7 +17,7 @@ use Rattle.imap_exchange.specs.Responses.{ReadsResponse, IsOver}
 use Rattle.imap_exchange.specs.Answering.{IsTooMuch, HangsUp}
 use Rattle.told_folder.specs.declared.exchange.Exchange.{Exchange}
 use Rattle.imap_client.specs.Plans.{Follows}
-use Rattle.imap_client.specs.Connecting.{Greets, GreetsBy, greeting_says, planned_from, Lives, Unwelcome, Welcome, Connects, Lived}
+use Rattle.imap_client.specs.Connecting.{GivesFirst, Greets, GreetsBy, greeting_says, planned_from, IsUnwelcome, IsMet, IsGreeted, Lives, Unwelcome, Welcome, Connects, Lived}
 
 -- no greeting came
 pub ungreeted : {es : List Event} (after : Octets) (up : Bool) (e : LinkEnd) → ReadsResponse 0 true up nothing_given after (Err e) es → Greets after up (Err e) es
@@ -114,39 +114,27 @@ ended_by true xs ys talk is hung = (λ i. (is ∙ append-nil talk) i ++ hung i)
 ended_by false xs ys talk is none = ap (λ (l : List Event). xs ++ l) none ∙ append-nil xs ∙ is
 
 -- no greeting that lets the client in, and then the link's end, are a life that was unwelcome
-pub unwelcome : {xs : List Event} (ys : List Event) (user password : List ℕ) (after : Octets) (up : Bool) (e : LinkEnd) (client : ClientState) → Greets after up (Err e) xs
-    → HangsUp up ys
-    → (left : Option LinkLife) × Lives user password left client (Err e) (xs ++ ys)
-unwelcome {xs} ys user password after up e client g hangs = (
-  None,
-  Unwelcome e
-      (record { talk = g.talk; gave = g.gave; whole = ended_by up xs ys g.talk g.ended hangs; first = g.first; greets = unwelcome_alone g.gave after e g.greets })
-      refl refl,
-)
+pub unwelcome : {xs : List Event} (ys : List Event) (after : Octets) (up : Bool) (e : LinkEnd) → Greets after up (Err e) xs → HangsUp up ys → IsUnwelcome e (xs ++ ys)
+unwelcome {xs} ys after up e g hangs =
+    record { talk = g.talk; gave = g.gave; whole = ended_by up xs ys g.talk g.ended hangs; first = g.first; greets = unwelcome_alone g.gave after e g.greets }
 
--- a greeting that lets the client in, and then the plan of connecting that is followed, are a life
-pub lived : {xs : List Event} (ys : List Event) (user password : List ℕ) (after : Octets) (up preauth : Bool) (at : Stage) (before client : ClientState)
-    (result : Result (Unit {0}) LinkEnd) → before ≡ begun_with after → up ≡ true → at ≡ stage.Asking → Greets after up (Ok preauth) xs
-    → ((life : LinkLife) → Stands before life → (left : LinkLife) × (exchanges : List Exchange) × Follows
-    (planned_from preauth user password at) life left exchanges client result ys)
-    → (left : Option LinkLife) × Lives user password left client result (xs ++ ys)
-lived {xs} ys user password after up preauth at before client result before_is up_is at_is g follows =
-    let so = follows life (subst (λ (p : ClientState). Stands p life) (sym before_is) stands) in (
-      Some so.0,
-      Welcome life so.0
-          (record {
-            preauth = preauth;
-            exchanges = so.1;
-            talk = g.talk;
-            last = ys;
-            whole = ap (λ (l : List Event). l ++ ys) events_are;
-            first = g.first;
-            new = record { greeted = g.greets.2; unasked = refl; untaken = refl; whole = refl; alive = refl };
-            says = g.greets.1;
-            follows = subst (λ (s : Stage). Follows (planned_from preauth user password s) life so.0 so.1 client result ys) at_is so.2;
-          })
-          refl,
-    )
+-- a life that was unwelcome is what a client does in it
+pub unwelcomed : {es : List Event} (user password : List ℕ) (e : LinkEnd) (client : ClientState) → IsUnwelcome e es
+    → (left : Option LinkLife) × Lives user password left client (Err e) es
+unwelcomed user password e client so = (None, Unwelcome e so refl refl)
+
+-- a greeting that lets the client in, over a link that is up, begins a life in which the client stands
+pub met : {xs : List Event} (after : Octets) (up preauth : Bool) (client : ClientState) → client ≡ begun_with after → up ≡ true → Greets after up (Ok preauth) xs
+    → IsGreeted client (Ok preauth) xs
+met {xs} after up preauth client client_is up_is g = (
+  life,
+  record {
+    first = subst (λ (es : List Event). GivesFirst g.gave es) (sym events_are) g.first;
+    new = record { greeted = g.greets.2; unasked = refl; untaken = refl; whole = refl; alive = refl };
+    says = g.greets.1;
+    stands = subst (λ (p : ClientState). Stands p life) (sym client_is) stands;
+  },
+)
   where
     life : LinkLife
     life = record { gave = g.gave; greeting = g.greets.0; exchanges = []; took = []; rest = after.octets; part = []; goes_on = true }
@@ -163,6 +151,30 @@ lived {xs} ys user password after up preauth at before client result before_is u
       special_use_is = λ _. refl;
       spelled = record { remaining = after.octets; greeted = g.greets.2; completed = (refl, refl); whole = λ _. refl };
     }
+
+-- a greeting that lets the client in, and then the plan of connecting that is followed, are a life
+pub lived : {xs : List Event} (ys : List Event) (user password : List ℕ) (preauth : Bool) (at : Stage) (before client : ClientState) (result : Result (Unit {0}) LinkEnd)
+    → at ≡ stage.Asking → IsGreeted before (Ok preauth) xs
+    → ((life : LinkLife) → Stands before life → (left : LinkLife) × (exchanges : List Exchange) × Follows
+    (planned_from preauth user password at) life left exchanges client result ys)
+    → (left : Option LinkLife) × Lives user password left client result (xs ++ ys)
+lived {xs} ys user password preauth at before client result at_is (life, greeted_so) follows =
+    let so = follows life greeted_so.stands in (
+      Some so.0,
+      Welcome life so.0
+          (record {
+            preauth = preauth;
+            exchanges = so.1;
+            talk = xs;
+            last = ys;
+            whole = refl;
+            first = greeted_so.first;
+            new = greeted_so.new;
+            says = greeted_so.says;
+            follows = subst (λ (s : Stage). Follows (planned_from preauth user password s) life so.0 so.1 client result ys) at_is so.2;
+          })
+          refl,
+    )
 
 -- a dial and then a life are what connecting adds
 pub connected : {xs : List Event} (ys : List Event) (user password user' password' : List ℕ) (client : ClientState) (result : Result (Unit {0}) LinkEnd) → xs ≡ Dialed ∷ []

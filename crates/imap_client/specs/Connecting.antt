@@ -27,7 +27,7 @@ use Rattle.imap_client.specs.declared.plan.Refusal.TheVariants as refusal
 use Rattle.imap_client.specs.declared.connection.Stage.{Stage}
 use Rattle.imap_client.specs.declared.connection.Stage.TheVariants as stage
 use Rattle.imap_client.specs.Capabilities.{tells}
-use Rattle.imap_client.specs.LinkLife.{LinkLife, ClientState}
+use Rattle.imap_client.specs.LinkLife.{LinkLife, ClientState, Stands}
 use Rattle.imap_client.specs.Plans.{Planned, Follows}
 
 -- ---- the greeting
@@ -120,6 +120,18 @@ pub record IsUnwelcome (e : LinkEnd) (events : List Event) : Type 0 where
   pub whole : events ≡ talk ++ LinkEnded ∷ []
   pub first : GivesFirst gave talk
   pub greets : GreetsBy gave nothing_given (Err e)
+
+-- a greeting came that lets the client in, and the client stands in the life of which it alone came
+pub record IsMet (preauth : Bool) (life : LinkLife) (client : ClientState) (events : List Event) : Type 0 where
+  pub first : GivesFirst life.gave events
+  pub new : IsNew life
+  pub says : greeting_says life.greeting ≡ Ok preauth
+  pub stands : Stands client life
+
+-- What reading the greeting of a life adds, after which it goes on or has ended.
+abbrev pub IsGreeted : ClientState → Result Bool LinkEnd → List Event → Type 0
+IsGreeted client (Ok preauth) events = (life : LinkLife) × IsMet preauth life client events
+IsGreeted client (Err e) events = IsUnwelcome e events
 
 -- a greeting came, and then what is asked
 pub record IsWelcome (user password : List ℕ) (life after : LinkLife) (client : ClientState) (result : Result (Unit {0}) LinkEnd)

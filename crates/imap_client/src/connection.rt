@@ -77,7 +77,8 @@ fn has_enabled(response: &Response, word: &[u8]) -> bool
     }
 }
 
-fn tells(x: &Exchange, word: &[u8]) -> bool
+/// Whether the store told the capability in this exchange.
+pub fn tells(x: &Exchange, word: &[u8]) -> bool
     ensures { result ≡ tells_test word.now x.now }
 {
     x.responses

@@ -4,7 +4,7 @@ ghost use Rattle.gate_world.specs.Causes.{Rose, LinkAlone};
 ghost use Rattle.gate_world.specs.Tape.{Adds};
 ghost use Rattle.imap_exchange.specs.Received.{nothing_given, room_left};
 ghost use Rattle.imap_client.specs.LinkLife.{LinkLife, fresh};
-ghost use Rattle.imap_client.specs.Connecting.{Greets, Lives, Connects, greeting_says};
+ghost use Rattle.imap_client.specs.Connecting.{Greets, IsGreeted, Lives, Connects, greeting_says};
 
 use crate::client::Client;
 use crate::connection::{Connection, Stage};
@@ -67,11 +67,11 @@ fn connection(alloc: Global, user: &[u8], password: &[u8]) -> Result<Connection,
 }
 
 impl Client {
-    // The greeting, and then what is asked.
-    fn live<L: Link>(&mut self, link: &mut L, connection: Connection) -> Result<(), LinkEnd>
-        requires fresh { self.old ≡ fresh }
-        requires stage { connection.stage ≡ Stage.Asking }
-        ensures tape { Adds (L.tape link.old) (L.tape link.new) (λ es. (left : Option LinkLife) × Lives connection.user connection.password left self.new result es) }
+    /// Reads the greeting of a life that was dialed just now (RFC 9051 section 7.1): whether it is PREAUTH. After an Err the life has
+    /// ended.
+    pub fn read_greeting<L: Link>(&mut self, link: &mut L) -> Result<bool, LinkEnd>
+        requires { self.old ≡ fresh }
+        ensures tape { Adds (L.tape link.old) (L.tape link.new) (IsGreeted self.new result) }
         ensures alive { OnOk result (self.new.alive ≡ true) }
         ensures ended { OnErr result (self.new ≡ fresh) }
         ensures alone { LinkAlone (L.faults link.old) (L.faults link.new) }
@@ -83,15 +83,34 @@ impl Client {
         let mut up = true;
         match greet(alloc, link, &mut unread, &mut up) {
             Ok(preauth) => {
-                let mut plan = connection;
-                plan.preauth = preauth;
                 self.begin(unread);
-                follow(self, link, &mut plan)
+                Ok(preauth)
             }
             Err(end) => {
                 hang_up_where(link, up);
                 Err(end)
             }
+        }
+    }
+
+    // The greeting, and then what is asked.
+    fn live<L: Link>(&mut self, link: &mut L, connection: Connection) -> Result<(), LinkEnd>
+        requires fresh { self.old ≡ fresh }
+        requires stage { connection.stage ≡ Stage.Asking }
+        ensures tape { Adds (L.tape link.old) (L.tape link.new) (λ es. (left : Option LinkLife) × Lives connection.user connection.password left self.new result es) }
+        ensures alive { OnOk result (self.new.alive ≡ true) }
+        ensures ended { OnErr result (self.new ≡ fresh) }
+        ensures alone { LinkAlone (L.faults link.old) (L.faults link.new) }
+        ensures cause { IsErrOf result LinkEnd.Lost → Rose (L.faults link.old).link (L.faults link.new).link }
+        ensures hidden { L.hidden link.new ≡ L.hidden link.old }
+    {
+        match self.read_greeting(link) {
+            Ok(preauth) => {
+                let mut plan = connection;
+                plan.preauth = preauth;
+                follow(self, link, &mut plan)
+            }
+            Err(end) => Err(end),
         }
     }
 

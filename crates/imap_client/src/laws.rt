@@ -14,12 +14,12 @@ ghost use Rattle.imap_client.specs.declared.plan.Due.TheVariants as dues;
 ghost use Rattle.imap_client.specs.declared.plan.Refusal.{Refusal};
 ghost use Rattle.imap_client.specs.Bodies.{FetchesBody, body_from, body_start, without_body};
 ghost use Rattle.imap_client.specs.Connected.{IsConnected};
-ghost use Rattle.imap_client.specs.Connecting.{Connects, GreetsBy, greeting_says};
+ghost use Rattle.imap_client.specs.Connecting.{Connects, GreetsBy, connect_plan, greeting_says};
 ghost use Rattle.imap_client.specs.LinkLife.{LinkLife, ClientState, next_number, selected};
-ghost use Rattle.imap_client.specs.Plans.{Planned, Follows, ends_torn};
+ghost use Rattle.imap_client.specs.Plans.{Planned, Follows, StopsAtRefusal, ends_torn};
 ghost use Rattle.imap_client.specs.Obeying.{Obeys};
 ghost use Rattle.imap_client.specs.Decided.{IsDecided};
-ghost use Rattle.imap_client.specs.Rounds.{Rounds};
+ghost use Rattle.imap_client.specs.Rounds.{Rounds, round_plan};
 ghost use Rattle.imap_client.specs.Sent.{due_texts, next_text};
 ghost use Rattle.imap_client.specs.WholeFetches.{IsFinishedFetch};
 ghost use Rattle.imap_client.specs.WholeRounds.{IsFinishedRound};
@@ -113,4 +113,10 @@ pub fn one_fetch()
         → FetchesBody folder uid before after life left client r es → FetchesBody folder uid before mail life other also s fs
         → flat_map store_gave_in es ++ more ≡ flat_map store_gave_in fs ++ later → IsDecided (without_body r) → IsDecided (without_body s)
         → (after ≡ mail) × (r ≡ s) }
+{}
+
+/// In connecting and in a round, a command that isn't answered OK is never the last of all that is to be done.
+pub fn refusals_stop()
+    ensures connecting { (preauth : Bool) (user password : List ℕ) → StopsAtRefusal (connect_plan preauth user password) }
+    ensures round { (special_use : Bool) (m : Mail) → StopsAtRefusal (round_plan special_use m) }
 {}

@@ -49,8 +49,10 @@ pub enum RoundStage {
 /// A round over the folders of a mirror.
 #[derive(Drop)]
 pub struct Round {
-    stage: RoundStage,
-    mirror: Mirror,
+    /// `Listing` as it begins.
+    pub stage: RoundStage,
+    /// What completed exchanges told, after what it had as the round began.
+    pub mirror: Mirror,
 }
 
 /// Whether a folder of this attribute can't be selected.
@@ -68,7 +70,8 @@ fn is_barred(attributes: &[Bytes]) -> bool
         .any(|attribute| bars_selection(attribute.as_slice()))
 }
 
-fn is_selectable(held: &NumberedFolder) -> bool
+/// Whether a folder can be selected (RFC 9051 section 7.3.1).
+pub fn is_selectable(held: &NumberedFolder) -> bool
     ensures { result ≡ rounds.is_selectable held.now }
 {
     !is_barred(held.folder.attributes.as_slice())

@@ -2,7 +2,7 @@
 use Rattle.std.specs.Prelude.{◌≡◌, ◌⊎◌, ℕ, List, [], Option, Some, None}
 use Rattle.gate_words.specs.Task.{IsTask}
 use Rattle.gate_words.specs.declared.task.Task.{Task}
-use Rattle.gate_words.specs.declared.task.Task.TheVariants.{Serve, Once, Show, Store, Explain}
+use Rattle.gate_words.specs.declared.task.Task.TheVariants.{Serve, Once, Show, Store, Check, Explain}
 use Rattle.jmapgate.specs.declared.Listening.{Listening}
 use Rattle.jmapgate.specs.declared.Listening.TheVariants.{Requests, Sessions, Nobody}
 
@@ -12,6 +12,7 @@ store_in (Serve place listen connections) = Some place.store
 store_in (Once place) = Some place.store
 store_in Show = None
 store_in (Store listen connections) = None
+store_in (Check store user) = Some store
 store_in (Explain page) = None
 
 -- its text: none where there is no store
@@ -25,6 +26,7 @@ listening_in (Serve place listen connections) = Requests listen
 listening_in (Once place) = Nobody
 listening_in Show = Nobody
 listening_in (Store listen connections) = Sessions listen
+listening_in (Check store user) = Nobody
 listening_in (Explain page) = Nobody
 
 -- the words ask for no task of which this is something

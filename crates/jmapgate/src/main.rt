@@ -147,6 +147,7 @@ fn task_store(alloc: Global, task: &Task) -> Result<Text, AllocError>
         Task::Once { place } => Text::copy_of(alloc, place.store.as_str()),
         Task::Show => Ok(no_store(alloc)),
         Task::Store { .. } => Ok(no_store(alloc)),
+        Task::Check { store, .. } => Text::copy_of(alloc, store.as_str()),
         Task::Explain { .. } => Ok(no_store(alloc)),
     }
 }
@@ -179,6 +180,7 @@ fn task_listening(alloc: Global, task: &Task) -> Result<Listening, AllocError>
             let address = Text::copy_of(alloc, listen.as_str())?;
             Ok(Listening::Sessions(address))
         }
+        Task::Check { .. } => Ok(Listening::Nobody),
         Task::Explain { .. } => Ok(Listening::Nobody),
     }
 }

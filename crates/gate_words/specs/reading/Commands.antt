@@ -24,8 +24,11 @@ id_of Connections = codes "connections"
 abbrev pub option_rule : Bool → List ℕ → Rule
 option_rule required id = record (new_rule id) { long = Some id; required = required }
 
+abbrev pub with_account : App → App
+with_account app = with_rule (with_rule app (option_rule true (codes "store"))) (option_rule true (codes "user"))
+
 abbrev pub with_place : App → App
-with_place app = with_rule (with_rule (with_rule app (option_rule true (codes "store"))) (option_rule true (codes "user"))) (option_rule true (codes "base"))
+with_place app = with_rule (with_account app) (option_rule true (codes "base"))
 
 abbrev pub with_listening : App → App
 with_listening app = with_rule (with_rule app (option_rule true (codes "listen"))) (option_rule false (codes "connections"))
@@ -41,6 +44,9 @@ show_app = new_app (codes "show")
 
 unfoldable pub store_app : App
 store_app = with_listening (new_app (codes "store"))
+
+unfoldable pub check_app : App
+check_app = with_account (new_app (codes "check"))
 
 -- ---- what they find
 
@@ -79,3 +85,12 @@ pub record StoreIn (value : Name → Option (List ℕ)) (listen : List ℕ) (con
 abbrev pub IsStoreIn : (Name → Option (List ℕ)) → Task → Type 0
 IsStoreIn value (task.Store listen connections) = StoreIn value listen connections
 IsStoreIn value _ = ⊥
+
+-- the values name the store and its user
+pub record CheckIn (value : Name → Option (List ℕ)) (store user : List ℕ) : Type 0 where
+  pub store_is : value Store ≡ Some store
+  pub user_is : value User ≡ Some user
+
+abbrev pub IsCheckIn : (Name → Option (List ℕ)) → Task → Type 0
+IsCheckIn value (task.Check store user) = CheckIn value store user
+IsCheckIn value _ = ⊥

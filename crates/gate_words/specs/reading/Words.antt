@@ -67,7 +67,7 @@ page_by option on = if bytes_eq option (codes "--help") then Some on else (if by
 abbrev pub page_on : List ℕ → Option Page
 page_on command = if bytes_eq command (codes "serve") then Some page.Serve else
     (if bytes_eq command (codes "once") then Some page.Once else (if bytes_eq command (codes "show") then Some page.Show else
-    (if bytes_eq command (codes "store") then Some page.Store else None)))
+    (if bytes_eq command (codes "store") then Some page.Store else (if bytes_eq command (codes "check") then Some page.Check else None))))
 
 -- the page that words ask for
 abbrev pub page_of : List (List ℕ) → Option Page

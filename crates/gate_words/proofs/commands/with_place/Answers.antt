@@ -1,14 +1,10 @@
-use Rattle.std.proofs.Common.{rules, ◌≡◌, codes, true, ap, ap₂, ◌∙◌}
+use Rattle.std.proofs.Common.{rules, ◌≡◌, codes, true, ap₂, ◌∙◌}
 use Rattle.std.proofs.lemmas.Result.{IfOk-weaker}
-use Rattle.clap.specs.Words.{app_of, rule_of, with_rule}
+use Rattle.clap.specs.Words.{rule_of, with_rule}
 use Rattle.gate_words.specs.reading.Commands.{option_rule}
 use Rattle.gate_words.proofs.commands.with_place.Goals as goal
 
 pub returns : goal.returns
 returns c =
-    let store : rule_of c.option_with-store.result ≡ option_rule true (codes "store") = search rules in
-    let user : rule_of c.option_with-user.result ≡ option_rule true (codes "user") = search rules in
     let base : rule_of c.option_with-base.result ≡ option_rule true (codes "base") = search rules in
-    let stored = c.in_ok-stored.ensures.shape c.option_with-store.ensures.local ∙ ap (with_rule (app_of c.args.command)) store in
-    let used = c.in_ok-used.ensures.shape c.option_with-user.ensures.local ∙ ap₂ with_rule stored user in
-    IfOk-weaker c.arg-3.result _ _ (λ command adds. adds.shape c.option_with-base.ensures.local ∙ ap₂ with_rule used base) c.arg-3.ensures
+    IfOk-weaker c.arg.result _ _ (λ command adds. adds.shape c.option_with-base.ensures.local ∙ ap₂ with_rule c.in_ok-account.ensures base) c.arg.ensures

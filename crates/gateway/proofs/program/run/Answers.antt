@@ -31,3 +31,7 @@ returns-clause-refused g c = λ none.
 pub returns-clause-apart : goal.returns-clause-apart
 returns-clause-apart g c = λ task is apart.
     c.run_read.ensures.apart _ task (are_read _ _ c.read_words-read.ensures.ok c.read_words-read.ensures.refused) is apart
+
+pub returns-clause-store : goal.returns-clause-store
+returns-clause-store g c = λ eight task is.
+    c.run_read.ensures.store eight _ task (are_read _ _ c.read_words-read.ensures.ok c.read_words-read.ensures.refused) is

@@ -3,11 +3,11 @@ use Rattle.gate_world.proofs.Joins.{widen}
 use Rattle.gate_words.specs.declared.task.Task.{Task}
 use Rattle.gate_words.specs.declared.task.WordsError.{WordsError}
 use Rattle.gate_words.proofs.Tasks.{same-task}
-use Rattle.gateway.specs.Program.{IsApart}
+use Rattle.gateway.specs.Program.{IsApart, ChecksStore}
 use Rattle.gateway.specs.ReadWords.{AreRead}
 use Rattle.gateway.proofs.CompletingShow.{completes_show}
 use Rattle.gateway.proofs.Performing.{runs_task}
-use Rattle.gateway.proofs.Reading.{never_front, not_refused, where_lacking, where_refused}
+use Rattle.gateway.proofs.Reading.{never_front, never_store, not_refused, where_lacking, where_refused}
 use Rattle.gateway.proofs.program.run_read.Goals as goal
 
 pub returns-in-Ok-clause-run : goal.returns-in-Ok-clause-run
@@ -37,6 +37,10 @@ pub returns-in-Ok-clause-apart : goal.returns-in-Ok-clause-apart
 returns-in-Ok-clause-apart g c = λ words other are is apart.
     c.perform.ensures.apart (subst (λ (t : Task). IsApart t)
     (same-task words other c.in-Ok.task is (subst (λ (r : Result Task WordsError). AreRead words r) c.in-Ok.is are)) apart)
+
+pub returns-in-Ok-clause-store : goal.returns-in-Ok-clause-store
+returns-in-Ok-clause-store g c = λ eight words other are is.
+    subst ChecksStore (same-task words c.in-Ok.task other (subst (λ (r : Result Task WordsError). AreRead words r) c.in-Ok.is are) is) (c.perform.ensures.store eight)
 
 pub returns-in-Err-clause-run : goal.returns-in-Err-clause-run
 returns-in-Err-clause-run g c =
@@ -70,3 +74,6 @@ returns-in-Err-clause-memory g c =
 
 pub returns-in-Err-clause-front : goal.returns-in-Err-clause-front
 returns-in-Err-clause-front g c = λ six. absurd (never_front c.end_unread.result c.end_unread.ensures.statuses six)
+
+pub returns-in-Err-clause-store : goal.returns-in-Err-clause-store
+returns-in-Err-clause-store g c = λ eight. absurd (never_store c.end_unread.result c.end_unread.ensures.statuses eight)

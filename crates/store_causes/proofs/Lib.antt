@@ -1,0 +1,6 @@
+mod Watching
+mod Outcomes
+mod Finds
+mod Readings
+mod Losing
+mod Reasons

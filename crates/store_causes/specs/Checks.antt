@@ -1,0 +1,88 @@
+-- A check: one link life in which a store is asked what serving asks, and what is found.
+use Rattle.std.specs.Prelude.{◌≡◌, ◌++◌, ℕ, Bool, false, List, [], ◌∷◌, fold, Option, Some, None, Result, Ok, Err}
+use Rattle.std.specs.declared.alloc.AllocError.{AllocError}
+use Rattle.gate_world.specs.declared.event.Event.{Event}
+use Rattle.gate_world.specs.declared.event.Event.TheVariants.{Dialed, LinkEnded}
+use Rattle.told_folder.specs.declared.exchange.Exchange.{Exchange}
+use Rattle.told_mail.specs.Mail.{Mail}
+use Rattle.told_mail.specs.Exchanges.{tell}
+use Rattle.imap_exchange.specs.declared.link_end.LinkEnd.{LinkEnd}
+use Rattle.imap_exchange.specs.declared.link_end.LinkEnd.TheVariants as end
+use Rattle.imap_exchange.specs.Answering.{HangsUp}
+use Rattle.imap_client.specs.Connecting.{connect_plan, IsMet, IsUnwelcome}
+use Rattle.imap_client.specs.LinkLife.{LinkLife, ClientState, selected_after, special_use}
+use Rattle.imap_client.specs.Plans.{Follows}
+use Rattle.imap_client.specs.Rounds.{round_plan}
+use Rattle.store_causes.specs.declared.cause.Asked.TheVariants as asked
+use Rattle.store_causes.specs.declared.cause.StoreCause.{StoreCause}
+use Rattle.store_causes.specs.declared.cause.StoreCause.TheVariants as cause
+use Rattle.store_causes.specs.declared.check.Checked.{Checked}
+use Rattle.store_causes.specs.Causes.{let_in_after, unanswered, StopsBy, IsOutcome}
+
+-- ---- what is found
+
+abbrev pub no_mail : Mail
+no_mail = record { folders = []; next_mark = 1; next_folder = 1 }
+
+-- nothing but the cause
+pub record IsCauseAlone (cause : StoreCause) (checked : Checked) : Type 0 where
+  pub greeting : checked.preauth ≡ None
+  pub let_in : checked.let_in ≡ false
+  pub special_use : checked.special_use ≡ false
+  pub mail : checked.mirror.mail ≡ no_mail
+  pub cause_is : checked.cause ≡ Some cause
+
+-- Whether the greeting was PREAUTH, whether the user is let in by it or by these exchanges, whether special uses are told, the mail that
+-- the others tell, and the cause.
+pub record IsFound (preauth special_use : Bool) (connecting round : List Exchange) (cause : Option StoreCause) (checked : Checked) : Type 0 where
+  pub greeting : checked.preauth ≡ Some preauth
+  pub let_in : checked.let_in ≡ fold let_in_after preauth connecting
+  pub special_use_is : checked.special_use ≡ special_use
+  pub mail : checked.mirror.mail ≡ fold tell no_mail round
+  pub cause_is : checked.cause ≡ cause
+
+-- ---- what is asked
+
+-- What serving asks is asked after the greeting: what connects a client, and then a round over no mail; no more is asked once there is a
+-- cause.
+pub data AsksStore (preauth : Bool) (user password : List ℕ) (life left : LinkLife) (client : ClientState) (events : List Event)
+    : Result Checked AllocError → Type 0 where
+  Unconnected : (xs : List Exchange) (e : LinkEnd) (c : StoreCause) (checked : Checked)
+      → Follows (connect_plan preauth user password) life left xs client (Err e) events
+      → StopsBy preauth None xs (connect_plan preauth user password xs) e c
+      → IsFound preauth false xs [] (Some c) checked → AsksStore preauth user password life left client events (Ok checked)
+  Connected : (xs ys : List Exchange) (mid : LinkLife) (was : ClientState) (first second : List Event) (ended : Result (Unit {0}) LinkEnd)
+      (c : Option StoreCause) (checked : Checked) → events ≡ first ++ second
+      → Follows (connect_plan preauth user password) life mid xs was (Ok tt) first
+      → Follows (round_plan (special_use mid) no_mail) mid left ys client ended second
+      → IsOutcome (fold let_in_after preauth xs) (fold selected_after None xs) ys (round_plan (special_use mid) no_mail ys) ended c
+      → IsFound preauth (special_use mid) xs ys c checked → AsksStore preauth user password life left client events (Ok checked)
+  -- out of memory: in the life, or for the cause by which it stopped
+  WantsConnected : (xs : List Exchange) (e : LinkEnd) (f : AllocError) → Follows (connect_plan preauth user password) life left xs client (Err e) events
+      → AsksStore preauth user password life left client events (Err f)
+  WantsMail : (xs ys : List Exchange) (mid : LinkLife) (was : ClientState) (first second : List Event) (e : LinkEnd) (f : AllocError) → events ≡ first ++ second
+      → Follows (connect_plan preauth user password) life mid xs was (Ok tt) first
+      → Follows (round_plan (special_use mid) no_mail) mid left ys client (Err e) second
+      → AsksStore preauth user password life left client events (Err f)
+
+-- ---- a life
+
+-- where no greeting lets the client in: that it isn't given, unless memory ran out
+abbrev pub FindsCause : LinkEnd → Result Checked AllocError → Type 0
+FindsCause e (Ok checked) = (c : StoreCause) × (unanswered asked.Greeting e ≡ Some c) × IsCauseAlone c checked
+FindsCause e (Err f) = e ≡ end.Memory
+
+-- A life after its dial: a greeting that lets the client in, and then what is asked; or none. It has ended.
+pub data Meets (user password : List ℕ) (result : Result Checked AllocError) (events : List Event) : Type 0 where
+  Welcome : (preauth : Bool) (life left : LinkLife) (met client : ClientState) (talk asking hanging : List Event) → events ≡ talk ++ (asking ++ hanging)
+      → IsMet preauth life met talk → AsksStore preauth user password life left client asking result → HangsUp client.alive hanging
+      → Meets user password result events
+  Unwelcome : (e : LinkEnd) → IsUnwelcome e events → FindsCause e result → Meets user password result events
+
+-- What a check adds, and what is found.
+pub data Checks (user password : List ℕ) (result : Result Checked AllocError) (events : List Event) : Type 0 where
+  Unreached : (checked : Checked) → events ≡ LinkEnded ∷ [] → result ≡ Ok checked → IsCauseAlone cause.Unreached checked
+      → Checks user password result events
+  Reached : (life : List Event) → events ≡ Dialed ∷ life → Meets user password result life → Checks user password result events
+  -- out of memory before the dial
+  Unready : (f : AllocError) → events ≡ [] → result ≡ Err f → Checks user password result events

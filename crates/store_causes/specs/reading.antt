@@ -1,0 +1,3 @@
+-- What private clauses and proofs alone speak of.
+pub mod Noting
+pub mod Following

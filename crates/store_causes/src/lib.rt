@@ -1,0 +1,21 @@
+//! Whether a store can be used: one link life in which it is asked what serving asks, and the cause where it can't.
+#![tactic(auto)]
+
+// Causes.
+mod answers;
+mod cause;
+
+// What is known of a life, and a plan that is watched.
+mod asking;
+mod notes;
+mod watched;
+
+// The check.
+mod check;
+
+// Laws.
+mod laws;
+
+pub use cause::{Asked, Breach, StoreCause};
+pub use check::{Checked, check_store};
+pub use laws::{answers_are_so, checks_only_read, each_stop_has_a_cause, one_cause};
