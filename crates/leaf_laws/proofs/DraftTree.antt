@@ -36,7 +36,7 @@ use Rattle.mime_tree.specs.Heads.{text_plain}
 use Rattle.mime_tree.specs.Parts.{children, parts_within}
 use Rattle.mime_tree.specs.Trees.{AreTrees, IsTree, HasTooManyParts, IsMessage}
 use Rattle.address_laws.proofs.DraftRows.{is_other, joined, AllOther, AreRows, are_rows}
-use Rattle.leaf_laws.specs.LeafReading.{GivenLeaf, IsLeafOf, AreLeavesOf, IsMultipartOf, given_text, given_attachment, shown_leaves, IsShown, AreShown, IsMixedOf, IsTreeOf, IsTreeOfDraft, HaveOpenIds, is_open_id}
+use Rattle.leaf_laws.specs.LeafReading.{GivenLeaf, IsLeafOf, AreLeavesOf, IsMultipartOf, given_text, given_attachment, shown_leaves, IsShown, AreShown, IsMixedOf, IsTreeOf, IsTreeOfDraft}
 use Rattle.leaf_laws.proofs.EntityHeaders.{entity_header}
 use Rattle.leaf_laws.proofs.DashTexts.{dashless, begins_dash, dashless_plain, IsDashless, AreDashless, fields_dashless, body_dashless, entity_dashless}
 use Rattle.leaf_laws.proofs.SplitTexts.{slice_at, closed, closed_lines, delimiter_first, IsApart, AreApart, last_line, ClosesWith, closes_with_end, closes_without_end, body_to, body_written, body_ended}
@@ -122,14 +122,14 @@ plain_entity value u = text_entity (codes "text/plain") value plain_text (printe
 html_entity : (value : List ℕ) → IsUtf8 value → IsQuietLeaf (text_leaf (codes "text/html") value) (given_text (codes "text/html") value)
 html_entity value u = text_entity (codes "text/html") value html_text (printed (codes "text/html") refl) u
 
-attachment_entity : (a : Attachment) → Each is_octet a.bytes → is_open_id a.cid ≡ true → IsQuietLeaf (attachment_leaf a) (given_attachment a)
+attachment_entity : (a : Attachment) → Each is_octet a.bytes → IsQuietLeaf (attachment_leaf a) (given_attachment a)
 unfolding attachment_leaf
-attachment_entity a o i =
+attachment_entity a o =
     let v = each_append is_line_octet a.media (charset_parameter a.charset) (media_printed a.media a.media_is) (charset_printed a.charset a.charset_is) in
     record {
       is = record {
         fields = (type_printed (a.media ++ charset_parameter a.charset) v, (encoding_printed, (disposition_printed a.inline a.name, ids_printed a.cid a.cid_is)));
-        say = attachment_says a i;
+        say = attachment_says a;
         octets = o;
         body = refl;
       };
@@ -162,9 +162,9 @@ one_more e w es ws q r =
       apart = λ y. (quiet_apart y e w q p.text p.whole, r.apart y);
     }
 
-attached_parts : (list : List Attachment) → HaveOctets list → HaveOpenIds list → LeafParts (map attachment_leaf list) (map given_attachment list)
-attached_parts [] o i = no_leaves
-attached_parts (a ∷ list) o i = one_more (attachment_leaf a) (given_attachment a) (map attachment_leaf list) (map given_attachment list) (attachment_entity a o.0 i.0) (attached_parts list o.1 i.1)
+attached_parts : (list : List Attachment) → HaveOctets list → LeafParts (map attachment_leaf list) (map given_attachment list)
+attached_parts [] o = no_leaves
+attached_parts (a ∷ list) o = one_more (attachment_leaf a) (given_attachment a) (map attachment_leaf list) (map given_attachment list) (attachment_entity a o.0) (attached_parts list o.1)
 
 -- ---- the two boundaries
 
@@ -329,13 +329,13 @@ first_leaf : (t : List ℕ) (w : GivenLeaf) (ws : List GivenLeaf) (cs : List Par
 first_leaf t w ws [] l = absurd l
 first_leaf t w ws (c ∷ cs) l = record { first = c; others = cs; whole = refl; is = l.0; are = l.1 }
 
-mixed_alone : (pre : List Field) (a : Attachment) (list : List Attachment) (t : List ℕ) (p : Part) (next : ℕ) → HaveOctets (a ∷ list) → HaveOpenIds (a ∷ list) → IsRoot pre (mixed None (a ∷ list)) t
+mixed_alone : (pre : List Field) (a : Attachment) (list : List Attachment) (t : List ℕ) (p : Part) (next : ℕ) → HaveOctets (a ∷ list) → IsRoot pre (mixed None (a ∷ list)) t
     → IsTree 64 t 0 (length t) text_plain 1 p next → IsMixedOf t None None (a ∷ list) p
 unfolding one_more
-mixed_alone pre a list t p next o i r tree =
-    let q = attached_parts list o.1 i.1 in
-    let k = one_more (attachment_leaf a) (given_attachment a) (map attachment_leaf list) (map given_attachment list) (attachment_entity a o.0 i.0) q in
-    let f = leaf_part (attachment_leaf a) (given_attachment a) (attachment_entity a o.0 i.0).is in
+mixed_alone pre a list t p next o r tree =
+    let q = attached_parts list o.1 in
+    let k = one_more (attachment_leaf a) (given_attachment a) (map attachment_leaf list) (map given_attachment list) (attachment_entity a o.0) q in
+    let f = leaf_part (attachment_leaf a) (given_attachment a) (attachment_entity a o.0).is in
     let m = root_mixed pre None (a ∷ list) f.text q.texts t p next r k.whole (k.apart (codes "_a")) tree in
     let l = multi_leaves 62 t (codes "multipart/mixed") (map given_attachment (a ∷ list)) (f.text ∷ q.texts) p next k.leaves m in
     record { multipart = m.multipart; shown = []; attached = children p; whole = refl; are_shown = refl; are_attached = l.0 }
@@ -345,11 +345,11 @@ record MixedText (t : List ℕ) (w : GivenLeaf) (list : List Attachment) (p : Pa
   multipart : IsMultipartOf (codes "multipart/mixed") p
   leaves : FirstLeaf t w (map given_attachment list) (children p)
 
-mixed_text : (pre : List Field) (e : Entity) (w : GivenLeaf) (list : List Attachment) (t : List ℕ) (p : Part) (next : ℕ) → IsQuietLeaf e w → HaveOctets list → HaveOpenIds list
+mixed_text : (pre : List Field) (e : Entity) (w : GivenLeaf) (list : List Attachment) (t : List ℕ) (p : Part) (next : ℕ) → IsQuietLeaf e w → HaveOctets list
     → IsRoot pre (mixed (Some e) list) t → IsTree 64 t 0 (length t) text_plain 1 p next → MixedText t w list p
 unfolding one_more
-mixed_text pre e w list t p next s o i r tree =
-    let q = attached_parts list o i in
+mixed_text pre e w list t p next s o r tree =
+    let q = attached_parts list o in
     let k = one_more e w (map attachment_leaf list) (map given_attachment list) s q in
     let f = leaf_part e w s.is in
     let m = root_mixed pre (Some e) list f.text q.texts t p next r k.whole (k.apart (codes "_a")) tree in
@@ -377,11 +377,11 @@ both_first t text html list p base (q ∷ qs) (c ∷ cs) next xs a m w l s trees
     let more = leaves_read 62 t base text_plain qs 3 cs next (map given_attachment list) xs (subst (λ (n : ℕ). AreTrees (IsTree 63 t) base text_plain qs n cs next) leaves.1 trees.2) s.1 l in
     record { multipart = m; first = c; others = cs; whole = w; is = (inner.multipart, leaves.0); are = more.0 }
 
-mixed_both : (pre : List Field) (text html : List ℕ) (list : List Attachment) (t : List ℕ) (p : Part) (next : ℕ) → IsUtf8 text → IsUtf8 html → HaveOctets list → HaveOpenIds list
+mixed_both : (pre : List Field) (text html : List ℕ) (list : List Attachment) (t : List ℕ) (p : Part) (next : ℕ) → IsUtf8 text → IsUtf8 html → HaveOctets list
     → IsRoot pre (mixed (Some (alternative text html)) list) t → IsTree 64 t 0 (length t) text_plain 1 p next → MixedBoth t text html list p
-mixed_both pre text html list t p next u v o i r tree =
+mixed_both pre text html list t p next u v o r tree =
     let a = alternative_part text html u v in
-    let q = attached_parts list o i in
+    let q = attached_parts list o in
     let whole : map closed (a.part ∷ q.texts) ≡ map entity_text (alternative text html ∷ map attachment_leaf list) =
     ap (λ (x : List ℕ). x ∷ map closed q.texts) a.whole ∙ ap (λ (us : List (List ℕ)). entity_text (alternative text html) ∷ us) q.whole in
     let m = root_mixed pre (Some (alternative text html)) list a.part q.texts t p next r whole (a.apart, q.apart (codes "_a")) tree in
@@ -400,22 +400,22 @@ alone_is pre None (Some html) t p next u v r tree = root_leaf pre (codes "text/h
 alone_is pre (Some text) (Some html) t p next u v r tree = root_alternative pre text html t p next (utf8_of text u) (utf8_of html v) r tree
 
 mixed_is : (pre : List Field) (text html : Option (List ℕ)) (a : Attachment) (list : List Attachment) (t : List ℕ) (p : Part) (next : ℕ) → is_text text ≡ true → is_text html ≡ true
-    → HaveOctets (a ∷ list) → HaveOpenIds (a ∷ list) → IsRoot pre (mixed (shown_part text html) (a ∷ list)) t → IsTree 64 t 0 (length t) text_plain 1 p next → IsMixedOf t text html (a ∷ list) p
-mixed_is pre None None a list t p next u v o i r tree = mixed_alone pre a list t p next o i r tree
-mixed_is pre (Some text) None a list t p next u v o i r tree =
-    let m = mixed_text pre (text_leaf (codes "text/plain") text) (given_text (codes "text/plain") text) (a ∷ list) t p next (plain_entity text (utf8_of text u)) o i r tree in
+    → HaveOctets (a ∷ list) → IsRoot pre (mixed (shown_part text html) (a ∷ list)) t → IsTree 64 t 0 (length t) text_plain 1 p next → IsMixedOf t text html (a ∷ list) p
+mixed_is pre None None a list t p next u v o r tree = mixed_alone pre a list t p next o r tree
+mixed_is pre (Some text) None a list t p next u v o r tree =
+    let m = mixed_text pre (text_leaf (codes "text/plain") text) (given_text (codes "text/plain") text) (a ∷ list) t p next (plain_entity text (utf8_of text u)) o r tree in
     record { multipart = m.multipart; shown = m.leaves.first ∷ []; attached = m.leaves.others; whole = m.leaves.whole; are_shown = (m.leaves.first, refl, m.leaves.is); are_attached = m.leaves.are }
-mixed_is pre None (Some html) a list t p next u v o i r tree =
-    let m = mixed_text pre (text_leaf (codes "text/html") html) (given_text (codes "text/html") html) (a ∷ list) t p next (html_entity html (utf8_of html v)) o i r tree in
+mixed_is pre None (Some html) a list t p next u v o r tree =
+    let m = mixed_text pre (text_leaf (codes "text/html") html) (given_text (codes "text/html") html) (a ∷ list) t p next (html_entity html (utf8_of html v)) o r tree in
     record { multipart = m.multipart; shown = m.leaves.first ∷ []; attached = m.leaves.others; whole = m.leaves.whole; are_shown = (m.leaves.first, refl, m.leaves.is); are_attached = m.leaves.are }
-mixed_is pre (Some text) (Some html) a list t p next u v o i r tree =
-    let m = mixed_both pre text html (a ∷ list) t p next (utf8_of text u) (utf8_of html v) o i r tree in
+mixed_is pre (Some text) (Some html) a list t p next u v o r tree =
+    let m = mixed_both pre text html (a ∷ list) t p next (utf8_of text u) (utf8_of html v) o r tree in
     record { multipart = m.multipart; shown = m.first ∷ []; attached = m.others; whole = m.whole; are_shown = (m.first, refl, m.is); are_attached = m.are }
 
-tree_is : (pre : List Field) (text html : Option (List ℕ)) (list : List Attachment) (t : List ℕ) (p : Part) (next : ℕ) → is_text text ≡ true → is_text html ≡ true → HaveOctets list → HaveOpenIds list
+tree_is : (pre : List Field) (text html : Option (List ℕ)) (list : List Attachment) (t : List ℕ) (p : Part) (next : ℕ) → is_text text ≡ true → is_text html ≡ true → HaveOctets list
     → IsRoot pre (whole_part (shown_part text html) list) t → IsTree 64 t 0 (length t) text_plain 1 p next → IsTreeOf t text html list p
-tree_is pre text html [] t p next u v o i r tree = alone_is pre text html t p next u v r tree
-tree_is pre text html (a ∷ list) t p next u v o i r tree = mixed_is pre text html a list t p next u v o i r tree
+tree_is pre text html [] t p next u v o r tree = alone_is pre text html t p next u v r tree
+tree_is pre text html (a ∷ list) t p next u v o r tree = mixed_is pre text html a list t p next u v o r tree
 
 -- ---- the fields before those of the part
 
@@ -453,9 +453,9 @@ foreign d now word fs a = record {
   location = own_other d now word fs a (codes "content-location") (refl, refl, refl, refl, refl, refl, refl, refl, refl, refl, refl, refl);
 }
 
-pub parts_are_read : (d : Draft) (now : ℤ) (word : ℕ) (t : List ℕ) (p : Part) → HaveOctets d.attachments → HaveOpenIds d.attachments → (HasTooManyParts t → ⊥) → IsMessageText d now word t → IsMessage t p
+pub parts_are_read : (d : Draft) (now : ℤ) (word : ℕ) (t : List ℕ) (p : Part) → HaveOctets d.attachments → (HasTooManyParts t → ⊥) → IsMessageText d now word t → IsMessage t p
     → IsTreeOfDraft t d p
-parts_are_read d now word t p o i small is m = by m.bounded
+parts_are_read d now word t p o small is m = by m.bounded
   where
     tree_read : IsTree 64 t 0 (length t) text_plain 1 p m.next → IsTreeOfDraft t d p
     tree_read tree =
@@ -467,7 +467,7 @@ parts_are_read d now word t p o i small is m = by m.bounded
           body = h.body_is;
           foreign = foreign d now word h.fields h.are;
         } in
-        tree_is pre d.text d.html d.attachments t p m.next d.text_is d.html_is o i r tree
+        tree_is pre d.text d.html d.attachments t p m.next d.text_is d.html_is o r tree
 
     by : ((m.levels ≡ MAX_DEPTH) × (parts_within MAX_DEPTH p ≤ MAX_PARTS)) ⊎ ((m.levels ≡ 0) × HasTooManyParts t) → IsTreeOfDraft t d p
     by (inl b) = tree_read (subst (λ (n : ℕ). IsTree n t 0 (length t) text_plain 1 p m.next) b.0 m.tree)

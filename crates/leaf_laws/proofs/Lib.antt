@@ -1,6 +1,7 @@
 pub mod MimeValues
 pub mod TypeFields
 pub mod NameFields
+pub mod WholeIds
 pub mod IdFields
 pub mod WrittenHeaders
 pub mod EntityHeaders

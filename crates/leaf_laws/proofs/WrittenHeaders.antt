@@ -1,7 +1,6 @@
 -- The headers of parts that their written fields give.
-use Rattle.std.proofs.Common.{◌≡◌, ◌≢◌, ℕ, Bool, true, false, not, List, [], ◌∷◌, ◌++◌, map, codes, refl, sym, ap, ◌∙◌, subst, append_assoc, Option, Some, None}
+use Rattle.std.proofs.Common.{◌≡◌, ◌≢◌, ℕ, Bool, true, false, List, [], ◌∷◌, ◌++◌, map, codes, refl, sym, ap, ◌∙◌, subst, append_assoc, Option, Some, None}
 use Rattle.std.specs.Prelude.{unwrap_or}
-use Rattle.std.specs.List.{list_any}
 use Rattle.std.specs.Option.{option_map}
 use Rattle.std.proofs.lemmas.List.{append-nil}
 use Rattle.text_words.specs.Cuts.{Each, front}
@@ -29,7 +28,7 @@ use Rattle.mime_fields.specs.reading.MimeLexemes.{mime_lexemes}
 use Rattle.mime_tree.specs.Heads.{is_multipart, is_text, is_digest, leaf_charset, us_ascii}
 use Rattle.address_laws.specs.MailboxReading.{shown_name}
 use Rattle.address_laws.proofs.DraftRows.{is_other, before}
-use Rattle.leaf_laws.specs.LeafReading.{GivenLeaf, given_text, given_attachment, is_open_id, opens_text}
+use Rattle.leaf_laws.specs.LeafReading.{GivenLeaf, given_text, given_attachment}
 use Rattle.leaf_laws.proofs.MimeValues.{token_lexemes}
 use Rattle.leaf_laws.proofs.TypeFields.{IsTokenText, token_text, IsMediaText, type_alone, charset_value, type_charset, boundary_value, type_boundary, IsLeafMedia, leaf_media_is, IsTypeOf}
 use Rattle.leaf_laws.proofs.NameFields.{IsDispositionOf, disposition_alone, named_value, disposition_named, no_disposition}
@@ -287,16 +286,16 @@ disposition_said inline (Some name) e =
     ap (λ (u : List ℕ). gap short ++ u) (append_assoc (disposition inline) (59 ∷ []) (gap last ++ (file_name name ++ [])) ∙ ap (λ (u : List ℕ). disposition inline ++ 59 ∷ (gap last ++ u)) (append-nil (file_name name))) in
     subst (λ (u : List ℕ). IsDispositionOf u (Some (disposition inline)) (shown_name (Some name))) (sym whole) (disposition_named short last inline name e)
 
-id_said : (cid : Option (List ℕ)) → is_identifier_or_none cid ≡ true → is_open_id cid ≡ true → IsIdOf (id_value cid) cid
+id_said : (cid : Option (List ℕ)) → is_identifier_or_none cid ≡ true → IsIdOf (id_value cid) cid
 unfolding id_value laid
-id_said None e o = refl
-id_said (Some cid) e o =
+id_said None e = refl
+id_said (Some cid) e =
     let short = short_of (codes "Content-ID") (bracketed cid) in
-    subst (λ (u : List ℕ). Rattle.mime_fields.specs.ContentIds.IsContentId (gap short ++ u) (Some cid)) (sym (append-nil (bracketed cid))) (id_is_read short cid e o)
+    subst (λ (u : List ℕ). Rattle.mime_fields.specs.ContentIds.IsContentId (gap short ++ u) (Some cid)) (sym (append-nil (bracketed cid))) (id_is_read short cid e)
 
-pub attachment_says : (a : Attachment) → is_open_id a.cid ≡ true → SayLeaf (attachment_leaf a).fields (given_attachment a)
+pub attachment_says : (a : Attachment) → SayLeaf (attachment_leaf a).fields (given_attachment a)
 unfolding attachment_leaf
-attachment_says a o =
+attachment_says a =
     let v = a.media ++ charset_parameter a.charset in
     let fs = type_field v ∷ base64_field ∷ disposition_field a.inline a.name ∷ id_fields a.cid in
     let short = short_of (codes "Content-Type") v in
@@ -308,7 +307,7 @@ attachment_says a o =
     record {
       header = header_of (Some (lower a.media)) None charset kind (shown_name a.name) a.cid (Some (codes "base64"));
       is = header_is fs ct cd (Some (codes " base64")) (id_value a.cid) (Some (lower a.media)) None charset kind (shown_name a.name) (shown_name a.name) a.cid (Some (codes "base64"))
-          (attachment_values v a.inline a.name a.cid) (type_said short a.media a.charset m a.charset_is) (disposition_said a.inline a.name a.name_is) (file_said (shown_name a.name)) (id_said a.cid a.cid_is o)
+          (attachment_values v a.inline a.name a.cid) (type_said short a.media a.charset m a.charset_is) (disposition_said a.inline a.name a.name_is) (file_said (shown_name a.name)) (id_said a.cid a.cid_is)
           base64_said;
       says = record { media = refl; single = m.single; charset = refl; disposition = refl; name = refl; cid = refl; encoding = refl };
     }

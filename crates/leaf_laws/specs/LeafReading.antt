@@ -1,6 +1,5 @@
 -- The parts of a draft, as a reader finds them in its message (RFC 2046, RFC 2183).
-use Rattle.std.specs.Prelude.{◌≡◌, ℕ, ◌+◌, Bool, true, false, not, ◌||◌, ◌==◌, List, [], ◌∷◌, ◌++◌, length, map, codes, Option, Some, None}
-use Rattle.std.specs.List.{list_any}
+use Rattle.std.specs.Prelude.{◌≡◌, ℕ, ◌+◌, false, List, [], ◌∷◌, ◌++◌, length, map, codes, Option, Some, None}
 use Rattle.address_laws.specs.MailboxReading.{shown_name}
 use Rattle.mail_drafts.specs.declared.attachment.Attachment.{Attachment}
 use Rattle.mail_drafts.specs.declared.draft.Draft.{Draft}
@@ -99,18 +98,3 @@ IsTreeOf t text html (a ∷ list) p = IsMixedOf t text html (a ∷ list) p
 
 abbrev pub IsTreeOfDraft : List ℕ → Draft → Part → Type 0
 IsTreeOfDraft t d p = IsTreeOf t d.text d.html d.attachments p
-
--- ---- ids of parts
-
--- "(" and the quotation mark, which may open a comment and a quoted text
-abbrev pub opens_text : ℕ → Bool
-opens_text c = c == 40 || c == 34
-
-abbrev pub is_open_id : Option (List ℕ) → Bool
-is_open_id None = true
-is_open_id (Some cid) = not (list_any opens_text cid)
-
--- no id of a part may be read as one with a comment or a quoted text
-abbrev pub HaveOpenIds : List Attachment → Type 0
-HaveOpenIds [] = Unit {0}
-HaveOpenIds (a ∷ list) = (is_open_id a.cid ≡ true) × HaveOpenIds list

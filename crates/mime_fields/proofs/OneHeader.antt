@@ -1,5 +1,5 @@
 -- Fields are one header of a part.
-use Rattle.std.proofs.Common.{◌≡◌, ℕ, false, List, [], ◌∷◌, ◌++◌, refl, sym, ap, ◌∙◌, subst, Option, Some, None}
+use Rattle.std.proofs.Common.{◌≡◌, ℕ, true, false, List, [], ◌∷◌, ◌++◌, refl, sym, ap, ◌∙◌, subst, Option, Some, None}
 use Rattle.std.specs.Prelude.{codes}
 use Rattle.std.specs.Option.{option_and_then}
 use Rattle.std.proofs.lemmas.List.{append_cancel_right}
@@ -13,7 +13,8 @@ use Rattle.header_tokens.specs.Tokens.{Spelled}
 use Rattle.header_tokens.proofs.LeadingLemmas.{one_leading_lexemes}
 use Rattle.mime_fields.specs.declared.header.PartHeader.{PartHeader}
 use Rattle.mime_fields.proofs.IdLemmas.{one_kept}
-use Rattle.mime_fields.specs.ContentIds.{IsWithoutAngles, InAngles, Bare}
+use Rattle.mime_fields.proofs.EnclosedLemmas.{one_enclosed}
+use Rattle.mime_fields.specs.ContentIds.{IsWithoutGaps, IsWithoutAngles, InAngles, Bare, IsContentId, Enclosed, Loose}
 use Rattle.mime_fields.proofs.ParameterLemmas.{one_has, one_unfolded, one_media, one_kind}
 use Rattle.mime_fields.specs.ContentTypes.{charset_text}
 use Rattle.mime_fields.specs.Dispositions.{IsWrittenName, IsFileName, Extended, OfFile, OfType}
@@ -45,11 +46,17 @@ one_inner _ _ _ _ e (InAngles x) (Bare u n) = absurd (n x (sym e))
 one_inner _ _ _ _ e (Bare t n) (InAngles y) = absurd (n y e)
 one_inner _ _ _ _ e (Bare t n) (Bare u m) = e
 
+one_content_id : (raw : List ℕ) (x y : Option (List ℕ)) → IsContentId raw x → IsContentId raw y → x ≡ y
+one_content_id raw _ _ (Enclosed i x g a) (Enclosed j y h b) =
+    let P : List ℕ → Type 0 = λ u. IsWithoutGaps false x u in
+    ap some_text (one_kept false x y j (subst P (one_enclosed i j (raw_form raw) g h) a) b)
+one_content_id raw _ _ (Enclosed i x g a) (Loose l y m b v) = absurd (m i g)
+one_content_id raw _ _ (Loose k x n a u) (Enclosed j y h b) = absurd (n j h)
+one_content_id raw _ _ (Loose k x n a u) (Loose l y m b v) = ap some_text (one_inner x y k l (one_kept true k l (raw_form raw) a b) u v)
+
 one_id : (raw x y : Option (List ℕ)) → IsIdOf raw x → IsIdOf raw y → x ≡ y
 one_id None x y g h = g ∙ sym h
-one_id (Some r) x y g h =
-    let k = one_kept g.kept h.kept (raw_form r) g.without_gaps h.without_gaps in
-    g.id_is ∙ ap some_text (one_inner g.inner h.inner g.kept h.kept k g.without_angles h.without_angles) ∙ sym h.id_is
+one_id (Some r) x y g h = one_content_id r x y g h
 
 record_same : (m b c d n i l p e m' b' c' d' n' i' l' p' e' : Option (List ℕ))
     → m ≡ m' → b ≡ b' → c ≡ c' → d ≡ d' → n ≡ n' → i ≡ i' → l ≡ l' → p ≡ p' → e ≡ e'

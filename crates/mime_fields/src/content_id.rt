@@ -1,48 +1,90 @@
 // Content-ID.
-ghost use Rattle.std.specs.Prelude.{◌≡◌, ◌≢◌, ◌<◌, ℕ, length, List, [], ◌∷◌, ◌++◌, IfOk, OnOk, MatchOption};
+ghost use Rattle.std.specs.Prelude.{◌≡◌, ◌≢◌, ◌<◌, ℕ, Bool, length, List, [], ◌∷◌, ◌++◌, IfOk, OnOk, MatchOption};
 ghost use Rattle.std.specs.List.{filter};
 ghost use Rattle.mail_header.specs.WhiteEnd.{some_text};
+ghost use Rattle.header_tokens.specs.Closings.{is_no_greater_octet};
 ghost use Rattle.mime_fields.specs.ContentIds as ids;
 ghost use Rattle.mime_fields.specs.reading.IdUnits as reading;
 
+use crate::parameters::{are_gaps, mime_lexeme};
+use header_tokens::has_mark;
 use header_tokens::tokens::{comment_at, quoted_at};
 use mail_header::as_raw;
 use mail_header::raw_forms::unfold;
 use octets::Bytes;
 use std::alloc::{AllocError, Global};
-use text_words::{behind, first, is_white};
+use text_words::{Class, behind, cut, first, is_white};
 
-/// The id of a raw value without comments and white space, and without one pair of angle brackets around it. There is none
-/// where nothing is left.
+/// All octets but `>`.
+struct NoGreater;
+
+impl Class<u8> for NoGreater {
+    ghost test = { is_no_greater_octet };
+
+    fn has(&self, item: &u8) -> bool {
+        *item != b'>'
+    }
+}
+
+/// The id of a raw value, without white space: what stands in angle brackets that have only comments around them, else the value
+/// without comments and without one pair of angle brackets. There is none where nothing is left.
 pub(crate) fn content_id(alloc: Global, raw: &[u8]) -> Result<Option<Bytes>, AllocError>
     ensures { IfOk result (λ id. ids.IsContentId raw.now id) }
 {
     let text = as_raw(alloc, raw)?;
-    let kept = without_gaps(alloc, text.as_slice())?;
-    some_id(alloc, without_angles(kept.as_slice()))
+    match enclosed(text.as_slice()) {
+        Some(inner) => {
+            let id = without_gaps(alloc, false, inner)?;
+            some_id(alloc, id.as_slice())
+        }
+        None => {
+            let kept = without_gaps(alloc, true, text.as_slice())?;
+            some_id(alloc, without_angles(kept.as_slice()))
+        }
+    }
 }
 
-/// The text without comments and white space.
-fn without_gaps(alloc: Global, text: &[u8]) -> Result<Vec<u8>, AllocError>
-    ensures { IfOk result (λ v. ids.IsWithoutGaps v.items text.now) }
+/// What stands between `<` and the next `>`, where before and behind them there are only white space and comments.
+fn enclosed(text: &[u8]) -> Option<&[u8]>
+    ensures { MatchOption result ((inner : List ℕ) → ids.IsEnclosed inner text.now → ⊥) (λ inner. ids.IsEnclosed inner.now text.now) }
+{
+    let Some((less, rest)) = mime_lexeme(text) else {
+        return None;
+    };
+    if !has_mark(b'<', &less) {
+        return None;
+    }
+    let (inner, closed) = cut(&NoGreater, rest);
+    let Some(more) = behind(b'>', closed) else {
+        return None;
+    };
+    if !are_gaps(more) {
+        return None;
+    }
+    Some(inner)
+}
+
+/// The text without white space, and without comments where it has them.
+fn without_gaps(alloc: Global, comments: bool, text: &[u8]) -> Result<Vec<u8>, AllocError>
+    ensures { IfOk result (λ v. ids.IsWithoutGaps comments v.items text.now) }
 {
     let mut kept = Vec::new(alloc);
     let mut rest = text;
     while !rest.is_empty() {
-        rest = push_unit(&mut kept, rest)?;
+        rest = push_unit(&mut kept, comments, rest)?;
     }
     Ok(unfold(alloc, kept.as_slice())?)
 }
 
 /// Adds what is kept of the unit at the front. Gives what follows it.
-fn push_unit<'a>(kept: &mut Vec<u8>, text: &'a [u8]) -> Result<&'a [u8], AllocError>
+fn push_unit<'a>(kept: &mut Vec<u8>, comments: bool, text: &'a [u8]) -> Result<&'a [u8], AllocError>
     requires { 0 < length text.now }
-    ensures { IfOk result (λ r. reading.TakesUnit text.now r.now kept.old.items kept.new.items) }
+    ensures { IfOk result (λ r. reading.TakesUnit comments text.now r.now kept.old.items kept.new.items) }
 {
     match first(text) {
         None => unreachable!(),
         Some((octet, rest)) => {
-            if is_opener(octet) {
+            if is_opener(comments, octet) {
                 return push_bracket(kept, text);
             }
             push_octet(kept, octet)?;
@@ -54,8 +96,8 @@ fn push_unit<'a>(kept: &mut Vec<u8>, text: &'a [u8]) -> Result<&'a [u8], AllocEr
 /// Adds the quoted text at the front, or passes over the comment there. Where neither is closed, adds all octets that
 /// are no white space: so each octet is looked at once. Gives what follows.
 fn push_bracket<'a>(kept: &mut Vec<u8>, text: &'a [u8]) -> Result<&'a [u8], AllocError>
-    requires { reading.BeginsWithOpener text.now }
-    ensures { IfOk result (λ r. reading.TakesUnit text.now r.now kept.old.items kept.new.items) }
+    ensures { IfOk result (λ r. (comments : Bool) → reading.BeginsWithOpener comments text.now
+        → reading.TakesUnit comments text.now r.now kept.old.items kept.new.items) }
 {
     if let Some((_, rest)) = comment_at(text) {
         return Ok(rest);
@@ -68,11 +110,11 @@ fn push_bracket<'a>(kept: &mut Vec<u8>, text: &'a [u8]) -> Result<&'a [u8], Allo
     Ok(&[])
 }
 
-/// A parenthesis or a quote.
-fn is_opener(octet: u8) -> bool
-    ensures { result ≡ ids.is_opener octet }
+/// A quote, and where there are comments a parenthesis.
+fn is_opener(comments: bool, octet: u8) -> bool
+    ensures { result ≡ ids.is_opener comments octet }
 {
-    octet == b'(' || octet == b'"'
+    (comments && octet == b'(') || octet == b'"'
 }
 
 /// Adds the octet, unless it is white space.

@@ -26,7 +26,7 @@ pub struct PartHeader {
     pub disposition: Option<Bytes>,
     /// The name of the part's file.
     pub name: Option<Bytes>,
-    /// Content-ID without comments and white space, and without one pair of angle brackets.
+    /// Content-ID without white space, without one pair of angle brackets and without the comments around them.
     pub cid: Option<Bytes>,
     /// Content-Language as it is written.
     pub language: Option<Bytes>,

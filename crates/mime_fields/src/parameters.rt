@@ -83,7 +83,7 @@ fn written(alloc: Global, raw: &[u8]) -> Result<Option<Bytes>, AllocError>
 }
 
 /// Whether the text is white space and comments.
-fn are_gaps(text: &[u8]) -> bool
+pub(crate) fn are_gaps(text: &[u8]) -> bool
     ensures { MatchBool result (AreLexemes alphabet.Mime [] text.now) (AreLexemes alphabet.Mime [] text.now → ⊥) }
 {
     match mime_lexeme(text) {
