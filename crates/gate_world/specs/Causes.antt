@@ -31,6 +31,13 @@ pub record LinkAlone (before now : Faults) : Type 0 where
   pub front : now.front ≡ before.front
   pub say : now.say ≡ before.say
 
+-- the keeper alone may have failed since
+pub record KeepAlone (before now : Faults) : Type 0 where
+  pub link : now.link ≡ before.link
+  pub keep : before.keep ≤ now.keep
+  pub front : now.front ≡ before.front
+  pub say : now.say ≡ before.say
+
 -- the front alone may have failed since
 pub record FrontAlone (before now : Faults) : Type 0 where
   pub link : now.link ≡ before.link

@@ -12,7 +12,9 @@ mod sending;
 mod unread;
 
 pub use event::Event;
-pub use outside::{Chance, Clock, Console, Failed, Front, KeepError, Link, Secrets, Taped, World};
+pub use outside::{
+    Chance, Clock, Console, Failed, Front, KeepError, Keeper, Link, Secrets, Taped, World,
+};
 pub use sending::{send_all, write_all};
 pub use tape::Tape;
 pub use unread::{FillError, MAX_FILL_OCTETS, Unread};

@@ -1,10 +1,13 @@
 // The parts of the outside, each with what its calls add to the tape.
-ghost use Rattle.std.specs.Prelude.{◌≡◌, ◌<◌, ◌≤◌, List, ℕ, [], ◌∷◌, Option, length, take, IfOk, OnOk, OnErr, if◌then◌else◌};
-ghost use Rattle.gate_world.specs.Causes.{Faults, Hidden, Rose, NoFault, LinkAlone, FrontAlone, SayAlone};
+ghost use Rattle.std.specs.Prelude.{◌≡◌, ◌<◌, ◌≤◌, List, ℕ, [], ◌∷◌, Option, length, take, IfOk, OnOk, OnErr, Err, if◌then◌else◌};
+ghost use Rattle.gate_world.specs.Causes.{Faults, Hidden, Rose, NoFault, LinkAlone, KeepAlone, FrontAlone, SayAlone};
 ghost use Rattle.gate_world.specs.declared.event.Event.{Event};
-ghost use Rattle.gate_world.specs.declared.event.Event.TheVariants.{Accepted, NoMore, ClientGave, ClientEnded, ClientTook, ClientDone, FrontFailed, Dialed, StoreGave, StoreTook, LinkEnded, Clock, Word, Said, SayFailed};
-ghost use Rattle.gate_world.specs.Tape.{AddsOne};
+ghost use Rattle.gate_world.specs.declared.event.Event.TheVariants.{Accepted, NoMore, ClientGave, ClientEnded, ClientTook, ClientDone, FrontFailed, Dialed, StoreGave, StoreTook, LinkEnded, Loaded, Kept, KeepFailed, LoadFailed, Clock, Word, Said, SayFailed};
+ghost use Rattle.gate_world.specs.declared.outside.KeepError.TheVariants as keeping;
+ghost use Rattle.gate_world.specs.Tape.{Adds, AddsOne, Just};
 ghost use Rattle.gate_world.specs.Read.{given};
+
+use octets::Bytes;
 
 /// A call to the outside failed: the count of faults of its part rose.
 #[derive(Clone, Copy, Debug, PartialEq, Eq)]
@@ -69,6 +72,27 @@ pub trait Link: Taped {
     fn hang_up(&mut self)
         ensures tape { AddsOne (Self.tape self.old) (Self.tape self.new) LinkEnded }
         ensures cause { NoFault (Self.faults self.old) (Self.faults self.new) }
+        ensures hidden { Self.hidden self.new ≡ Self.hidden self.old };
+}
+
+/// What outlasts the program: batches of octets, of which each is kept whole or not at all.
+pub trait Keeper: Taped {
+    /// The kept batches, in the order in which they were appended. It fails where they can't be read.
+    fn load(&mut self) -> Result<Vec<Bytes>, KeepError>
+        ensures ok { IfOk result (λ batches. AddsOne (Self.tape self.old) (Self.tape self.new) (Loaded batches.items)) }
+        ensures failed { result ≡ Err keeping.Failed → AddsOne (Self.tape self.old) (Self.tape self.new) LoadFailed }
+        ensures memory { result ≡ Err keeping.Memory → Adds (Self.tape self.old) (Self.tape self.new) (Just []) × NoFault (Self.faults self.old) (Self.faults self.new) }
+        ensures alone { KeepAlone (Self.faults self.old) (Self.faults self.new) }
+        ensures cause { result ≡ Err keeping.Failed → Rose (Self.faults self.old).keep (Self.faults self.new).keep }
+        ensures hidden { Self.hidden self.new ≡ Self.hidden self.old };
+
+    /// Keeps the batch after the others. Where it fails the batch is kept, as a later load tells, or it is not; the others are
+    /// kept as they were.
+    fn append(&mut self, batch: &[u8]) -> Result<(), Failed>
+        ensures ok { OnOk result (AddsOne (Self.tape self.old) (Self.tape self.new) (Kept batch.now)) }
+        ensures err { OnErr result (AddsOne (Self.tape self.old) (Self.tape self.new) (KeepFailed batch.now)) }
+        ensures alone { KeepAlone (Self.faults self.old) (Self.faults self.new) }
+        ensures cause { OnErr result (Rose (Self.faults self.old).keep (Self.faults self.new).keep) }
         ensures hidden { Self.hidden self.new ≡ Self.hidden self.old };
 }
 

@@ -1,9 +1,12 @@
 -- What each call plays of a script.
 use Rattle.std.specs.Prelude.{◌≡◌, ◌⊎◌, ◌+◌, ◌-◌, ◌^◌, ◌<◌, ◌==◌, ◌&&◌, ◌||◌, ℕ, ℤ, pos, Bool, true, false, List, [], ◌∷◌, ◌++◌, length, take, drop, min, max, nat_lt, nat_le}
-use Rattle.std.specs.Prelude.{Option, Some, None, IsSome, Result, Ok, Err, All}
+use Rattle.std.specs.Prelude.{Option, Some, None, IsSome, Result, Ok, Err, All, Vec}
+use Rattle.std.specs.declared.alloc.Global.{Global}
 use Rattle.std.specs.List.{list_any}
 use Rattle.scripted_world.specs.declared.left.Left.{Left}
 use Rattle.gate_world.specs.declared.outside.Failed.{Failed}
+use Rattle.gate_world.specs.declared.outside.KeepError.{KeepError}
+use Rattle.gate_world.specs.declared.outside.KeepError.TheVariants as keeping
 use Rattle.scripted_world.specs.declared.script.Fail.{Fail}
 use Rattle.scripted_world.specs.declared.script.Script.{Script}
 use Rattle.gate_world.specs.Causes.{Faults, Hidden, no_faults}
@@ -143,6 +146,38 @@ abbrev pub SayPlays : Left → Left → Result (Unit {0}) Failed → Type 0
 SayPlays before after (Ok _) = (is_next_to_fail before ≡ false) × (after ≡ counted before)
 SayPlays before after (Err _) = (is_next_to_fail before ≡ true) × (after ≡ counted before)
 
+-- the batches that are kept, in the order in which they were appended
+abbrev pub held : Left → List (List ℕ)
+held left = left.script.batches
+
+-- one batch more is kept, after the others
+abbrev pub with_batch : List ℕ → Left → Left
+with_batch batch left = record left { script = record left.script { batches = held left ++ batch ∷ [] } }
+
+-- the next call keeps its batch, where it is an append that fails
+abbrev pub is_next_kept : Left → Bool
+is_next_kept left = list_any (λ (fail : Fail). (fail.call == next_call left) && fail.kept) left.script.fails
+
+-- A load gives the batches that are held, or memory is wanting for them. It fails where it is to.
+abbrev pub LoadPlays : Left → Left → Result (Vec (List ℕ) Global) KeepError → Type 0
+LoadPlays before after (Ok batches) = (is_next_to_fail before ≡ false) × (batches.items ≡ held before) × (after ≡ counted before)
+LoadPlays before after (Err keeping.Failed) = (is_next_to_fail before ≡ true) × (after ≡ counted before)
+LoadPlays before after (Err keeping.Memory) = (is_next_to_fail before ≡ false) × (after ≡ counted before)
+
+-- The batch is held after the others. Or memory is wanting for it: it isn't held, and the tape is told no longer.
+abbrev pub Keeps : List ℕ → Left → Left → Option (List Event) → Type 0
+Keeps batch before after tape = (after ≡ with_batch batch before) ⊎ ((after ≡ before) × (tape ≡ None))
+
+-- the same where the batch is to be kept; else none is held that wasn't
+abbrev pub KeepsWhere : Bool → List ℕ → Left → Left → Option (List Event) → Type 0
+KeepsWhere true batch before after tape = Keeps batch before after tape
+KeepsWhere false batch before after tape = after ≡ before
+
+-- An append keeps its batch. It fails where it is to, and keeps its batch then where the script says so. The tape is the one after it.
+abbrev pub AppendPlays : List ℕ → Left → Left → Option (List Event) → Result (Unit {0}) Failed → Type 0
+AppendPlays batch before after tape (Ok _) = (is_next_to_fail before ≡ false) × Keeps batch (counted before) after tape
+AppendPlays batch before after tape (Err _) = (is_next_to_fail before ≡ true) × KeepsWhere (is_next_kept before) batch (counted before) after tape
+
 -- Where no call fails, a read gives the next octets of the link life, and octets 0 past its last one or where there is none.
 abbrev pub SteadyReadPlays : List ℕ → Left → Left → ℕ → Type 0
 SteadyReadPlays room before after count =
@@ -153,3 +188,9 @@ SteadyReadPlays room before after count =
 abbrev pub SteadyAcceptPlays : Left → Left → Bool → Type 0
 SteadyAcceptPlays before after true = (0 < length before.script.clients) × (after ≡ accepted before)
 SteadyAcceptPlays before after false = (before.script.clients ≡ []) × (after ≡ before)
+
+-- where no call fails, a load gives the batches that are held, or memory is wanting for them
+abbrev pub SteadyLoadPlays : Left → Left → Result (Vec (List ℕ) Global) KeepError → Type 0
+SteadyLoadPlays before after (Ok batches) = (batches.items ≡ held before) × (after ≡ before)
+SteadyLoadPlays before after (Err keeping.Failed) = ⊥
+SteadyLoadPlays before after (Err keeping.Memory) = after ≡ before

@@ -2,7 +2,7 @@
 ghost use Rattle.std.specs.Prelude.{◌≡◌, ◌+◌, ◌-◌, ◌<◌, ◌≤◌, ◌↔◌, [], IsSome, IsTrue, MatchBool, OnErr, OnOk, drop, length, max, min, nat_le, nat_lt, take, ◌==◌, ◌&&◌};
 ghost use Rattle.std.specs.List.{list_any};
 ghost use Rattle.gate_world.specs.Pieces.{Gives, octets_of, without};
-ghost use Rattle.scripted_world.specs.Script.{accepted, asked_clock, counted, dialed, drawn, ended, is_next_to_fail, next_moment, next_word, read_on, received_on, unplayed, with_client};
+ghost use Rattle.scripted_world.specs.Script.{accepted, asked_clock, counted, dialed, drawn, ended, held, is_next_kept, is_next_to_fail, next_moment, next_word, read_on, received_on, unplayed, with_batch, with_client};
 
 use crate::{Fail, Script};
 use octets::Bytes;
@@ -98,6 +98,13 @@ fn is_among(fails: &[Fail], call: u64) -> bool
     fails.iter().any(|fail| fail.call == call)
 }
 
+// Whether the call of this number is one of those that fail and keep their batch.
+fn is_among_kept(fails: &[Fail], call: u64) -> bool
+    ensures { result ≡ list_any (λ fail. (fail.call == call) && fail.kept) fails.now }
+{
+    fails.iter().any(|fail| fail.call == call && fail.kept)
+}
+
 impl Left {
     /// Nothing of the script is played.
     pub(crate) fn new(script: Script) -> Left
@@ -119,6 +126,28 @@ impl Left {
         self.calls = self.calls.saturating_add(1);
         has_stopped(self.script.stop_at, self.calls)
             || is_among(self.script.fails.as_slice(), self.calls)
+    }
+
+    /// Whether the next call keeps its batch, where it is an append that fails.
+    pub(crate) fn is_next_kept(&self) -> bool
+        ensures { result ≡ is_next_kept self.now }
+    {
+        is_among_kept(self.script.fails.as_slice(), self.calls.saturating_add(1))
+    }
+
+    /// The batches that are kept, in the order in which they were appended.
+    pub(crate) fn held(&self) -> &[Bytes]
+        ensures { result.now ≡ held self.now }
+    {
+        self.script.batches.as_slice()
+    }
+
+    /// One batch more is kept, after the others.
+    pub(crate) fn keep(&mut self, batch: Bytes) -> Result<(), AllocError>
+        ensures ok { OnOk result (self.new ≡ with_batch batch self.old) }
+        ensures err { OnErr result (self.new ≡ self.old) }
+    {
+        self.script.batches.push(batch)
     }
 
     /// The next link life begins.

@@ -1,16 +1,16 @@
 // A script that is played, for the worlds that follow one.
-ghost use Rattle.std.specs.Prelude.{◌≡◌, ◌<◌, ◌≤◌, [], MatchBool, Some, length, min, take, if◌then◌else◌};
-ghost use Rattle.gate_world.specs.declared.event.Event.TheVariants.{Accepted, ClientDone, ClientTook, Clock, Dialed, LinkEnded, NoMore, Said, StoreGave, StoreTook, Word};
+ghost use Rattle.std.specs.Prelude.{◌≡◌, ◌<◌, ◌≤◌, [], IfOk, MatchBool, None, OnErr, OnOk, Some, length, min, take, if◌then◌else◌};
+ghost use Rattle.gate_world.specs.declared.event.Event.TheVariants.{Accepted, ClientDone, ClientTook, Clock, Dialed, Kept, KeepFailed, LinkEnded, Loaded, NoMore, Said, StoreGave, StoreTook, Word};
 ghost use Rattle.gate_world.specs.Pieces.{Gives, octets_of};
 ghost use Rattle.gate_world.specs.Read.{given};
-ghost use Rattle.scripted_world.specs.Script.{accepted, asked_clock, dialed, drawn, ended, next_moment, next_word, received_on, unplayed};
-ghost use Rattle.gate_world.specs.Tape.{AddsOne};
+ghost use Rattle.scripted_world.specs.Script.{KeepsWhere, accepted, asked_clock, dialed, drawn, ended, held, next_moment, next_word, received_on, unplayed, with_batch};
+ghost use Rattle.gate_world.specs.Tape.{Adds, AddsOne, Just};
 
 use crate::Script;
 use crate::left::Left;
 use gate_world::{Event, Tape};
-use octets::Bytes;
-use std::alloc::Global;
+use octets::{Bytes, Names};
+use std::alloc::{AllocError, Global};
 
 /// What is left of a script, and what was told of it.
 #[derive(Drop)]
@@ -69,6 +69,67 @@ impl Playback {
     {
         match Bytes::copy_of(self.alloc, from) {
             Ok(octets) => self.tape.add(Event::StoreTook(octets)),
+            Err(_) => self.tape.stop(),
+        }
+    }
+
+    /// The batches that are kept, in order, and tells them. With no memory for them nothing is told.
+    pub(crate) fn load(&mut self) -> Result<Vec<Bytes>, AllocError>
+        ensures batches { IfOk result (λ batches. batches.items ≡ held self.old.left) }
+        ensures tape { IfOk result (λ batches. AddsOne self.old.tape self.new.tape (Loaded batches.items)) }
+        ensures untold { OnErr result (Adds self.old.tape self.new.tape (Just [])) }
+        ensures left { self.new.left ≡ self.old.left }
+    {
+        let batches = share_all(self.alloc, self.left.held())?;
+        match share_all(self.alloc, &batches) {
+            Ok(told) => self.tape.add(Event::Loaded(Names::from_vec(told))),
+            Err(_) => self.tape.stop(),
+        }
+        Ok(batches)
+    }
+
+    // Keeps the batch after the others, and gives it to be told. Nothing is told yet.
+    fn hold(&mut self, batch: &[u8]) -> Result<Bytes, AllocError>
+        ensures ok { IfOk result (λ told. (told ≡ batch.now) × (self.new.left ≡ with_batch batch.now self.old.left)) }
+        ensures err { OnErr result (self.new.left ≡ self.old.left) }
+        ensures tape { self.new.tape ≡ self.old.tape }
+    {
+        let held = Bytes::copy_of(self.alloc, batch)?;
+        let told = held.share()?;
+        self.left.keep(held)?;
+        Ok(told)
+    }
+
+    /// Keeps the batch after the others, and tells so. With no memory for it, it isn't kept, and the tape is told no longer.
+    pub(crate) fn keep(&mut self, batch: &[u8]) -> Result<(), AllocError>
+        ensures tape { AddsOne self.old.tape self.new.tape (Kept batch.now) }
+        ensures ok { OnOk result (self.new.left ≡ with_batch batch.now self.old.left) }
+        ensures err { OnErr result ((self.new.left ≡ self.old.left) × (self.new.tape ≡ None)) }
+    {
+        match self.hold(batch) {
+            Ok(told) => {
+                self.tape.add(Event::Kept(told));
+                Ok(())
+            }
+            Err(error) => {
+                self.tape.stop();
+                Err(error)
+            }
+        }
+    }
+
+    /// An append of the batch fails, which is kept or not. With no memory for it, it isn't kept, and the tape is told no longer.
+    pub(crate) fn fail_to_keep(&mut self, batch: &[u8], kept: bool)
+        ensures tape { AddsOne self.old.tape self.new.tape (KeepFailed batch.now) }
+        ensures left { KeepsWhere kept batch.now self.old.left self.new.left self.new.tape }
+    {
+        let told = if kept {
+            self.hold(batch)
+        } else {
+            Bytes::copy_of(self.alloc, batch)
+        };
+        match told {
+            Ok(told) => self.tape.add(Event::KeepFailed(told)),
             Err(_) => self.tape.stop(),
         }
     }
@@ -164,4 +225,15 @@ fn tell_given(alloc: Global, tape: &mut Tape, octets: &[u8])
         Ok(octets) => tape.add(Event::ClientGave(octets)),
         Err(_) => tape.stop(),
     }
+}
+
+// The same batches, whose octets are shared and not copied.
+fn share_all(alloc: Global, batches: &[Bytes]) -> Result<Vec<Bytes>, AllocError>
+    ensures { IfOk result (λ shared. shared.items ≡ batches.now) }
+{
+    let mut shared = Vec::with_capacity(alloc, batches.len())?;
+    for batch in batches {
+        shared.push(batch.share()?)?;
+    }
+    Ok(shared)
 }

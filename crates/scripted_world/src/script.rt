@@ -1,5 +1,5 @@
 // What a world in memory does, written down beforehand.
-ghost use Rattle.std.specs.Prelude.{◌≡◌, ◌++◌, [], ◌∷◌, IfOk, false};
+ghost use Rattle.std.specs.Prelude.{◌≡◌, ◌++◌, [], ◌∷◌, IfOk, false, true};
 ghost use Rattle.scripted_world.specs.Script.{plain};
 
 use octets::{Bytes, Listed};
@@ -76,6 +76,15 @@ impl Script {
         Ok(self)
     }
 
+    /// One batch more that is kept already.
+    pub fn with_batch(mut self, octets: &[u8]) -> Result<Script, AllocError>
+        ensures { IfOk result (λ script. script ≡ record self { batches = self.batches ++ octets.now ∷ [] }) }
+    {
+        let batch = Bytes::copy_of(self.batches.allocator(), octets)?;
+        self.batches.push(batch)?;
+        Ok(self)
+    }
+
     /// One moment of the clock more.
     pub fn with_moment(mut self, moment: i64) -> Result<Script, AllocError>
         ensures { IfOk result (λ script. script ≡ record self { moments = self.moments ++ moment ∷ [] }) }
@@ -114,6 +123,15 @@ impl Script {
         ensures { IfOk result (λ script. script ≡ record self { fails = self.fails ++ record { call = call; kept = false } ∷ [] }) }
     {
         let kept = false;
+        self.fails.push(Fail { call, kept })?;
+        Ok(self)
+    }
+
+    /// The call of this number fails too, and keeps its batch where it is an append; 0 is none.
+    pub fn failing_kept(mut self, call: u64) -> Result<Script, AllocError>
+        ensures { IfOk result (λ script. script ≡ record self { fails = self.fails ++ record { call = call; kept = true } ∷ [] }) }
+    {
+        let kept = true;
         self.fails.push(Fail { call, kept })?;
         Ok(self)
     }

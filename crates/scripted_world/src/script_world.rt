@@ -1,14 +1,18 @@
 // A world in memory that follows a script, and fails where the script says so.
-ghost use Rattle.std.specs.Prelude.{◌≡◌, ◌<◌, ◌≤◌, [], Some, None, IfOk, IfSome, IsNone, OnErr, OnOk, length, take, if◌then◌else◌};
-ghost use Rattle.gate_world.specs.Causes.{FrontAlone, LinkAlone, NoFault, Rose, SayAlone};
-ghost use Rattle.gate_world.specs.declared.event.Event.TheVariants.{Accepted, ClientDone, ClientTook, Clock, Dialed, FrontFailed, LinkEnded, NoMore, Said, SayFailed, StoreGave, StoreTook, Word};
+ghost use Rattle.std.specs.Prelude.{◌≡◌, ◌<◌, ◌≤◌, [], Some, None, Err, IfOk, IfSome, IsNone, OnErr, OnOk, length, take, if◌then◌else◌};
+ghost use Rattle.gate_world.specs.Causes.{FrontAlone, KeepAlone, LinkAlone, NoFault, Rose, SayAlone};
+ghost use Rattle.gate_world.specs.declared.event.Event.TheVariants.{Accepted, ClientDone, ClientTook, Clock, Dialed, FrontFailed, KeepFailed, Kept, LinkEnded, LoadFailed, Loaded, NoMore, Said, SayFailed, StoreGave, StoreTook, Word};
+ghost use Rattle.gate_world.specs.declared.outside.KeepError.TheVariants as keeping;
 ghost use Rattle.gate_world.specs.Read.{given};
-ghost use Rattle.scripted_world.specs.Script.{AcceptPlays, DialPlays, ReadPlays, RecvPlays, SayPlays, SendPlays, WritePlays, asked_clock, begun, counted, drawn, ended, next_moment, next_word};
-ghost use Rattle.gate_world.specs.Tape.{AddsOne};
+ghost use Rattle.scripted_world.specs.Script.{AcceptPlays, AppendPlays, DialPlays, KeepsWhere, LoadPlays, ReadPlays, RecvPlays, SayPlays, SendPlays, WritePlays, asked_clock, begun, counted, drawn, ended, held, next_moment, next_word};
+ghost use Rattle.gate_world.specs.Tape.{Adds, AddsOne, Just};
 
 use crate::Script;
 use crate::playback::Playback;
-use gate_world::{Chance, Clock, Console, Event, Failed, Front, Link, Secrets, Taped, World};
+use gate_world::{
+    Chance, Clock, Console, Event, Failed, Front, KeepError, Keeper, Link, Secrets, Taped, World,
+};
+use octets::Bytes;
 use std::alloc::Global;
 use std::marker::Model;
 
@@ -17,6 +21,7 @@ use std::marker::Model;
 pub struct ScriptWorld {
     playback: Playback,
     link_faults: u64,
+    keep_faults: u64,
     front_faults: u64,
     say_faults: u64,
 }
@@ -26,7 +31,7 @@ impl Model for ScriptWorld {
 
     ghost Value = { Scripted };
 
-    ghost view = { λ w. record { tape = w.playback.tape; faults = record { link = w.link_faults; keep = 0; front = w.front_faults; say = w.say_faults }; hidden = secrets w.playback.left.script; left = w.playback.left } };
+    ghost view = { λ w. record { tape = w.playback.tape; faults = record { link = w.link_faults; keep = w.keep_faults; front = w.front_faults; say = w.say_faults }; hidden = secrets w.playback.left.script; left = w.playback.left } };
 }
 
 impl ScriptWorld {
@@ -37,6 +42,7 @@ impl ScriptWorld {
         ScriptWorld {
             playback: Playback::new(alloc, script),
             link_faults: 0,
+            keep_faults: 0,
             front_faults: 0,
             say_faults: 0,
         }
@@ -48,6 +54,13 @@ impl ScriptWorld {
         ensures stopped { IsNone result → self.now.tape ≡ None }
     {
         self.playback.tape.events()
+    }
+
+    /// The batches that are kept, in the order in which they were appended. It takes no memory.
+    pub fn held(&self) -> &[Bytes]
+        ensures { result.now ≡ held self.now.left }
+    {
+        self.playback.left.held()
     }
 }
 
@@ -62,6 +75,33 @@ impl ScriptWorld {
     {
         self.link_faults = self.link_faults.saturating_add(1);
         self.playback.end_link();
+        Failed
+    }
+
+    // The fault is counted and told.
+    fn load_fails(&mut self) -> KeepError
+        ensures error { result ≡ keeping.Failed }
+        ensures tape { AddsOne self.old.tape self.new.tape LoadFailed }
+        ensures alone { KeepAlone self.old.faults self.new.faults }
+        ensures cause { Rose self.old.faults.keep self.new.faults.keep }
+        ensures hidden { self.new.hidden ≡ self.old.hidden }
+        ensures left { self.new.left ≡ self.old.left }
+    {
+        self.keep_faults = self.keep_faults.saturating_add(1);
+        self.playback.tape.add(Event::LoadFailed);
+        KeepError::Failed
+    }
+
+    // The fault is counted and told, and the batch is kept or not.
+    fn append_fails(&mut self, batch: &[u8], kept: bool) -> Failed
+        ensures tape { AddsOne self.old.tape self.new.tape (KeepFailed batch.now) }
+        ensures alone { KeepAlone self.old.faults self.new.faults }
+        ensures cause { Rose self.old.faults.keep self.new.faults.keep }
+        ensures hidden { self.new.hidden ≡ self.old.hidden }
+        ensures left { KeepsWhere kept batch.now self.old.left self.new.left self.new.tape }
+    {
+        self.keep_faults = self.keep_faults.saturating_add(1);
+        self.playback.fail_to_keep(batch, kept);
         Failed
     }
 
@@ -164,6 +204,42 @@ impl Link for ScriptWorld {
         ensures plays { self.new.left ≡ ended self.old.left }
     {
         self.playback.end_link();
+    }
+}
+
+impl Keeper for ScriptWorld {
+    fn load(&mut self) -> Result<Vec<Bytes>, KeepError>
+        ensures ok { IfOk result (λ batches. AddsOne self.old.tape self.new.tape (Loaded batches.items)) }
+        ensures failed { result ≡ Err keeping.Failed → AddsOne self.old.tape self.new.tape LoadFailed }
+        ensures memory { result ≡ Err keeping.Memory → Adds self.old.tape self.new.tape (Just []) × NoFault self.old.faults self.new.faults }
+        ensures alone { KeepAlone self.old.faults self.new.faults }
+        ensures cause { result ≡ Err keeping.Failed → Rose self.old.faults.keep self.new.faults.keep }
+        ensures hidden { self.new.hidden ≡ self.old.hidden }
+        ensures plays { LoadPlays self.old.left self.new.left result }
+    {
+        if self.playback.left.count_call() {
+            return Err(self.load_fails());
+        }
+        let Ok(batches) = self.playback.load() else {
+            return Err(KeepError::Memory);
+        };
+        Ok(batches)
+    }
+
+    fn append(&mut self, batch: &[u8]) -> Result<(), Failed>
+        ensures ok { OnOk result (AddsOne self.old.tape self.new.tape (Kept batch.now)) }
+        ensures err { OnErr result (AddsOne self.old.tape self.new.tape (KeepFailed batch.now)) }
+        ensures alone { KeepAlone self.old.faults self.new.faults }
+        ensures cause { OnErr result (Rose self.old.faults.keep self.new.faults.keep) }
+        ensures hidden { self.new.hidden ≡ self.old.hidden }
+        ensures plays { AppendPlays batch.now self.old.left self.new.left self.new.tape result }
+    {
+        let kept = self.playback.left.is_next_kept();
+        if self.playback.left.count_call() {
+            return Err(self.append_fails(batch, kept));
+        }
+        let _ = self.playback.keep(batch);
+        Ok(())
     }
 }
 

@@ -1,15 +1,18 @@
 // A world in memory that follows a script, and in which no call fails.
-ghost use Rattle.std.specs.Prelude.{◌≡◌, ◌<◌, ◌≤◌, ◌↔◌, ℕ, [], Some, None, All, IfOk, IfSome, IsNone, IsOk, IsSome, IsTrue, OnErr, OnOk, length, min, take, if◌then◌else◌};
-ghost use Rattle.gate_world.specs.Causes.{FrontAlone, LinkAlone, NoFault, Rose, SayAlone};
-ghost use Rattle.gate_world.specs.declared.event.Event.TheVariants.{Accepted, ClientDone, ClientTook, Clock, Dialed, FrontFailed, LinkEnded, NoMore, Said, SayFailed, StoreGave, StoreTook, Word};
+ghost use Rattle.std.specs.Prelude.{◌≡◌, ◌<◌, ◌≤◌, ◌↔◌, ℕ, [], Some, None, All, Err, IfOk, IfSome, IsNone, IsOk, IsSome, IsTrue, OnErr, OnOk, length, min, take, if◌then◌else◌};
+ghost use Rattle.gate_world.specs.Causes.{FrontAlone, KeepAlone, LinkAlone, NoFault, Rose, SayAlone};
+ghost use Rattle.gate_world.specs.declared.event.Event.TheVariants.{Accepted, ClientDone, ClientTook, Clock, Dialed, FrontFailed, KeepFailed, Kept, LinkEnded, LoadFailed, Loaded, NoMore, Said, SayFailed, StoreGave, StoreTook, Word};
+ghost use Rattle.gate_world.specs.declared.outside.KeepError.TheVariants as keeping;
 ghost use Rattle.gate_world.specs.Pieces.{Gives, octets_of};
 ghost use Rattle.gate_world.specs.Read.{given};
-ghost use Rattle.scripted_world.specs.Script.{SteadyAcceptPlays, SteadyReadPlays, asked_clock, begun, dialed, drawn, ended, next_moment, next_word, received_on, with_client};
-ghost use Rattle.gate_world.specs.Tape.{AddsOne};
+ghost use Rattle.scripted_world.specs.Script.{Keeps, SteadyAcceptPlays, SteadyLoadPlays, SteadyReadPlays, asked_clock, begun, dialed, drawn, ended, held, next_moment, next_word, received_on, with_batch, with_client};
+ghost use Rattle.gate_world.specs.Tape.{Adds, AddsOne, Just};
 
 use crate::Script;
 use crate::playback::Playback;
-use gate_world::{Chance, Clock, Console, Event, Failed, Front, Link, Secrets, Taped, World};
+use gate_world::{
+    Chance, Clock, Console, Event, Failed, Front, KeepError, Keeper, Link, Secrets, Taped, World,
+};
 use octets::Bytes;
 use std::alloc::{AllocError, Global};
 use std::marker::Model;
@@ -71,6 +74,24 @@ impl SteadyWorld {
         ensures err { OnErr result (self.new ≡ self.old) }
     {
         self.playback.left.add_client(octets)
+    }
+
+    /// The batches that are kept, in the order in which they were appended. It takes no memory.
+    pub fn held(&self) -> &[Bytes]
+        ensures { result.now ≡ held self.now.left }
+    {
+        self.playback.left.held()
+    }
+
+    /// Appends the batch, and says whether there was memory for it: without it the batch isn't kept, and the tape is told no longer.
+    pub fn keep(&mut self, batch: &[u8]) -> Result<(), AllocError>
+        ensures tape { AddsOne self.old.tape self.new.tape (Kept batch.now) }
+        ensures faults { NoFault self.old.faults self.new.faults }
+        ensures hidden { self.new.hidden ≡ self.old.hidden }
+        ensures ok { OnOk result (self.new.left ≡ with_batch batch.now self.old.left) }
+        ensures err { OnErr result ((self.new.left ≡ self.old.left) × (self.new.tape ≡ None)) }
+    {
+        self.playback.keep(batch)
     }
 }
 
@@ -142,6 +163,32 @@ impl Link for SteadyWorld {
         ensures plays { self.new.left ≡ ended self.old.left }
     {
         self.playback.end_link();
+    }
+}
+
+impl Keeper for SteadyWorld {
+    fn load(&mut self) -> Result<Vec<Bytes>, KeepError>
+        ensures ok { IfOk result (λ batches. AddsOne self.old.tape self.new.tape (Loaded batches.items)) }
+        ensures memory { result ≡ Err keeping.Memory → Adds self.old.tape self.new.tape (Just []) }
+        ensures faults { NoFault self.old.faults self.new.faults }
+        ensures hidden { self.new.hidden ≡ self.old.hidden }
+        ensures plays { SteadyLoadPlays self.old.left self.new.left result }
+    {
+        let Ok(batches) = self.playback.load() else {
+            return Err(KeepError::Memory);
+        };
+        Ok(batches)
+    }
+
+    fn append(&mut self, batch: &[u8]) -> Result<(), Failed>
+        ensures ok { OnOk result (AddsOne self.old.tape self.new.tape (Kept batch.now)) }
+        ensures faults { NoFault self.old.faults self.new.faults }
+        ensures hidden { self.new.hidden ≡ self.old.hidden }
+        ensures never { IsOk result }
+        ensures plays { Keeps batch.now self.old.left self.new.left self.new.tape }
+    {
+        let _ = self.keep(batch);
+        Ok(())
     }
 }
 

@@ -14,10 +14,10 @@ scripted_is w this faults hidden left =
     subst (λ (l : Left). w ≡ record { tape = w.tape; faults = this.faults; hidden = this.hidden; left = l }) left second
 
 -- the parts of two worlds, one after another
-standing_is : (w : StoreBehindLink) (steady : Scripted) (session : StoreSession) (unread ready : List ℕ) (faults : ℕ) (sent : Option (List ℕ)) → w.steady ≡ steady
-    → w.session ≡ session → w.unread ≡ unread → w.ready ≡ ready → w.link_faults ≡ faults → w.sent ≡ sent
-    → w ≡ record { steady = steady; session = session; unread = unread; ready = ready; link_faults = faults; sent = sent }
-standing_is w steady session unread ready faults sent a b c d e f =
+standing_is : (w : StoreBehindLink) (steady : Scripted) (session : StoreSession) (unread ready : List ℕ) (faults keeping : ℕ) (sent : Option (List ℕ)) → w.steady ≡ steady
+    → w.session ≡ session → w.unread ≡ unread → w.ready ≡ ready → w.link_faults ≡ faults → w.keep_faults ≡ keeping → w.sent ≡ sent
+    → w ≡ record { steady = steady; session = session; unread = unread; ready = ready; link_faults = faults; keep_faults = keeping; sent = sent }
+standing_is w steady session unread ready faults keeping sent a b c d e k f =
     let one : w ≡ record w { steady = steady } = subst (λ (x : Scripted). w ≡ record w { steady = x }) a refl in
     let two : w ≡ record w { steady = steady; session = session } = subst (λ (x : StoreSession). w ≡ record w { steady = steady; session = x }) b one in
     let three : w ≡ record w { steady = steady; session = session; unread = unread } =
@@ -26,9 +26,12 @@ standing_is w steady session unread ready faults sent a b c d e f =
     subst (λ (x : List ℕ). w ≡ record w { steady = steady; session = session; unread = unread; ready = x }) d three in
     let five : w ≡ record w { steady = steady; session = session; unread = unread; ready = ready; link_faults = faults } =
     subst (λ (x : ℕ). w ≡ record w { steady = steady; session = session; unread = unread; ready = ready; link_faults = x }) e four in
-    subst (λ (x : Option (List ℕ)). w ≡ record { steady = steady; session = session; unread = unread; ready = ready; link_faults = faults; sent = x }) f five
+    let six : w ≡ record w { steady = steady; session = session; unread = unread; ready = ready; link_faults = faults; keep_faults = keeping } =
+    subst (λ (x : ℕ). w ≡ record w { steady = steady; session = session; unread = unread; ready = ready; link_faults = faults; keep_faults = x }) k five in
+    subst (λ (x : Option (List ℕ)). w ≡ record { steady = steady; session = session; unread = unread; ready = ready; link_faults = faults; keep_faults = keeping; sent = x }) f six
 
 pub but_for_tape : (w this : StoreBehindLink) → w.steady.faults ≡ this.steady.faults → w.steady.hidden ≡ this.steady.hidden → w.steady.left ≡ this.steady.left
-    → w.session ≡ this.session → w.unread ≡ this.unread → w.ready ≡ this.ready → w.link_faults ≡ this.link_faults → w.sent ≡ this.sent → IsButForTape w this
-but_for_tape w this faults hidden left session unread ready link_faults sent =
-    standing_is w _ _ _ _ _ _ (scripted_is w.steady this.steady faults hidden left) session unread ready link_faults sent
+    → w.session ≡ this.session → w.unread ≡ this.unread → w.ready ≡ this.ready → w.link_faults ≡ this.link_faults → w.keep_faults ≡ this.keep_faults
+    → w.sent ≡ this.sent → IsButForTape w this
+but_for_tape w this faults hidden left session unread ready link_faults keep_faults sent =
+    standing_is w _ _ _ _ _ _ _ (scripted_is w.steady this.steady faults hidden left) session unread ready link_faults keep_faults sent

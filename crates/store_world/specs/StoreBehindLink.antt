@@ -1,9 +1,12 @@
 -- What stands in a world with a store behind its link, and what each call leaves there.
 use Rattle.std.specs.Prelude.{◌≡◌, ◌⊎◌, ℕ, ◌+◌, ◌-◌, ◌^◌, ◌<◌, List, [], ◌∷◌, ◌++◌, length, take, drop, min, codes, Bool, true, false, All}
-use Rattle.std.specs.Prelude.{Option, Some, None, IsNone, IsSome, Result, Ok, Err}
+use Rattle.std.specs.Prelude.{Option, Some, None, IsNone, IsSome, Result, Ok, Err, Vec}
+use Rattle.std.specs.declared.alloc.Global.{Global}
 use Rattle.gate_world.specs.Causes.{Faults}
 use Rattle.gate_world.specs.declared.event.Event.{Event}
 use Rattle.gate_world.specs.declared.outside.Failed.{Failed}
+use Rattle.gate_world.specs.declared.outside.KeepError.{KeepError}
+use Rattle.gate_world.specs.declared.outside.KeepError.TheVariants as keeping
 use Rattle.honest_store.specs.Sessions.{StoreSession}
 use Rattle.scripted_world.specs.declared.left.Left.{Left}
 use Rattle.scripted_world.specs.declared.script.Script.{Script}
@@ -14,19 +17,20 @@ use Rattle.small_answers.specs.Changes.{first_session}
 use Rattle.store_sessions.specs.Sessions.{greeting}
 use Rattle.store_world.specs.Replies.{AnswersSome, Replies}
 
--- The world without its store: tape, secrets and clients; the session over the store; octets that came over the link and of which no command
--- is answered yet; octets that the store told and that aren't read yet; how often the link failed; and what the last client took, as long as
--- there is memory for it.
+-- The world without its store: tape, secrets, clients and kept batches; the session over the store; octets that came over the link and of which no command
+-- is answered yet; octets that the store told and that aren't read yet; how often the link and the keeper failed; and what the last client took,
+-- as long as there is memory for it.
 pub record StoreBehindLink : Type 0 where
   pub steady : Scripted
   pub session : StoreSession
   pub unread : List ℕ
   pub ready : List ℕ
   pub link_faults : ℕ
+  pub keep_faults : ℕ
   pub sent : Option (List ℕ)
 
 abbrev pub faults_of : StoreBehindLink → Faults
-faults_of w = record { link = w.link_faults; keep = 0; front = 0; say = 0 }
+faults_of w = record { link = w.link_faults; keep = w.keep_faults; front = 0; say = 0 }
 
 -- the octets, as long as the tape is told
 abbrev pub while_told : Option (List Event) → Option (List ℕ) → Option (List ℕ)
@@ -61,7 +65,7 @@ drill_script clients = record plain { clients = clients; password = drill; token
 -- a world before its first call
 abbrev pub begun : List (List ℕ) → StoreBehindLink
 begun clients =
-    record { steady = script.begun (drill_script clients); session = first_session; unread = []; ready = []; link_faults = 0; sent = Some [] }
+    record { steady = script.begun (drill_script clients); session = first_session; unread = []; ready = []; link_faults = 0; keep_faults = 0; sent = Some [] }
 
 -- ---- the owner's side
 
@@ -108,6 +112,31 @@ pub data Writes (octets : List ℕ) (w : StoreBehindLink) : StoreBehindLink → 
       → Replies w.session (w.unread ++ octets) told session rest → IsButForTape after (replied told session rest w) → Writes octets w after (Ok count)
   Broken : {after : StoreBehindLink} {session : StoreSession} {failed : Failed} → IsSome w.steady.left.link
       → AnswersSome w.session (w.unread ++ octets) session → IsButForTape after (broken session w) → Writes octets w after (Err failed)
+
+-- ---- the keeper
+
+-- the batches that are kept, in the order in which they were appended
+abbrev pub held : StoreBehindLink → List (List ℕ)
+held w = script.held w.steady.left
+
+-- one batch more is kept, after the others
+abbrev pub with_batch : List ℕ → StoreBehindLink → StoreBehindLink
+with_batch batch w = with_left w (script.with_batch batch w.steady.left)
+
+-- the keeper failed, and no batch more is kept
+abbrev pub unkept : StoreBehindLink → StoreBehindLink
+unkept w = record w { keep_faults = min (w.keep_faults + 1) (2 ^ 64 - 1) }
+
+-- a load gives the batches that are held, or memory is wanting for them
+abbrev pub Loads : StoreBehindLink → Result (Vec (List ℕ) Global) KeepError → Type 0
+Loads w (Ok batches) = batches.items ≡ held w
+Loads w (Err keeping.Failed) = ⊥
+Loads w (Err keeping.Memory) = Unit {0}
+
+-- An append keeps its batch. It fails where memory is wanting for it: the batch isn't kept, and the tape is told no longer.
+abbrev pub Appends : List ℕ → StoreBehindLink → StoreBehindLink → Result (Unit {0}) Failed → Type 0
+Appends batch w after (Ok _) = IsButForTape after (with_batch batch w)
+Appends batch w after (Err _) = IsButForTape after (unkept w) × (after.steady.tape ≡ None)
 
 -- ---- the clients
 

@@ -1,24 +1,27 @@
 // A world in memory with a store behind its link.
-ghost use Rattle.std.specs.Prelude.{◌≡◌, ◌<◌, ◌≤◌, ◌++◌, List, ℕ, IfOk, IsOk, MatchOption, None, OnErr, OnOk, Some, length, take, if◌then◌else◌};
+ghost use Rattle.std.specs.Prelude.{◌≡◌, ◌<◌, ◌≤◌, ◌++◌, List, ℕ, [], Err, IfOk, IsOk, MatchOption, None, OnErr, OnOk, Some, length, take, if◌then◌else◌};
 ghost use Rattle.std.specs.Borrow.{sem};
-ghost use Rattle.gate_world.specs.Causes.{LinkAlone, Rose};
-ghost use Rattle.gate_world.specs.declared.event.Event.TheVariants.{Accepted, ClientDone, ClientTook, NoMore};
+ghost use Rattle.gate_world.specs.Causes.{KeepAlone, LinkAlone, Rose};
+ghost use Rattle.gate_world.specs.declared.event.Event.TheVariants.{Accepted, ClientDone, ClientTook, KeepFailed, Kept, Loaded, NoMore};
 ghost use Rattle.gate_world.specs.declared.event.Event.TheVariants.{Clock, Dialed, LinkEnded, Said, StoreGave, StoreTook, Word};
+ghost use Rattle.gate_world.specs.declared.outside.KeepError.TheVariants as keeping;
 ghost use Rattle.gate_world.specs.Pieces.{Gives, octets_of};
 ghost use Rattle.gate_world.specs.Read.{given};
-ghost use Rattle.gate_world.specs.Tape.{AddsOne};
+ghost use Rattle.gate_world.specs.Tape.{Adds, AddsOne, Just};
 ghost use Rattle.honest_store.specs.Sessions.{StoreSession};
 ghost use Rattle.scripted_world.specs.Script.{next_moment, next_word};
 ghost use Rattle.store_world.specs.Lending.{LendsStore};
 ghost use Rattle.store_world.specs.Replies.{AnswersSome, Replies};
-ghost use Rattle.store_world.specs.StoreBehindLink.{Accepts, IsButForLink, IsButForTape, Reads, Sends, Writes};
-ghost use Rattle.store_world.specs.StoreBehindLink.{asked_clock, begun, broken, dialed, drawn, faults_of, hung_up, read_on, received_on, replied, sent_of, with_client};
+ghost use Rattle.store_world.specs.StoreBehindLink.{Accepts, Appends, IsButForLink, IsButForTape, Loads, Reads, Sends, Writes};
+ghost use Rattle.store_world.specs.StoreBehindLink.{asked_clock, begun, broken, dialed, drawn, faults_of, held, hung_up, read_on, received_on, replied, sent_of, with_client};
 
 use crate::octet_queue::OctetQueue;
 use crate::ready::Ready;
 use crate::replies::reply;
 use crate::sent::Sent;
-use gate_world::{Chance, Clock, Console, Failed, Front, Link, Secrets, Taped, World};
+use gate_world::{
+    Chance, Clock, Console, Failed, Front, KeepError, Keeper, Link, Secrets, Taped, World,
+};
 use octets::{Bytes, Listed};
 use scripted_world::{Script, SteadyWorld};
 use small_store::StoreMachine;
@@ -30,7 +33,8 @@ use store_sessions::CommandStore;
 const DRILL: &[u8] = b"drill";
 
 /// A world in memory, whose clients are those that it is given, whose moments and random words are 0, and whose password and token are `drill`. Behind
-/// its link is a store, which answers what is written. The link fails where memory is wanting for that, and no other call does.
+/// its link is a store, which answers what is written. The link fails where memory is wanting for that, the keeper where it is wanting for a batch
+/// that is appended, and no other call does.
 #[derive(Drop)]
 pub struct StoreWorld {
     alloc: Global,
@@ -39,6 +43,7 @@ pub struct StoreWorld {
     unread: OctetQueue,
     ready: Ready,
     link_faults: u64,
+    keep_faults: u64,
     sent: Sent,
 }
 
@@ -47,7 +52,7 @@ impl Model for StoreWorld {
 
     ghost Value = { StoreBehindLink };
 
-    ghost view = { λ w. record { steady = w.steady; session = w.store; unread = w.unread; ready = w.ready; link_faults = w.link_faults; sent = w.sent } };
+    ghost view = { λ w. record { steady = w.steady; session = w.store; unread = w.unread; ready = w.ready; link_faults = w.link_faults; keep_faults = w.keep_faults; sent = w.sent } };
 }
 
 impl StoreWorld {
@@ -64,6 +69,7 @@ impl StoreWorld {
             unread: OctetQueue::new(alloc),
             ready: Ready::new(alloc),
             link_faults: 0,
+            keep_faults: 0,
             sent: Sent::new(alloc),
         })
     }
@@ -82,6 +88,13 @@ impl StoreWorld {
         ensures err { OnErr result (self.new ≡ self.old) }
     {
         self.steady.add_client(octets)
+    }
+
+    /// The batches that are kept, in the order in which they were appended. It takes no memory.
+    pub fn held(&self) -> &[Bytes]
+        ensures { result.now ≡ held self.now }
+    {
+        self.steady.held()
     }
 
     /// The octets that the last accepted client took. None once memory was wanting for such octets, for an event or for an answer. It takes
@@ -192,6 +205,34 @@ impl Link for StoreWorld {
         self.unread.clear();
         self.ready.clear();
         self.steady.hang_up();
+    }
+}
+
+impl Keeper for StoreWorld {
+    fn load(&mut self) -> Result<Vec<Bytes>, KeepError>
+        ensures ok { IfOk result (λ batches. AddsOne self.old.steady.tape self.new.steady.tape (Loaded batches.items)) }
+        ensures memory { result ≡ Err keeping.Memory → Adds self.old.steady.tape self.new.steady.tape (Just []) }
+        ensures gives { Loads self.old result }
+        ensures plays { IsButForTape self.new self.old }
+    {
+        self.steady.load()
+    }
+
+    fn append(&mut self, batch: &[u8]) -> Result<(), Failed>
+        ensures ok { OnOk result (AddsOne self.old.steady.tape self.new.steady.tape (Kept batch.now)) }
+        ensures err { OnErr result (AddsOne self.old.steady.tape self.new.steady.tape (KeepFailed batch.now)) }
+        ensures alone { KeepAlone (faults_of self.old) (faults_of self.new) }
+        ensures cause { OnErr result (Rose self.old.keep_faults self.new.keep_faults) }
+        ensures hidden { self.new.steady.hidden ≡ self.old.steady.hidden }
+        ensures plays { Appends batch.now self.old self.new result }
+    {
+        match self.steady.keep(batch) {
+            Ok(()) => Ok(()),
+            Err(_) => {
+                self.keep_faults = self.keep_faults.saturating_add(1);
+                Err(Failed)
+            }
+        }
     }
 }
 

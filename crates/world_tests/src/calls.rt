@@ -1,6 +1,6 @@
 // Calls by letters: d, r, w and h for dial, read, write and hang_up, A, R, S and F for accept, recv, send and finish, c for
-// the clock, n for a word, and s for a text.
-use gate_world::{Chance, Clock, Console, Front, Link, World};
+// the clock, n for a word, s for a text, l for load, and k and K for an append.
+use gate_world::{Chance, Clock, Console, Front, Keeper, Link, World};
 use scripted_world::{ScriptWorld, SteadyWorld};
 
 /// Makes a call that has no failure.
@@ -18,6 +18,16 @@ fn call_plainly<W: World>(world: &mut W, letter: u8) {
     }
 }
 
+/// Makes a call of the keeper; false where it fails.
+fn call_keeper<K: Keeper>(keeper: &mut K, letter: u8) -> bool {
+    match letter {
+        b'l' => keeper.load().is_ok(),
+        b'k' => keeper.append(b"k").is_ok(),
+        b'K' => keeper.append(b"KK").is_ok(),
+        _ => true,
+    }
+}
+
 /// Makes the call of the letter; false where it fails.
 pub(crate) fn call(world: &mut ScriptWorld, letter: u8) -> bool {
     let mut room = [7u8; 4];
@@ -31,7 +41,7 @@ pub(crate) fn call(world: &mut ScriptWorld, letter: u8) -> bool {
         b's' => world.say(b"!").is_ok(),
         _ => {
             call_plainly(world, letter);
-            true
+            call_keeper(world, letter)
         }
     }
 }
@@ -49,6 +59,7 @@ pub(crate) fn call_steadily(world: &mut SteadyWorld, letter: u8) {
         b's' => world.say(b"!").is_ok(),
         _ => {
             call_plainly(world, letter);
+            let _ = call_keeper(world, letter);
             true
         }
     };

@@ -2,6 +2,19 @@
 use scripted_world::Script;
 use std::alloc::{AllocError, Global};
 
+/// The script with what a word on its batches and on the calls that fail adds to it.
+fn with_kept_word(script: Script, name: &str, value: &str) -> Result<Script, AllocError> {
+    let number = value.parse::<u64>().unwrap_or(0);
+    match name {
+        "batch" => script.with_batch(value.as_bytes()),
+        "keeping" => script.failing_kept(number),
+        "failing" => script.failing(number),
+        "stop" => Ok(script.stopping_at(number)),
+        // So that a word that isn't known shows.
+        _ => Ok(script.stopping_at(1)),
+    }
+}
+
 /// The script with what a word adds to it.
 fn with_word(script: Script, word: &str) -> Result<Script, AllocError> {
     let (name, value) = word.split_once('=').unwrap_or((word, ""));
@@ -11,15 +24,12 @@ fn with_word(script: Script, word: &str) -> Result<Script, AllocError> {
         "client" => script.with_client(value.as_bytes()),
         "moment" => script.with_moment(value.parse::<i64>().unwrap_or(0)),
         "word" => script.with_word(number),
-        "failing" => script.failing(number),
-        "stop" => Ok(script.stopping_at(number)),
         "piece" => Ok(script.in_pieces(number as usize)),
         "secrets" => {
             let (password, token) = value.split_once('/').unwrap_or((value, ""));
             script.with_secrets(password.as_bytes(), token.as_bytes())
         }
-        // So that a word that isn't known shows.
-        _ => Ok(script.stopping_at(1)),
+        _ => with_kept_word(script, name, value),
     }
 }
 

@@ -2,21 +2,27 @@
 use crate::calls::{call, call_steadily};
 use crate::scripts::script_of;
 use gate_world::{Event, Link, Secrets, send_all, write_all};
+use octets::Bytes;
 use scripted_world::{Script, ScriptWorld, SteadyWorld};
 use std::alloc::{AllocError, Global};
 use test_rows::first_word;
 
-/// Adds the world's secrets and the events that it told.
+/// Adds the world's secrets, the events that it told, and the batches that it holds, where there are any.
 fn put_told<W: Secrets>(
     world: &W,
     events: Option<&[Event]>,
+    held: &[Bytes],
     out: &mut String,
 ) -> Result<(), AllocError> {
     let (password, token) = (world.password(), world.token());
     match events {
-        Some(events) => writeln!(out, "{password:?} {token:?} {events:?}"),
-        None => writeln!(out, "{password:?} {token:?} no tape"),
+        Some(events) => write!(out, "{password:?} {token:?} {events:?}")?,
+        None => write!(out, "{password:?} {token:?} no tape")?,
     }
+    if !held.is_empty() {
+        write!(out, " held {held:?}")?;
+    }
+    writeln!(out)
 }
 
 fn put_scripted(
@@ -29,7 +35,7 @@ fn put_scripted(
     for letter in calls.as_bytes() {
         let _ = call(&mut world, *letter);
     }
-    put_told(&world, world.events(), out)
+    put_told(&world, world.events(), world.held(), out)
 }
 
 fn put_steady(
@@ -42,7 +48,7 @@ fn put_steady(
     for letter in calls.as_bytes() {
         call_steadily(&mut world, *letter);
     }
-    put_told(&world, world.events(), out)
+    put_told(&world, world.events(), world.held(), out)
 }
 
 /// Sends or writes all of each text, and adds whether it was taken.
@@ -62,7 +68,7 @@ fn put_all(
         };
         write!(out, "{} ", taken.is_ok())?;
     }
-    put_told(&world, world.events(), out)
+    put_told(&world, world.events(), world.held(), out)
 }
 
 /// Does what a line says, and adds what comes of it.

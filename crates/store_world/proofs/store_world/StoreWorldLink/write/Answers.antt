@@ -1,4 +1,4 @@
-use Rattle.std.proofs.Common.{◌≡◌, IsSome, refl, true, ap, arith, rules}
+use Rattle.std.proofs.Common.{◌≡◌, ◌∙◌, IsSome, refl, true, ap, arith, rules}
 use Rattle.store_world.specs.StoreBehindLink.{StoreBehindLink}
 use Rattle.store_world.proofs.Writing.{broken_off, none_there, replied_to, unlinked}
 use Rattle.store_world.proofs.store_world.StoreWorldLink.write.Goals as goal
@@ -19,7 +19,9 @@ returns-in-Ok-clause-plays c =
 pub returns-in-Err-clause-alone : goal.returns-in-Err-clause-alone
 returns-in-Err-clause-alone c =
     let same : c.take.new.self.link_faults ≡ c.args.self.now.link_faults = ap (λ (w : StoreBehindLink). w.link_faults) c.in-Err.ensures.err.1 in
-    record { link = omega (arith, same, c.break_off.ensures.more); keep = refl; front = refl; say = refl }
+    let kept : c.break_off.new.self.keep_faults ≡ c.args.self.now.keep_faults =
+    ap (λ (w : StoreBehindLink). w.keep_faults) c.break_off.ensures.plays ∙ ap (λ (w : StoreBehindLink). w.keep_faults) c.in-Err.ensures.err.1 in
+    record { link = omega (arith, same, c.break_off.ensures.more); keep = kept; front = refl; say = refl }
 
 pub returns-in-Err-clause-plays : goal.returns-in-Err-clause-plays
 returns-in-Err-clause-plays c =
