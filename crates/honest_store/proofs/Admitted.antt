@@ -1,7 +1,8 @@
 -- Answers that real stores give, and that are honest.
 use Rattle.std.proofs.Common.{◌≡◌, ℕ, ◌<◌, true, false, List, [], ◌∷◌, Some, None, inl, inr, refl, sym, subst, arith, codes, All}
 use Rattle.std.specs.List.{Any}
-use Rattle.std.proofs.lemmas.List.Elements.{All-from_recursion}
+use Rattle.std.proofs.lemmas.Bool.{true≢false}
+use Rattle.std.proofs.lemmas.List.Elements.{All-from_recursion, All-nil}
 use Rattle.imap_types.specs.declared.code.Code.{Code}
 use Rattle.imap_types.specs.declared.code.Code.TheVariants as code
 use Rattle.imap_types.specs.declared.command.Command.{Command}
@@ -12,11 +13,11 @@ use Rattle.imap_types.specs.declared.response.Response.TheVariants as response
 use Rattle.imap_types.specs.declared.response.Status.TheVariants as status
 use Rattle.imap_types.specs.Items.{no_items}
 use Rattle.imap_types.specs.UidSets.{Holds}
-use Rattle.honest_store.specs.StoreMail.{ExpungedUid, StoreMessage, message_numbered}
+use Rattle.honest_store.specs.StoreMail.{ExpungedUid, StoreMessage}
 use Rattle.honest_store.specs.WellFormed.{IsStoreMail}
 use Rattle.honest_store.specs.Others.{NoStep, OthersStep, Flagged}
-use Rattle.honest_store.specs.Responses.{IsFetchOf, IsVanishedOf, TellsFlags, ok_code}
-use Rattle.honest_store.specs.TrueResponses.{TellsTruly, NoMore, Tells, Meanwhile, IsToldOf}
+use Rattle.honest_store.specs.Responses.{IsFetchOf, IsVanishedOf, MayAnswer, TellsFlags, ok_code}
+use Rattle.honest_store.specs.TrueResponses.{TellsTruly, NoMore, Tells, Meanwhile, IsToldOf, IsVanished}
 use Rattle.honest_store.specs.Sessions.{StoreSession}
 use Rattle.honest_store.specs.Selecting.{IsCodeOf, TellsFolder}
 use Rattle.honest_store.specs.MessageChanges.{FlagsMessage, EndsFirst}
@@ -35,7 +36,7 @@ abbrev ok : Code → Response
 ok c = response.Untagged status.Ok c
 
 flags_are : (m : StoreMessage) → IsToldOf m (flags_told m.uid m.flags m.modseq)
-flags_are m = record { flags = refl; modseq = refl; date = tt; size = tt; header = tt; body = tt }
+flags_are m = record { flags = refl; date = tt; size = tt; header = tt; body = tt }
 
 -- ---- NO
 
@@ -48,6 +49,7 @@ any_refusal s c whole may = record {
   from = s;
   to = after_no c s;
   whole = refl;
+  may_answer = All-nil (MayAnswer c);
   told_early = NoMore;
   still_selected = refl;
   acts = record { may = may; nothing = refl };
@@ -79,6 +81,7 @@ store_untold = record {
   from = on_inbox;
   to = record { mail = mail_seen; selected = Some 1 };
   whole = refl;
+  may_answer = All-nil (MayAnswer (command.Store 3 true (codes "\\Seen" ∷ [])));
   told_early = NoMore;
   still_selected = refl;
   acts = (refl, (1, first ∷ third ∷ [], refl, refl, (seen ∷ [], inl third_is_seen, inl (refl, (λ k d l. absurd (omega (arith, l)))))));
@@ -97,6 +100,7 @@ store_told = record {
   from = on_inbox;
   to = record { mail = mail_seen; selected = Some 1 };
   whole = refl;
+  may_answer = All-from_recursion (MayAnswer (command.Store 3 true (codes "\\Seen" ∷ []))) (response.Fetch 2 (flags_told 3 [] 4) ∷ response.Fetch 2 (flags_told 3 (seen ∷ []) 7) ∷ []) (tt, (tt, tt));
   told_early = Tells _ tt (third, refl, flags_are third) NoMore;
   still_selected = refl;
   acts = (refl, (1, first ∷ third ∷ [], refl, refl, (seen ∷ [], inl third_is_seen, inr (0, response.Fetch 2 (flags_told 3 (seen ∷ []) 7), omega arith, refl, (refl, refl)))));
@@ -132,6 +136,7 @@ select_empty = record {
   from = nothing_selected;
   to = on_archive;
   whole = refl;
+  may_answer = All-from_recursion (MayAnswer (command.Select (codes "Archive") None)) archive_responses (tt, (tt, (tt, (tt, (tt, (tt, tt))))));
   told_early = NoMore;
   still_selected = refl;
   acts = (
@@ -180,8 +185,8 @@ IsGoneTold e = 4 < e.modseq → Any (IsVanishedOf true e.uid) inbox_responses
 gone_told : All IsGoneTold (record { uid = 2; modseq = 5 } ∷ [])
 gone_told = All-from_recursion IsGoneTold (record { uid = 2; modseq = 5 } ∷ []) ((λ _. (3, second_went, omega arith, refl, (refl, holds_itself 2))), tt)
 
-second_is_gone : (u : ℕ) → Holds (just 2).ranges u → message_numbered (first ∷ third ∷ []) u ≡ None
-second_is_gone u h = subst (λ v. message_numbered (first ∷ third ∷ []) v ≡ None) (sym (just_one 2 u h)) refl
+second_is_gone : (u : ℕ) → Holds (just 2).ranges u → IsVanished true (Some inbox) u
+second_is_gone u h = subst (IsVanished true (Some inbox)) (sym (just_one 2 u h)) (record { not_held = refl; has_gone = λ e. absurd (true≢false e) })
 
 tells_inbox : TellsFolder inbox (Some (1, 4)) inbox_responses
 tells_inbox = record {
@@ -204,6 +209,7 @@ select_known = record {
   from = on_archive;
   to = on_inbox;
   whole = refl;
+  may_answer = All-from_recursion (MayAnswer (command.Select (codes "inbox") (Some (1, 4)))) (ok code.Closed ∷ inbox_responses) (tt, (tt, (tt, (tt, (tt, (tt, tt))))));
   told_early = NoMore;
   still_selected = refl;
   acts = (
@@ -227,6 +233,7 @@ select_again = record {
   from = on_inbox;
   to = on_inbox;
   whole = refl;
+  may_answer = All-from_recursion (MayAnswer (command.Select (codes "INBOX") (Some (1, 4)))) inbox_responses (tt, (tt, (tt, (tt, (tt, tt)))));
   told_early = NoMore;
   still_selected = refl;
   acts = (inbox, inbox_responses, refl, refl, inr (refl, (refl, refl)), tells_inbox);
@@ -239,6 +246,11 @@ select_again = record {
 told_in_other_order : TellsTruly NoStep (Some 1) mail (first_flags ∷ second_went ∷ []) mail
 told_in_other_order = Tells _ tt (first, refl, flags_are first) (Tells _ tt second_is_gone NoMore)
 
+-- (EARLIER) may name a UID that never was
+never_was : TellsTruly NoStep (Some 1) mail (response.Vanished true (just 9) ∷ []) mail
+never_was = Tells _ tt
+    (λ u h. subst (IsVanished true (Some inbox)) (sym (just_one 9 u h)) (record { not_held = refl; has_gone = λ e. absurd (true≢false e) })) NoMore
+
 -- ---- MOVE
 
 abbrev IsThirdCopied : Code → Type 0
@@ -250,8 +262,11 @@ copied = code.CopyUid 2 (just 3) (just 1)
 codes_copied : All IsThirdCopied (copied ∷ code.Absent ∷ code.Absent ∷ [])
 codes_copied = All-from_recursion IsThirdCopied (copied ∷ code.Absent ∷ code.Absent ∷ []) ((λ _. (refl, holds_only 3, holds_only 1)), (absurd, (absurd, tt)))
 
-third_is_gone : (u : ℕ) → Holds (just 3).ranges u → message_numbered (first ∷ []) u ≡ None
-third_is_gone u h = subst (λ v. message_numbered (first ∷ []) v ≡ None) (sym (just_one 3 u h)) refl
+third_is_gone : (u : ℕ) → Holds (just 3).ranges u → IsVanished false (Some inbox_left) u
+third_is_gone u h = subst (IsVanished false (Some inbox_left)) (sym (just_one 3 u h)) (record {
+  not_held = refl;
+  has_gone = λ _. (1, record { uid = 3; modseq = 7 }, omega arith, refl, refl);
+})
 
 move_told : Honest NoStep on_inbox (command.Move 3 (codes "Archive"))
     (record { responses = ok copied ∷ response.Vanished false (just 3) ∷ []; status = status.Ok; code = code.Absent }) (record { mail = mail_moved; selected = Some 1 })
@@ -261,6 +276,7 @@ move_told = record {
   from = on_inbox;
   to = record { mail = mail_moved; selected = Some 1 };
   whole = refl;
+  may_answer = All-from_recursion (MayAnswer (command.Move 3 (codes "Archive"))) (ok copied ∷ response.Vanished false (just 3) ∷ []) (tt, (tt, tt));
   told_early = NoMore;
   still_selected = refl;
   acts = (

@@ -109,6 +109,7 @@ honest_wider O P f before after c a h = record {
   from = h.from;
   to = h.to;
   whole = h.whole;
+  may_answer = h.may_answer;
   told_early = told_wider f h.told_early;
   still_selected = h.still_selected;
   acts = h.acts;

@@ -1,5 +1,5 @@
 -- What an honest store answers to a command, and what its mail is then (RFC 9051, RFC 7162), in a session in which QRESYNC is enabled.
-use Rattle.std.specs.Prelude.{◌≡◌, ◌≢◌, ◌⊎◌, ℕ, List, [], ◌∷◌, ◌++◌, Option, Some, None, IsSome}
+use Rattle.std.specs.Prelude.{◌≡◌, ◌≢◌, ◌⊎◌, ℕ, List, [], ◌∷◌, ◌++◌, Option, Some, None, IsSome, All}
 use Rattle.std.specs.List.{Any}
 use Rattle.imap_types.specs.declared.command.Command.{Command}
 use Rattle.imap_types.specs.declared.command.Command.TheVariants as command
@@ -10,12 +10,12 @@ use Rattle.imap_types.specs.Folders.{folder_name}
 use Rattle.honest_store.specs.StoreMail.{StoreMessage, StoreFolder, StoreMail, IsFolderNamed, folder_called, message_numbered}
 use Rattle.honest_store.specs.WellFormed.{IsStoreMail}
 use Rattle.honest_store.specs.FolderChanges.{ChangesFolders, CreatesFolder, DeletesFolder, inbox_name, RenamesFolders, ChangesSubscription}
-use Rattle.honest_store.specs.Responses.{IsCapability, IsEnabled, TellsFlags}
-use Rattle.honest_store.specs.TrueResponses.{messages_of_selected, TellsTruly}
+use Rattle.honest_store.specs.Responses.{IsCapability, IsEnabled, MayAnswer, TellsFlags}
+use Rattle.honest_store.specs.TrueResponses.{seen_folder, messages_of_selected, TellsTruly}
 use Rattle.honest_store.specs.Sessions.{StoreSession, StoreAnswer, CutAnswer, all_responses}
 use Rattle.honest_store.specs.Listing.{ListsMail}
 use Rattle.honest_store.specs.Selecting.{BeginsFolder, TellsFolder}
-use Rattle.honest_store.specs.Fetching.{IsBetween, IsFromOn, TellsHeader, TellsMessages}
+use Rattle.honest_store.specs.Fetching.{IsBetween, IsFromOn, TellsHeader, TellsMessages, TellsNoneNewer}
 use Rattle.honest_store.specs.MessageCommands.{StoresFlags, MovesOut, Expunges, sent_message, Appends}
 
 -- ---- OK (RFC 9051 section 7.1.1)
@@ -58,8 +58,10 @@ Does (command.Select name known) s a after =
 Does command.Unselect s a after = IsSome s.selected × (after.mail ≡ s.mail) × (after.selected ≡ None)
 Does command.FetchFlags s a after = ReadsOnly s (TellsMessages (messages_in_session s) (λ ms m. Unit {0}) TellsFlags (all_responses a)) after
 Does (command.FetchSlice from to modseq) s a after =
-    ReadsOnly s (TellsMessages (messages_in_session s) (IsBetween from to) (TellsHeader modseq) (all_responses a)) after
-Does (command.FetchNew from modseq) s a after = ReadsOnly s (TellsMessages (messages_in_session s) (IsFromOn from) (TellsHeader modseq) (all_responses a)) after
+    ReadsOnly s (TellsMessages (messages_in_session s) (IsBetween from to) TellsHeader (all_responses a)) after
+Does (command.FetchNew from modseq) s a after =
+    ReadsOnly s (TellsMessages (messages_in_session s) (IsFromOn from) TellsHeader (all_responses a)
+    × TellsNoneNewer (seen_folder s.selected s.mail) (all_responses a)) after
 Does (command.FetchBody uid) s a after =
     ReadsOnly s (TellsMessages (messages_in_session s) (λ ms m. m.uid ≡ uid) (λ items. IsSome items.body) (all_responses a)) after
 Does (command.Store uid add flags) s a after = ChangesMail s (λ mail. OnMessage s uid (λ n m. StoresFlags s.mail n add flags a mail m)) after
@@ -110,6 +112,7 @@ pub record HonestBy (Early Late : StoreMail → StoreMail → Type 0) (before : 
   pub from : StoreSession
   pub to : StoreSession
   pub whole : a.responses ≡ early ++ late
+  pub may_answer : All (MayAnswer c) a.responses
   pub told_early : TellsTruly Early before.selected before.mail early from.mail
   pub still_selected : from.selected ≡ before.selected
   pub acts : Acts c from (record { early = early; late = late; code = a.code }) a.status to

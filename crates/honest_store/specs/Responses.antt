@@ -1,7 +1,9 @@
 -- Untagged responses: which may come while a command is answered, and what one tells (RFC 9051 section 7, RFC 7162 section 3.2.10).
-use Rattle.std.specs.Prelude.{◌≡◌, ℕ, Bool, Some, IsSome}
+use Rattle.std.specs.Prelude.{◌≡◌, ℕ, Bool, true, Some, IsSome}
 use Rattle.imap_types.specs.declared.code.Code.{Code}
 use Rattle.imap_types.specs.declared.code.Code.TheVariants as code
+use Rattle.imap_types.specs.declared.command.Command.{Command}
+use Rattle.imap_types.specs.declared.command.Command.TheVariants as command
 use Rattle.imap_types.specs.declared.response.Response.{Response}
 use Rattle.imap_types.specs.declared.response.Response.TheVariants as response
 use Rattle.imap_types.specs.declared.response.Status.TheVariants as status
@@ -17,6 +19,12 @@ MayCome (response.Untagged status.Bad _) = ⊥
 MayCome (response.Untagged status.Preauth _) = ⊥
 MayCome (response.Expunge _) = ⊥
 MayCome _ = Unit {0}
+
+-- VANISHED (EARLIER) answers SELECT alone (RFC 7162 section 3.2.10): no UID FETCH that is sent asks for it.
+abbrev pub MayAnswer : Command → Response → Type 0
+MayAnswer (command.Select name known) r = Unit {0}
+MayAnswer c (response.Vanished true uids) = ⊥
+MayAnswer c _ = Unit {0}
 
 -- a CAPABILITY, and an ENABLED
 abbrev pub IsCapability : Response → Type 0

@@ -55,7 +55,7 @@ module _ (s : StoreSession) (name : List ℕ) (flags : List (List ℕ)) (date : 
       with_small s.mail t.number t small there sent (λ last. free (NumberSpent (subst (IsAtEnd is_last_message) (sym e) last))) (kept_again flags)
       (nearest_again date) fits in
       record {
-        honest = late_answer s (record s { mail = after }) (command.Append name flags date message) [] (code.AppendUid t.validity t.uid_next) after_small.well_formed tt (
+        honest = late_answer s (record s { mail = after }) (command.Append name flags date message) [] (code.AppendUid t.validity t.uid_next) after_small.well_formed tt tt (
           refl,
           record { target = t; named = e; uid = t.uid_next; modseq = next_modseq t; adds = adds s.mail t.number t small there sent; coded = refl },
         );

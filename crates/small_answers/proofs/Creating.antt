@@ -116,7 +116,7 @@ module _ (s : StoreSession) (name : List ℕ) (small : IsSmallMail s.mail) (text
       let after : StoreMail = mail_created s.mail f in
       let after_small : IsSmallMail after = created_small s.mail (folder_name name) small told none fits in
       record {
-        honest = late_answer s (over_mail s after) (command.Create name) [] code.Absent after_small.well_formed tt (
+        honest = late_answer s (over_mail s after) (command.Create name) [] code.Absent after_small.well_formed tt tt (
           refl,
           (
             f,

@@ -84,7 +84,7 @@ module _ (s : StoreSession) (name : List ℕ) (small : IsSmallMail s.mail) (free
 
   pub delete_good : IsOkGood s (command.Delete name)
   delete_good = record {
-    honest = late_answer s (over_mail s after) (command.Delete name) [] code.Absent (deleted_small s.mail (folder_name name) small).well_formed tt
+    honest = late_answer s (over_mail s after) (command.Delete name) [] code.Absent (deleted_small s.mail (folder_name name) small).well_formed tt tt
         (refl, deletes (folder_called s.mail.folders name) refl);
     small = deleted_small s.mail (folder_name name) small;
   }

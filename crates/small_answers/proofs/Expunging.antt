@@ -20,7 +20,7 @@ use Rattle.small_answers.proofs.Elements.{any_head}
 use Rattle.small_answers.proofs.Truths.{IsTrueThere}
 use Rattle.small_answers.proofs.Reading.{late_answer}
 use Rattle.small_answers.proofs.Selecting.{set_holds, vanished_true}
-use Rattle.small_answers.proofs.FoldersKept.{none_without}
+use Rattle.small_answers.proofs.FoldersKept.{vanished_without}
 use Rattle.small_answers.proofs.Changed.{ends, put_found, without_small}
 use Rattle.small_answers.proofs.Replies.{IsGoodReply, IsOkGood, on, seen_message, sees, good_by_message}
 
@@ -29,7 +29,7 @@ module _ (mail : StoreMail) (n uid : ℕ) (small : IsSmallMail mail) where
   nothing_done : Expunges mail n (record { early = []; late = []; code = code.Absent }) mail (seen_message mail n uid)
       → IsGoodReply (on mail n) (command.Expunge uid) (reply_with (on mail n) [])
   nothing_done none = record {
-    honest = late_answer (on mail n) (on mail n) (command.Expunge uid) [] code.Absent small.well_formed tt
+    honest = late_answer (on mail n) (on mail n) (command.Expunge uid) [] code.Absent small.well_formed tt tt
         (refl, (n, messages_of_folder (folder_numbered mail.folders n), refl, refl, none));
     small = small;
   }
@@ -49,9 +49,9 @@ module _ (mail : StoreMail) (n uid : ℕ) (small : IsSmallMail mail) where
         let left_small : IsSmallMail left = without_small mail n uid f m small there held room in
         record {
           honest = late_answer (on mail n) (on left n) (command.Expunge uid) told (code.HighestModSeq (next_modseq f)) left_small.well_formed
-              (subst (λ (o : Option StoreFolder). AllByRecursion (IsTrueThere (Some (messages_of_folder o))) told)
+              (subst (λ (o : Option StoreFolder). AllByRecursion (IsTrueThere (Some o)) told)
               (sym (put_found mail n f (folder_without f m.uid (next_modseq f)) small there refl))
-              (vanished_true false (folder_without f m.uid (next_modseq f)).messages m.uid (none_without f.messages m.uid), tt)) (
+              (vanished_true false (folder_without f m.uid (next_modseq f)) m.uid (vanished_without f m.uid (next_modseq f)), tt)) (tt, tt) (
                 refl,
                 (
                   n,

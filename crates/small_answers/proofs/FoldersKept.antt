@@ -9,7 +9,8 @@ use Rattle.honest_store.specs.StoreMail.{StoreMessage, ExpungedUid, StoreFolder,
 use Rattle.honest_store.specs.WellFormed.{AscendByUid, IsUpTo, IsModseq, nearest_date, IsStoreMessage, IsExpungedUid, IsStoreFolder, IsToldName}
 use Rattle.honest_store.specs.MessageChanges.{folder_with, folder_without, folder_flagged, flagged_messages, with_flags_at}
 use Rattle.honest_store.specs.Attributes.{is_unselectable}
-use Rattle.small_answers.proofs.Elements.{each_weaker}
+use Rattle.honest_store.specs.TrueResponses.{IsVanished}
+use Rattle.small_answers.proofs.Elements.{any_head, any_right, each_weaker}
 
 -- ---- mod-sequences
 
@@ -92,6 +93,13 @@ none_of_it false x ms u e none = subst (λ (c : Bool). cond c (Some x) (message_
 pub none_without : (ms : List StoreMessage) (u : ℕ) → message_numbered (filter (λ m. not (m.uid == u)) ms) u ≡ None
 none_without [] u = refl
 none_without (x ∷ ms) u = none_of_it (x.uid == u) x (filter (λ m. not (m.uid == u)) ms) u refl (none_without ms u)
+
+-- a message that ended was held, and is no more
+pub vanished_without : (f : StoreFolder) (u modseq : ℕ) → IsVanished false (Some (folder_without f u modseq)) u
+vanished_without f u modseq = record {
+  not_held = none_without f.messages u;
+  has_gone = λ _. any_right (λ e. e.uid ≡ u) f.expunged (record { uid = u; modseq = modseq } ∷ []) (any_head (λ e. e.uid ≡ u) (record { uid = u; modseq = modseq }) [] refl);
+}
 
 -- ---- order
 

@@ -4,12 +4,13 @@ use Rattle.std.proofs.Common.{if◌then◌else◌}
 use Rattle.std.proofs.lemmas.Option.{same_Some}
 use Rattle.honest_store.specs.StoreMail.{StoreMessage, StoreFolder, NameUse, StoreMail, folder_called, folder_numbered, message_numbered}
 use Rattle.honest_store.specs.WellFormed.{use_of, IsStoreMessage}
+use Rattle.honest_store.specs.TrueResponses.{HasGone, IsVanished}
 use Rattle.honest_store.specs.MessageChanges.{folder_with, folder_without, MovesMessage, EndsFirst}
 use Rattle.small_answers.specs.Changes.{next_modseq, mail_with, mail_without}
 use Rattle.small_answers.specs.Limits.{is_last_change, is_last_message}
 use Rattle.small_answers.specs.SmallMail.{IsSmallMail}
 use Rattle.small_answers.proofs.FoldersFound.{called_numbered, number_found}
-use Rattle.small_answers.proofs.FoldersKept.{none_with, none_without}
+use Rattle.small_answers.proofs.FoldersKept.{none_with, none_without, vanished_without}
 use Rattle.small_answers.proofs.MailKept.{put, put_use}
 use Rattle.small_answers.proofs.Changed.{adds, by_number, ends, message_is, put_called, put_found, put_numbered, with_small, without_small}
 
@@ -75,14 +76,17 @@ module _ (mail : StoreMail) (n u : ℕ) (f : StoreFolder) (m : StoreMessage) (sm
       let its_number : target.number ≡ n = sym e ∙ number_found mail.folders n f there in
       same_Some target gone (sym target_there ∙ (ap (λ (k : ℕ). folder_numbered left.folders k) its_number ∙ gone_there))
 
-  none_at : (b : Bool) → (gone.number == come.number) ≡ b → message_numbered (if b then come else gone).messages m.uid ≡ None
-  none_at true e =
+  vanished_at : (b : Bool) → (gone.number == come.number) ≡ b → IsVanished false (Some (if b then come else gone)) m.uid
+  vanished_at true e =
       let same : target ≡ gone = same_folder (eqb-true gone.number target.number e) in
       let next : target.uid_next ≡ f.uid_next = ap (λ (g : StoreFolder). g.uid_next) same in
       let below : m.uid < f.uid_next = (message_is mail n u f m small there held).uid in
-      none_with target.messages copy m.uid (ap (λ (g : StoreFolder). message_numbered g.messages m.uid) same ∙ none_without f.messages m.uid)
-      (λ both. omega (arith, both, next, below))
-  none_at false e = none_without f.messages m.uid
+      record {
+        not_held = none_with target.messages copy m.uid (ap (λ (g : StoreFolder). message_numbered g.messages m.uid) same ∙ none_without f.messages m.uid)
+            (λ both. omega (arith, both, next, below));
+        has_gone = λ now. subst (λ (g : StoreFolder). HasGone (Some g) m.uid) (sym same) ((vanished_without f m.uid (next_modseq f)).has_gone now);
+      }
+  vanished_at false e = vanished_without f m.uid (next_modseq f)
 
-  pub not_held : message_numbered (put come gone).messages m.uid ≡ None
-  not_held = none_at (gone.number == come.number) refl
+  pub vanished : IsVanished false (Some (put come gone)) m.uid
+  vanished = vanished_at (gone.number == come.number) refl

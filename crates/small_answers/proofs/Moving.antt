@@ -24,7 +24,7 @@ use Rattle.small_answers.proofs.Truths.{IsTrueThere}
 use Rattle.small_answers.proofs.Reading.{late_answer}
 use Rattle.small_answers.proofs.Selecting.{set_holds, set_holds_one, vanished_true}
 use Rattle.small_answers.proofs.MailKept.{put}
-use Rattle.small_answers.proofs.Moved.{found_left, gone, target, target_use, moved_small, moves, not_held, seen_after, come}
+use Rattle.small_answers.proofs.Moved.{found_left, gone, target, target_use, moved_small, moves, vanished, seen_after, come}
 use Rattle.small_answers.proofs.Replies.{IsGoodReply, IsOkGood, on, sees, good_by_message}
 
 set_holds_only : (w : ℕ) → HoldsOnly (set_of w).ranges w
@@ -68,15 +68,15 @@ module _ (mail : StoreMail) (n uid : ℕ) (name : List ℕ) (small : IsSmallMail
         let after_small : IsSmallMail after = moved_small mail n uid f m small there held room name t called space in
         record {
           honest = late_answer (on mail n) (on after n) (command.Move uid name) told code.Absent after_small.well_formed
-              (subst (λ (o : Option StoreFolder). AllByRecursion (IsTrueThere (Some (messages_of_folder o))) told)
+              (subst (λ (o : Option StoreFolder). AllByRecursion (IsTrueThere (Some o)) told)
               (sym (seen_after mail n uid f m small there held room name t called)) (
                 (tt, tt),
                 (
-                  vanished_true false (put (come mail n uid f m small there held room name t called) (gone mail n uid f m small there held room name t called)).messages m.uid
-                      (not_held mail n uid f m small there held room name t called),
+                  vanished_true false (put (come mail n uid f m small there held room name t called) (gone mail n uid f m small there held room name t called)) m.uid
+                      (vanished mail n uid f m small there held room name t called),
                   tt,
                 ),
-              )) (
+              )) (tt, (tt, tt)) (
                 refl,
                 (
                   n,

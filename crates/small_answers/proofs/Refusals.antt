@@ -1,10 +1,12 @@
 -- Each NO of the small store is honest.
-use Rattle.std.proofs.Common.{◌≡◌, Option, Some, None, ℕ, ◌<◌, [], refl, arith}
+use Rattle.std.proofs.Common.{◌≡◌, Option, Some, None, ℕ, ◌<◌, List, [], ◌∷◌, refl, arith, All}
+use Rattle.std.proofs.lemmas.List.Elements.{All-from_recursion, All-nil}
 use Rattle.imap_types.specs.declared.code.Code.TheVariants as code
 use Rattle.imap_types.specs.declared.command.Command.{Command}
 use Rattle.imap_types.specs.declared.command.Command.TheVariants as command
 use Rattle.honest_store.specs.WellFormed.{IsStoreMail}
 use Rattle.honest_store.specs.Others.{NoStep}
+use Rattle.honest_store.specs.Responses.{MayAnswer}
 use Rattle.honest_store.specs.StoreMail.{StoreMail}
 use Rattle.honest_store.specs.TrueResponses.{TellsTruly, NoMore, Tells}
 use Rattle.honest_store.specs.Sessions.{StoreSession}
@@ -66,6 +68,14 @@ refusal_told : (c : Command) (was selected : Option ℕ) (mail : StoreMail) → 
 refusal_told (command.Select name known) was selected mail = closed_told was selected mail
 refusal_told _ was selected mail = NoMore
 
+closed_answers : (name : List ℕ) (known : Option (ℕ × ℕ)) (was : Option ℕ) → All (MayAnswer (command.Select name known)) (closed_responses was)
+closed_answers name known None = All-nil (MayAnswer (command.Select name known))
+closed_answers name known (Some n) = All-from_recursion (MayAnswer (command.Select name known)) (ok_response code.Closed ∷ []) (tt, tt)
+
+refusal_answers : (c : Command) (was : Option ℕ) → All (MayAnswer c) (refusal_responses c was)
+refusal_answers (command.Select name known) was = closed_answers name known was
+refusal_answers c was = All-nil (MayAnswer c)
+
 pub refusals_are_honest : (s : StoreSession) (c : Command) → IsStoreMail s.mail → RefusalCause s c → Honest NoStep s c (no_answer c s.selected) (after_no c s)
 refusals_are_honest s c whole h = record {
   early = [];
@@ -73,6 +83,7 @@ refusals_are_honest s c whole h = record {
   from = s;
   to = after_no c s;
   whole = refl;
+  may_answer = refusal_answers c s.selected;
   told_early = NoMore;
   still_selected = refl;
   acts = record { may = may_refuse s c h; nothing = refl };

@@ -166,7 +166,7 @@ module _ (s : StoreSession) (from to : List ℕ) (small : IsSmallMail s.mail) (t
       let after : StoreMail = mail_renamed s.mail (folder_name from) (folder_name to) in
       let after_small : IsSmallMail after = renamed_small s.mail (folder_name from) (folder_name to) small (told_name to text) none_there.1 in
       record {
-        honest = late_answer s (over_mail s after) (command.Rename from to) [] code.Absent after_small.well_formed tt (
+        honest = late_answer s (over_mail s after) (command.Rename from to) [] code.Absent after_small.well_formed tt tt (
           refl,
           record {
             no_inbox = λ is_inbox. free (IsInbox is_inbox);

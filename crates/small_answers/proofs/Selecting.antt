@@ -2,6 +2,7 @@
 use Rattle.std.proofs.Common.{inl, ◌≡◌, ◌≢◌, ℕ, zero, suc, ◌<◌, Bool, true, false, List, [], ◌∷◌, ◌++◌, Option, Some, None, map, filter, slice_index_or, refl, sym, subst}
 use Rattle.std.proofs.Common.{arith, nat_lt, ◌==◌, IfSome, All, Any, eq-eqb, lt-ltb, if◌then◌else◌}
 use Rattle.std.specs.List.{AllByRecursion}
+use Rattle.std.proofs.lemmas.Bool.{true≢false}
 use Rattle.std.proofs.lemmas.List.Elements.{All-from_recursion, All-nil, recursion_from_All}
 use Rattle.imap_types.specs.declared.code.Code.TheVariants as code
 use Rattle.imap_types.specs.declared.command.Command.TheVariants as command
@@ -9,11 +10,11 @@ use Rattle.imap_types.specs.declared.response.Response.{Response}
 use Rattle.imap_types.specs.declared.response.Response.TheVariants as response
 use Rattle.imap_types.specs.declared.uid_set.UidRange.{UidRange}
 use Rattle.imap_types.specs.UidSets.{InRange, Holds}
-use Rattle.honest_store.specs.StoreMail.{ExpungedUid, StoreFolder, StoreMessage, folder_called, folder_numbered, message_numbered}
+use Rattle.honest_store.specs.StoreMail.{ExpungedUid, StoreFolder, StoreMessage, folder_called, folder_numbered}
 use Rattle.honest_store.specs.WellFormed.{IsExpungedUid, IsStoreFolder, IsStoreMail}
 use Rattle.honest_store.specs.Others.{NoStep}
-use Rattle.honest_store.specs.Responses.{IsCoded, IsFetchOf, IsVanishedOf, TellsFlags, ok_code}
-use Rattle.honest_store.specs.TrueResponses.{messages_of_folder}
+use Rattle.honest_store.specs.Responses.{IsCoded, IsFetchOf, IsVanishedOf, MayAnswer, TellsFlags, ok_code}
+use Rattle.honest_store.specs.TrueResponses.{IsVanished}
 use Rattle.honest_store.specs.Sessions.{StoreSession}
 use Rattle.honest_store.specs.Selecting.{BeginsFolder, IsCodeOf, TellsChanges, TellsFolder}
 use Rattle.honest_store.specs.Honest.{Honest}
@@ -38,9 +39,9 @@ set_holds_one w u h = holds_at w u h.0 h.1 h.2 h.3 h.4
 pub set_holds : (w : ℕ) → Holds (set_of w).ranges w
 set_holds w = (0, record { first = w; last = w }, omega arith, refl, (omega arith, omega arith))
 
--- a VANISHED of a UID that isn't held is true
-pub vanished_true : (earlier : Bool) (ms : List StoreMessage) (u : ℕ) → message_numbered ms u ≡ None → IsTrueThere (Some ms) (response.Vanished earlier (set_of u))
-vanished_true earlier ms u gone = (tt, λ v h. subst (λ (w : ℕ). message_numbered ms w ≡ None) (sym (set_holds_one u v h)) gone)
+-- a VANISHED of one UID is true where it is of that
+pub vanished_true : (earlier : Bool) (f : StoreFolder) (u : ℕ) → IsVanished earlier (Some f) u → IsTrueThere (Some (Some f)) (response.Vanished earlier (set_of u))
+vanished_true earlier f u is = (tt, λ v h. subst (IsVanished earlier (Some f)) (sym (set_holds_one u v h)) is)
 
 -- ---- the responses to a SELECT of a folder
 
@@ -53,33 +54,33 @@ is_later since e = nat_lt since e.modseq
 abbrev is_changed : ℕ → StoreMessage → Bool
 is_changed since m = nat_lt since m.modseq
 
-changes_true : (f : StoreFolder) → IsStoreFolder f → (since : ℕ) → AllByRecursion (IsTrueThere (Some f.messages)) (changes_since f since)
+changes_true : (f : StoreFolder) → IsStoreFolder f → (since : ℕ) → AllByRecursion (IsTrueThere (Some (Some f))) (changes_since f since)
 changes_true f whole since =
-    each_append (IsTrueThere (Some f.messages)) (map went (filter (is_later since) f.expunged)) (map (change_response f.messages) (filter (is_changed since) f.messages))
-    (told_all (is_later since) went (IsTrueThere (Some f.messages)) f.expunged
-    (each_weaker (IsExpungedUid f) (λ e. IsTrueThere (Some f.messages) (went e)) (λ e is. vanished_true true f.messages e.uid is.not_held) f.expunged
+    each_append (IsTrueThere (Some (Some f))) (map went (filter (is_later since) f.expunged)) (map (change_response f.messages) (filter (is_changed since) f.messages))
+    (told_all (is_later since) went (IsTrueThere (Some (Some f))) f.expunged
+    (each_weaker (IsExpungedUid f) (λ e. IsTrueThere (Some (Some f)) (went e)) (λ e is. vanished_true true f e.uid (record { not_held = is.not_held; has_gone = λ same. absurd (true≢false same) })) f.expunged
     (recursion_from_All (IsExpungedUid f) f.expunged whole.expunged)))
-    (change_all_true (is_changed since) f.messages whole.ascend)
+    (change_all_true (is_changed since) f whole.ascend)
 
 only_if : (T : Response → Type 0) (b : Bool) (rs : List Response) → AllByRecursion T rs → AllByRecursion T (if b then rs else [])
 only_if T true rs h = h
 only_if T false rs h = tt
 
-known_true : (f : StoreFolder) → IsStoreFolder f → (known : Option (ℕ × ℕ)) → AllByRecursion (IsTrueThere (Some f.messages)) (known_changes f known)
+known_true : (f : StoreFolder) → IsStoreFolder f → (known : Option (ℕ × ℕ)) → AllByRecursion (IsTrueThere (Some (Some f))) (known_changes f known)
 known_true f whole None = tt
-known_true f whole (Some k) = only_if (IsTrueThere (Some f.messages)) (k.0 == f.validity) (changes_since f k.1) (changes_true f whole k.1)
+known_true f whole (Some k) = only_if (IsTrueThere (Some (Some f))) (k.0 == f.validity) (changes_since f k.1) (changes_true f whole k.1)
 
-folder_true : (f : StoreFolder) → AllByRecursion (IsTrueThere (Some f.messages)) (folder_responses f)
+folder_true : (f : StoreFolder) → AllByRecursion (IsTrueThere (Some (Some f))) (folder_responses f)
 folder_true f = ((tt, tt), ((tt, tt), ((tt, tt), ((tt, tt), ((tt, tt), ((tt, tt), tt))))))
 
-closed_true : (o : Option ℕ) (ms : List StoreMessage) → AllByRecursion (IsTrueThere (Some ms)) (closed_responses o)
-closed_true None ms = tt
-closed_true (Some n) ms = ((tt, tt), tt)
+closed_true : (o : Option ℕ) (f : StoreFolder) → AllByRecursion (IsTrueThere (Some (Some f))) (closed_responses o)
+closed_true None f = tt
+closed_true (Some n) f = ((tt, tt), tt)
 
-select_true : (o : Option ℕ) (f : StoreFolder) → IsStoreFolder f → (known : Option (ℕ × ℕ)) → AllByRecursion (IsTrueThere (Some f.messages)) (select_responses o f known)
+select_true : (o : Option ℕ) (f : StoreFolder) → IsStoreFolder f → (known : Option (ℕ × ℕ)) → AllByRecursion (IsTrueThere (Some (Some f))) (select_responses o f known)
 select_true o f whole known =
-    each_append (IsTrueThere (Some f.messages)) (closed_responses o ++ folder_responses f) (known_changes f known)
-    (each_append (IsTrueThere (Some f.messages)) (closed_responses o) (folder_responses f) (closed_true o f.messages) (folder_true f)) (known_true f whole known)
+    each_append (IsTrueThere (Some (Some f))) (closed_responses o ++ folder_responses f) (known_changes f known)
+    (each_append (IsTrueThere (Some (Some f))) (closed_responses o) (folder_responses f) (closed_true o f) (folder_true f)) (known_true f whole known)
 
 -- ---- codes
 
@@ -160,8 +161,9 @@ select_found s name known whole has free (Some f) e =
     let f_is : IsStoreFolder f = called_is IsStoreFolder s.mail name f whole.folders e in
     let f_has : f.has_modseqs ≡ true = called_is (λ g. g.has_modseqs ≡ true) s.mail name f has e in
     late_answer s (record { mail = s.mail; selected = Some f.number }) (command.Select name known) (select_responses s.selected f known) code.Other whole
-    (subst (λ (o : Option StoreFolder). AllByRecursion (IsTrueThere (Some (messages_of_folder o))) (select_responses s.selected f known)) (sym numbered)
+    (subst (λ (o : Option StoreFolder). AllByRecursion (IsTrueThere (Some o)) (select_responses s.selected f known)) (sym numbered)
     (select_true s.selected f f_is known))
+    (each_of (MayAnswer (command.Select name known)) (λ r. tt) (select_responses s.selected f known))
     (f, folder_responses f ++ known_changes f known, e, refl, begins_folder s.selected f known, tells_folder f known f_has)
 
 pub select_honest : (s : StoreSession) (name : List ℕ) (known : Option (ℕ × ℕ)) → IsStoreMail s.mail → All (λ f. f.has_modseqs ≡ true) s.mail.folders

@@ -1,11 +1,11 @@
 -- Answers to STORE are honest, and leave the small store's mail.
-use Rattle.std.proofs.Common.{inl, inr, ◌≡◌, ℕ, Bool, true, false, not, List, [], Option, Some, None, refl, sym, ap, ◌∙◌, subst, eq-eqb, ◌==◌, Any, if◌then◌else◌}
+use Rattle.std.proofs.Common.{inl, inr, ◌≡◌, ℕ, Bool, true, false, not, List, [], Option, Some, None, filter, refl, sym, ap, ◌∙◌, subst, eq-eqb, ◌==◌, Any, if◌then◌else◌}
 use Rattle.std.specs.List.{AllByRecursion}
 use Rattle.imap_types.specs.declared.code.Code.TheVariants as code
 use Rattle.imap_types.specs.declared.command.Command.TheVariants as command
 use Rattle.honest_store.specs.StoreMail.{StoreMessage, StoreFolder, StoreMail, folder_numbered, message_numbered}
 use Rattle.honest_store.specs.MessageChanges.{folder_flagged, flagged_messages, with_flags_at}
-use Rattle.honest_store.specs.Responses.{IsFetchOf}
+use Rattle.honest_store.specs.Responses.{IsFetchOf, MayAnswer}
 use Rattle.honest_store.specs.TrueResponses.{messages_of_folder}
 use Rattle.honest_store.specs.MessageCommands.{flags_after, SaysFlags, StoresFlags}
 use Rattle.small_answers.specs.Changes.{next_modseq, mail_flagged}
@@ -14,7 +14,7 @@ use Rattle.small_answers.specs.Causes.{RefusalCause, NothingSelected, NumberSpen
 use Rattle.small_answers.specs.ToldResponses.{change_response}
 use Rattle.small_answers.specs.Answers.{flags_reply, reply_with, store_reply, told_change}
 use Rattle.small_answers.specs.SmallMail.{IsSmallMail}
-use Rattle.small_answers.proofs.Elements.{told_each}
+use Rattle.small_answers.proofs.Elements.{each_told, told_each}
 use Rattle.small_answers.proofs.Searches.{found_is}
 use Rattle.small_answers.proofs.Truths.{IsTrueThere}
 use Rattle.small_answers.proofs.Fetches.{change_all_true}
@@ -32,9 +32,13 @@ change_told ms u m found same =
     (told_each (λ x. x.uid == u) (change_response ms) (λ x r. IsFetchOf x.uid (SaysFlags x.flags) r) (λ x. (refl, refl)) ms) found (eq-eqb m.uid u same))
 
 module _ (mail : StoreMail) (n uid : ℕ) (add : Bool) (asked : List (List ℕ)) (small : IsSmallMail mail) where
+  change_answers : (ms : List StoreMessage) (u : ℕ) → AllByRecursion (MayAnswer (command.Store uid add asked)) (told_change ms u)
+  change_answers ms u =
+      each_told (change_response ms) (MayAnswer (command.Store uid add asked)) (λ m. tt) (filter (λ x. x.uid == u) ms)
+
   not_there : seen_message mail n uid ≡ None → IsGoodReply (on mail n) (command.Store uid add asked) (reply_with (on mail n) [])
   not_there none = record {
-    honest = late_answer (on mail n) (on mail n) (command.Store uid add asked) [] code.Absent small.well_formed tt (
+    honest = late_answer (on mail n) (on mail n) (command.Store uid add asked) [] code.Absent small.well_formed tt tt (
       refl,
       (
         n,
@@ -53,8 +57,8 @@ module _ (mail : StoreMail) (n uid : ℕ) (add : Bool) (asked : List (List ℕ))
     unchanged : IsGoodReply (on mail n) (command.Store uid add asked) (reply_with (on mail n) (told_change f.messages m.uid))
     unchanged = record {
       honest = late_answer (on mail n) (on mail n) (command.Store uid add asked) (told_change f.messages m.uid) code.Absent small.well_formed
-          (subst (λ (o : Option StoreFolder). AllByRecursion (IsTrueThere (Some (messages_of_folder o))) (told_change f.messages m.uid)) (sym there)
-          (change_all_true (λ x. x.uid == m.uid) f.messages (folder_is mail n f small there).ascend)) (
+          (subst (λ (o : Option StoreFolder). AllByRecursion (IsTrueThere (Some o)) (told_change f.messages m.uid)) (sym there)
+          (change_all_true (λ x. x.uid == m.uid) f (folder_is mail n f small there).ascend)) (change_answers f.messages m.uid) (
             refl,
             (
               n,
@@ -79,9 +83,10 @@ module _ (mail : StoreMail) (n uid : ℕ) (add : Bool) (asked : List (List ℕ))
         flagged_small mail n uid f m small there held flags room (flags_after_kept add asked m.flags (message_is mail n uid f m small there held).flags) in
         record {
           honest = late_answer (on mail n) (on after n) (command.Store uid add asked) (told_change ms m.uid) code.Absent after_small.well_formed
-              (subst (λ (o : Option StoreFolder). AllByRecursion (IsTrueThere (Some (messages_of_folder o))) (told_change ms m.uid))
+              (subst (λ (o : Option StoreFolder). AllByRecursion (IsTrueThere (Some o)) (told_change ms m.uid))
               (sym (put_found mail n f (folder_flagged f m.uid flags (next_modseq f)) small there refl))
-              (change_all_true (λ x. x.uid == m.uid) ms (ascend_flagged m.uid flags (next_modseq f) 0 f.messages (folder_is mail n f small there).ascend))) (
+              (change_all_true (λ x. x.uid == m.uid) (folder_flagged f m.uid flags (next_modseq f))
+              (ascend_flagged m.uid flags (next_modseq f) 0 f.messages (folder_is mail n f small there).ascend))) (change_answers ms m.uid) (
                 refl,
                 (
                   n,

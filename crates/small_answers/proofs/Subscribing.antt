@@ -48,7 +48,7 @@ subscribe_good s name on small =
     let after : StoreMail = mail_subscribed s.mail (folder_name name) on in
     let after_small : IsSmallMail after = subscribed_small s.mail (folder_name name) on small in
     record {
-      honest = late_answer s (over_mail s after) (command.Subscribe name on) [] code.Absent after_small.well_formed tt
+      honest = late_answer s (over_mail s after) (command.Subscribe name on) [] code.Absent after_small.well_formed tt tt
           (refl, record { folders_are = refl; uses_are = sym (append-nil s.mail.uses) });
       small = after_small;
     }

@@ -7,7 +7,7 @@ use Rattle.honest_store.specs.StoreMail.{StoreMessage, StoreFolder, StoreMail, f
 use Rattle.honest_store.specs.WellFormed.{AscendByUid, IsStoreFolder, IsStoreMail}
 use Rattle.honest_store.specs.Others.{NoStep}
 use Rattle.honest_store.specs.Responses.{MayCome}
-use Rattle.honest_store.specs.TrueResponses.{messages_of_folder, messages_of_selected, IsTrueOf, TellsTruly, NoMore, Tells}
+use Rattle.honest_store.specs.TrueResponses.{messages_of_folder, seen_folder, IsTrueOf, TellsTruly, NoMore, Tells}
 use Rattle.small_answers.proofs.Elements.{each_both}
 use Rattle.small_answers.proofs.Searches.{found_is}
 
@@ -43,10 +43,10 @@ seen_ascend mail n whole =
 -- ---- truth
 
 -- a response that may come, and is true
-abbrev pub IsTrueThere : Option (List StoreMessage) → Response → Type 0
+abbrev pub IsTrueThere : Option (Option StoreFolder) → Response → Type 0
 IsTrueThere seen r = MayCome r × IsTrueOf seen r
 
-pub tells_all : (selected : Option ℕ) (mail : StoreMail) (rs : List Response) → AllByRecursion (λ r. MayCome r × IsTrueOf (messages_of_selected selected mail) r) rs
+pub tells_all : (selected : Option ℕ) (mail : StoreMail) (rs : List Response) → AllByRecursion (λ r. MayCome r × IsTrueOf (seen_folder selected mail) r) rs
     → TellsTruly NoStep selected mail rs mail
 tells_all selected mail [] h = NoMore
 tells_all selected mail (r ∷ rs) h = Tells r h.0.0 h.0.1 (tells_all selected mail rs h.1)
