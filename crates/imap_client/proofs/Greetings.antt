@@ -17,7 +17,8 @@ use Rattle.imap_exchange.specs.Responses.{ReadsResponse, IsOver}
 use Rattle.imap_exchange.specs.Answering.{IsTooMuch, HangsUp}
 use Rattle.told_folder.specs.declared.exchange.Exchange.{Exchange}
 use Rattle.imap_client.specs.Plans.{Follows}
-use Rattle.imap_client.specs.Connecting.{GivesFirst, Greets, GreetsBy, greeting_says, planned_from, IsUnwelcome, IsMet, IsGreeted, Lives, Unwelcome, Welcome, Connects, Lived}
+use Rattle.imap_client.specs.Unread.{LeavesUnread}
+use Rattle.imap_client.specs.Connecting.{GivesFirst, Greets, GreetsBy, greeting_says, planned_from, IsUnwelcome, IsMet, IsGreeted, IsGreetedKeeping, Lives, Unwelcome, Welcome, Connects, Lived}
 
 -- no greeting came
 pub ungreeted : {es : List Event} (after : Octets) (up : Bool) (e : LinkEnd) → ReadsResponse 0 true up nothing_given after (Err e) es → Greets after up (Err e) es
@@ -28,6 +29,7 @@ ungreeted after up end.Lost r = record {
   first = record { said = r.said; needed = r.needed };
   greets =
       (r.reads.0, room r.gave r.reads.1);
+  left = tt;
 }
   where
     room : (gave : List ℕ) → (IsOver 0 (0 + length gave) → ⊥) → IsTooMuch nothing_given gave → ⊥
@@ -40,6 +42,7 @@ ungreeted after up end.TooMuch r = record {
   first = record { said = r.said; needed = r.needed };
   greets =
       (r.reads.0, too_much r.gave r.reads.1);
+  left = tt;
 }
   where
     too_much : (gave : List ℕ) → IsOver 0 (0 + length gave) → IsTooMuch nothing_given gave
@@ -52,8 +55,9 @@ ungreeted after up (end.Bad at) r = record {
   first = record { said = r.said; needed = r.needed };
   greets =
       (r.reads.0, r.reads.1, omega (arith, r.reads.2));
+  left = ([], sym r.reads.3, omega (arith, r.reads.2));
 }
-ungreeted after up end.Memory r = record { talk = r.talk; gave = r.gave; ended = r.ended; first = record { said = r.said; needed = r.needed }; greets = tt }
+ungreeted after up end.Memory r = record { talk = r.talk; gave = r.gave; ended = r.ended; first = record { said = r.said; needed = r.needed }; greets = tt; left = tt }
 ungreeted after up end.Stray r = absurd r.reads
 ungreeted after up end.Bye r = absurd r.reads
 ungreeted after up end.Refused r = absurd r.reads
@@ -78,6 +82,7 @@ greeted after up w (Ok preauth) is r =
       first = record { said = r.said; needed = r.needed };
       greets =
           (w, is, (r.reads.0, after.octets, r.reads.1, r.reads.2, refl), omega (arith, r.reads.3));
+      left = tt;
     }
 greeted after up w (Err end.Bye) is r =
     record {
@@ -87,6 +92,7 @@ greeted after up w (Err end.Bye) is r =
       first = record { said = r.said; needed = r.needed };
       greets =
           (w, after.octets, is, (r.reads.0, after.octets, r.reads.1, r.reads.2, refl));
+      left = tt;
     }
 greeted after up w (Err end.Lost) is r = let never = only_bye w end.Lost is in absurd (cc never)
 greeted after up w (Err end.TooMuch) is r = let never = only_bye w end.TooMuch is in absurd (cc never)
@@ -114,9 +120,17 @@ ended_by true xs ys talk is hung = (λ i. (is ∙ append-nil talk) i ++ hung i)
 ended_by false xs ys talk is none = ap (λ (l : List Event). xs ++ l) none ∙ append-nil xs ∙ is
 
 -- no greeting that lets the client in, and then the link's end, are a life that was unwelcome
-pub unwelcome : {xs : List Event} (ys : List Event) (after : Octets) (up : Bool) (e : LinkEnd) → Greets after up (Err e) xs → HangsUp up ys → IsUnwelcome e (xs ++ ys)
-unwelcome {xs} ys after up e g hangs =
-    record { talk = g.talk; gave = g.gave; whole = ended_by up xs ys g.talk g.ended hangs; first = g.first; greets = unwelcome_alone g.gave after e g.greets }
+pub unwelcome : {xs : List Event} (ys : List Event) (after : Octets) (up : Bool) (e : LinkEnd) → Greets after up (Err e) xs → HangsUp up ys
+    → (unwelcome : IsUnwelcome e (xs ++ ys)) × LeavesUnread e unwelcome.gave after.octets
+unwelcome {xs} ys after up e g hangs = (
+  record { talk = g.talk; gave = g.gave; whole = ended_by up xs ys g.talk g.ended hangs; first = g.first; greets = unwelcome_alone g.gave after e g.greets },
+  g.left,
+)
+
+-- how a life begins, whatever stays unread
+pub greeted_alone : (es : List Event) (client : ClientState) (unread : Octets) (result : Result Bool LinkEnd) → IsGreetedKeeping client unread result es → IsGreeted client result es
+greeted_alone es client unread (Ok preauth) so = so
+greeted_alone es client unread (Err e) so = so.0
 
 -- a life that was unwelcome is what a client does in it
 pub unwelcomed : {es : List Event} (user password : List ℕ) (e : LinkEnd) (client : ClientState) → IsUnwelcome e es

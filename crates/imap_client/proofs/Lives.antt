@@ -12,16 +12,18 @@ use Rattle.imap_types.specs.declared.response.Response.TheVariants.{Tagged}
 use Rattle.imap_types.specs.declared.response.Status.{Status}
 use Rattle.imap_types.specs.Commands.{command_pieces, tag_of}
 use Rattle.imap_exchange.specs.declared.link_end.LinkEnd.{LinkEnd}
+use Rattle.imap_exchange.specs.declared.link_end.LinkEnd.TheVariants as end
 use Rattle.told_folder.specs.declared.exchange.Exchange.{Exchange}
 use Rattle.imap_exchange.specs.Received.{Octets}
 use Rattle.imap_exchange.specs.Exchanges.{Done, IsVerdict, VerdictOf, IsTaken}
 use Rattle.imap_client.specs.LinkLife.{with_part, hung_up, LinkLife, IsLife, IsExchange, Completed, ClientState, Stands, fresh, next_number, selected, selected_after, unread}
 use Rattle.imap_client.specs.LinkLife.{with_exchange}
+use Rattle.imap_client.specs.Unread.{LeavesUnread}
 use Rattle.imap_client.specs.Capabilities.{special_use_after}
 use Rattle.imap_exchange.specs.Answering.{selected_by, end_unless}
-use Rattle.imap_exchange.specs.Answering.{Converses, answer_of, IsOf, HangsUp}
+use Rattle.imap_exchange.specs.Answering.{Converses, HoldsUnread, answer_of, IsOf, HangsUp}
 use Rattle.imap_client.specs.Calls.{IsExchanged, is_torn}
-use Rattle.imap_exchange.proofs.Verdicts.{Begins-more, Passes-more}
+use Rattle.imap_exchange.proofs.Verdicts.{Begins-more, Begins-parts, Passes-more}
 
 -- further octets after a tagged line
 pub verdict_more : {tag : List ℕ} {pieces : List (List ℕ)} {octets rest : List ℕ} {responses : List Response} {s : Status} {code : Code} (g : List ℕ) → IsVerdict tag pieces octets
@@ -85,6 +87,51 @@ life_part life gave took so =
 -- octets that spell a life still spell it when it is hung up
 pub life_hung : (life : LinkLife) → IsLife life → IsLife (hung_up life)
 life_hung life so = record { remaining = so.remaining; greeted = so.greeted; completed = so.completed; whole = λ never. absurd (cc never) }
+
+-- ---- what stays unread
+
+-- octets that begin with some octets and more begin with all of them
+parts_more : (a front mid more rest : List ℕ) → a ≡ front ++ mid → mid ≡ more ++ rest → a ≡ (front ++ more) ++ rest
+parts_more a front mid more rest first second = first ∙ ap (λ (l : List ℕ). front ++ l) second ∙ sym (append_assoc front more rest)
+
+-- what no completed exchange has stands at the end of what the store gave
+completed_parts : (n : ℕ) (xs : List Exchange) (rest gave took : List ℕ) → Completed n xs rest gave took → (front : List ℕ) × (gave ≡ front ++ rest)
+completed_parts n [] rest gave took (gave_is, took_is) = ([], gave_is)
+completed_parts n (x ∷ xs) rest gave took (remaining, first, others, here, took_is, more) =
+    let v = here.verdict in
+    let open_ones = Begins-parts v.responses v.remaining gave v.passed.spelled in
+    let tagged = Begins-parts (Tagged (tag_of n) x.status x.code ∷ []) remaining v.remaining v.decided.1 in
+    let later = completed_parts (n + 1) xs rest remaining others more in (
+      (open_ones.0 ++ tagged.0) ++ later.0,
+      parts_more gave (open_ones.0 ++ tagged.0) remaining later.0 rest (parts_more gave open_ones.0 v.remaining tagged.0 remaining open_ones.1 tagged.1) later.1,
+    )
+
+life_parts : (life : LinkLife) → IsLife life → (front : List ℕ) × (life.gave ≡ front ++ life.rest)
+life_parts life so =
+    let greeted = Begins-parts (life.greeting ∷ []) so.remaining life.gave so.greeted in
+    let later = completed_parts 1 life.exchanges life.rest so.remaining life.took so.completed in
+    (greeted.0 ++ later.0, parts_more life.gave greeted.0 so.remaining later.0 life.rest greeted.1 later.1)
+
+-- what is held from an offset on, of octets that no completed exchange has, stands there in the life
+leaves : (life : LinkLife) (gave : List ℕ) (after : Octets) (e : LinkEnd) → IsLife life → HoldsUnread (unread life) gave after (Err e)
+    → LeavesUnread e (life.gave ++ gave) after.octets
+leaves life gave after (end.Bad at) so (read, is, place) =
+    let parts = life_parts life so in (
+      parts.0 ++ read,
+      parts_more (life.gave ++ gave) parts.0 (life.rest ++ gave) read after.octets
+          (ap (λ (l : List ℕ). l ++ gave) parts.1 ∙ append_assoc parts.0 life.rest gave) is,
+      omega (arith, place, ap length parts.1, length-append parts.0 life.rest, length-append parts.0 read),
+    )
+leaves life gave after end.Lost so held = tt
+leaves life gave after end.Stray so held = tt
+leaves life gave after end.Bye so held = tt
+leaves life gave after end.TooMuch so held = tt
+leaves life gave after end.Memory so held = tt
+leaves life gave after end.Refused so held = tt
+leaves life gave after end.NoQresync so held = tt
+leaves life gave after end.Lacks so held = tt
+
+-- ---- exchanges
 
 -- what a client knows
 abbrev pub place_of : Bool → Octets → ℕ → Option (List ℕ) → Bool → ClientState
@@ -178,7 +225,7 @@ goes_down life command x now folder special n alive up taken before after is_ali
 -- the exchange isn't completed
 pub goes_not : {xs : List Event} (ys : List Event) (life : LinkLife) (command : Command) (e : LinkEnd) (folder : Option (List ℕ)) (special : Bool) (n : ℕ) (alive up taken : Bool)
     (before after : Octets) → alive ≡ true → Stands (place_of alive before n folder special) life → Converses (tag_of n) (command_pieces command n) before after up taken (Err e) xs → HangsUp up ys
-    → (left : LinkLife) × IsExchanged life command left fresh (Err e) (xs ++ ys) × (taken ≡ is_torn (Err e) left)
+    → (left : LinkLife) × IsExchanged life command left fresh (Err e) (xs ++ ys) × (taken ≡ is_torn (Err e) left) × LeavesUnread e left.gave after.octets
 goes_not {xs} ys life command e folder special n alive up taken before after is_alive stands so hangs =
     let on : life.goes_on ≡ true = sym stands.alive ∙ is_alive in
     let there : Converses (tag_of (next_number life)) (command_pieces command (next_number life)) (unread life) after up taken (Err e) xs =
@@ -203,6 +250,7 @@ goes_not {xs} ys life command e folder special n alive up taken before after is_
         stands = stands_ended (with_part life there.speaks.gave there.speaks.took) refl (life_part life there.speaks.gave there.speaks.took stands.spelled);
       },
       there.taken_is,
+      leaves life there.speaks.gave after e stands.spelled there.held,
     )
   where
     ended_by : (up : Bool) (talk : List Event) → xs ≡ talk ++ end_unless up → HangsUp up ys → xs ++ ys ≡ talk ++ LinkEnded ∷ []

@@ -1,6 +1,6 @@
 -- The greeting, and what is asked of a store until its mail may be read (RFC 9051 sections 6.1.1, 6.2.3, 6.3.1 and 7.1,
 -- RFC 7162 section 3.2.3).
-use Rattle.std.specs.Prelude.{◌≡◌, ◌++◌, ◌&&◌, ℕ, Bool, true, false, List, [], ◌∷◌, length, codes, if◌then◌else◌, Option, Some, None, Result, Ok, Err}
+use Rattle.std.specs.Prelude.{◌≡◌, ◌++◌, ◌&&◌, ℕ, Bool, true, false, List, [], ◌∷◌, length, codes, if◌then◌else◌, IfErr, Option, Some, None, Result, Ok, Err}
 use Rattle.std.specs.List.{list_any}
 use Rattle.std.specs.Str.{str_eq_ignore_ascii_case}
 use Rattle.gate_world.specs.declared.event.Event.{Event}
@@ -28,6 +28,7 @@ use Rattle.imap_client.specs.declared.connection.Stage.{Stage}
 use Rattle.imap_client.specs.declared.connection.Stage.TheVariants as stage
 use Rattle.imap_client.specs.Capabilities.{tells}
 use Rattle.imap_client.specs.LinkLife.{LinkLife, ClientState, Stands}
+use Rattle.imap_client.specs.Unread.{LeavesUnread}
 use Rattle.imap_client.specs.Plans.{Planned, Follows}
 
 -- ---- the greeting
@@ -60,6 +61,7 @@ pub record Greets (after : Octets) (up : Bool) (result : Result Bool LinkEnd) (e
   pub ended : events ≡ talk ++ end_unless up
   pub first : GivesFirst gave talk
   pub greets : GreetsBy gave after result
+  pub left : IfErr result (λ (e : LinkEnd). LeavesUnread e gave after.octets)
 
 -- a life of which the greeting alone came
 pub record IsNew (life : LinkLife) : Type 0 where
@@ -132,6 +134,11 @@ pub record IsMet (preauth : Bool) (life : LinkLife) (client : ClientState) (even
 abbrev pub IsGreeted : ClientState → Result Bool LinkEnd → List Event → Type 0
 IsGreeted client (Ok preauth) events = (life : LinkLife) × IsMet preauth life client events
 IsGreeted client (Err e) events = IsUnwelcome e events
+
+-- The same, and the octets that stay unread where they can't be read.
+abbrev pub IsGreetedKeeping : ClientState → Octets → Result Bool LinkEnd → List Event → Type 0
+IsGreetedKeeping client unread (Ok preauth) events = IsGreeted client (Ok preauth) events
+IsGreetedKeeping client unread (Err e) events = (unwelcome : IsUnwelcome e events) × LeavesUnread e unwelcome.gave unread.octets
 
 -- a greeting came, and then what is asked
 pub record IsWelcome (user password : List ℕ) (life after : LinkLife) (client : ClientState) (result : Result (Unit {0}) LinkEnd)

@@ -2,6 +2,7 @@
 -- are for laws.
 pub mod Capabilities
 pub mod LinkLife
+pub mod Unread
 pub mod Calls
 pub mod Refusals
 pub mod Plans

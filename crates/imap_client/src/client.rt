@@ -1,5 +1,5 @@
 // The client's side of one link life after another.
-ghost use Rattle.std.specs.Prelude.{◌≡◌, true, false, ◌<◌, ◌≤◌, IsErrOf, IfOk, OnOk, OnErr};
+ghost use Rattle.std.specs.Prelude.{◌≡◌, true, false, ◌<◌, ◌≤◌, IsErrOf, IfErr, IfOk, OnOk, OnErr};
 ghost use Rattle.std.specs.Option.{option_copied};
 ghost use Rattle.gate_world.specs.Causes.{Rose, LinkAlone, NoFault};
 ghost use Rattle.gate_world.specs.Tape.{Adds};
@@ -8,6 +8,7 @@ ghost use Rattle.imap_exchange.specs.Received.{nothing_given, room_left};
 ghost use Rattle.imap_exchange.specs.Answering.{HangsUp};
 ghost use Rattle.imap_client.specs.LinkLife.{LinkLife, Stands, fresh, begun_with, life_left};
 ghost use Rattle.imap_client.specs.Calls.{IsExchanged, is_torn};
+ghost use Rattle.imap_client.specs.Unread.{LeavesUnread};
 
 use crate::connection::special_use_after;
 use gate_world::Link;
@@ -16,6 +17,7 @@ use imap_types::Command;
 use octets::Bytes;
 use std::alloc::Global;
 use std::marker::Model;
+use std::mem;
 use told_mail::Exchange;
 
 /// The client of a store. It lives one link life after another.
@@ -156,6 +158,30 @@ impl Client {
         ensures cause { IsErrOf result LinkEnd.Lost → Rose (L.faults link.old).link (L.faults link.new).link }
         ensures hidden { L.hidden link.new ≡ L.hidden link.old }
     {
+        let mut unread = Received::new(self.alloc);
+        self.exchange_keeping(link, command, torn, &mut unread)
+    }
+
+    /// The same, and where no response begins at an offset of what the store gave, `unread` has the octets from there on.
+    pub fn exchange_keeping<L: Link>(
+        &mut self,
+        link: &mut L,
+        command: Command,
+        torn: &mut bool,
+        unread: &mut Received,
+    ) -> Result<Exchange, LinkEnd>
+        requires { self.old.alive ≡ true }
+        ensures tape { Adds (L.tape link.old) (L.tape link.new) (λ es. (life : LinkLife) → Stands self.old life → (left : LinkLife) × IsExchanged life command left self.new result es × (torn.new ≡ is_torn result left)
+            × IfErr result (λ e. LeavesUnread e left.gave unread.new.octets)) }
+        ensures whole { OnOk result (torn.new ≡ false) }
+        ensures alive { IfOk result (λ x. x.status ≡ statuses.Ok → self.new.alive ≡ true) }
+        ensures ended { OnErr result (self.new ≡ fresh) }
+        ensures progress { OnOk result (life_left self.new < life_left self.old) }
+        ensures alone { LinkAlone (L.faults link.old) (L.faults link.new) }
+        ensures down { OnOk result (self.new.alive ≡ false → Rose (L.faults link.old).link (L.faults link.new).link) }
+        ensures cause { IsErrOf result LinkEnd.Lost → Rose (L.faults link.old).link (L.faults link.new).link }
+        ensures hidden { L.hidden link.new ≡ L.hidden link.old }
+    {
         let mut up = true;
         let mut taken = false;
         *torn = false;
@@ -182,8 +208,8 @@ impl Client {
             Err(end) => {
                 *torn = taken;
                 hang_up_where(link, up);
+                *unread = mem::replace(&mut self.unread, Received::new(self.alloc));
                 self.alive = false;
-                self.unread = Received::new(self.alloc);
                 self.number = 1;
                 self.selected = None;
                 self.special_use = false;

@@ -4,7 +4,7 @@ ghost use Rattle.gate_world.specs.Causes.{Rose, LinkAlone};
 ghost use Rattle.gate_world.specs.Tape.{Adds};
 ghost use Rattle.imap_exchange.specs.Received.{nothing_given, room_left};
 ghost use Rattle.imap_client.specs.LinkLife.{LinkLife, fresh};
-ghost use Rattle.imap_client.specs.Connecting.{Greets, IsGreeted, Lives, Connects, greeting_says};
+ghost use Rattle.imap_client.specs.Connecting.{Greets, IsGreeted, IsGreetedKeeping, Lives, Connects, greeting_says};
 
 use crate::client::Client;
 use crate::connection::{Connection, Stage};
@@ -78,16 +78,35 @@ impl Client {
         ensures cause { IsErrOf result LinkEnd.Lost → Rose (L.faults link.old).link (L.faults link.new).link }
         ensures hidden { L.hidden link.new ≡ L.hidden link.old }
     {
+        let mut unread = Received::new(self.allocator());
+        self.read_greeting_keeping(link, &mut unread)
+    }
+
+    /// The same, and where the octets that come first are no response, `unread` has them.
+    pub fn read_greeting_keeping<L: Link>(
+        &mut self,
+        link: &mut L,
+        unread: &mut Received,
+    ) -> Result<bool, LinkEnd>
+        requires { self.old ≡ fresh }
+        ensures tape { Adds (L.tape link.old) (L.tape link.new) (IsGreetedKeeping self.new unread.new result) }
+        ensures alive { OnOk result (self.new.alive ≡ true) }
+        ensures ended { OnErr result (self.new ≡ fresh) }
+        ensures alone { LinkAlone (L.faults link.old) (L.faults link.new) }
+        ensures cause { IsErrOf result LinkEnd.Lost → Rose (L.faults link.old).link (L.faults link.new).link }
+        ensures hidden { L.hidden link.new ≡ L.hidden link.old }
+    {
         let alloc = self.allocator();
-        let mut unread = Received::new(alloc);
+        let mut received = Received::new(alloc);
         let mut up = true;
-        match greet(alloc, link, &mut unread, &mut up) {
+        match greet(alloc, link, &mut received, &mut up) {
             Ok(preauth) => {
-                self.begin(unread);
+                self.begin(received);
                 Ok(preauth)
             }
             Err(end) => {
                 hang_up_where(link, up);
+                *unread = received;
                 Err(end)
             }
         }

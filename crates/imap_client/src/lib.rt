@@ -19,7 +19,7 @@ mod laws;
 
 pub use client::Client;
 pub use connection::{Connection, Stage, is_ok, tells};
-pub use following::{follow, follow_torn};
+pub use following::{follow, follow_keeping, follow_torn};
 pub use imap_exchange::{LinkEnd, MAX_EXCHANGE_OCTETS, MAX_LIFE_OCTETS};
 pub use laws::{
     capabilities_after_login_count, commands_are_sent_in_order, fetches_keep_folders,

@@ -33,7 +33,7 @@ use Rattle.imap_exchange.specs.reading.Sending.{Offers, Takes, piece_at}
 use Rattle.imap_exchange.specs.reading.Turns.{SettlesNow, is_settled_by, Judges}
 use Rattle.imap_exchange.proofs.Needing.{reads_none, reads_append, reads_taking, reads_widen}
 use Rattle.imap_exchange.proofs.Responses.{Talk-none}
-use Rattle.imap_exchange.proofs.Verdicts.{Begins-length, Passes-more, Passes-push}
+use Rattle.imap_exchange.proofs.Verdicts.{Begins-length, Begins-parts, Passes-more, Passes-push}
 use Rattle.imap_exchange.proofs.Pacing.{paced_none, paced_reading, paced_writing, joined_more, take_min}
 
 -- ---- sending
@@ -350,7 +350,7 @@ heard {xs} {ys} {pieces} {before} {mid} {after} {responses} {at} {was} {has} beg
 -- out of memory
 pub wanting : {xs : List Event} {pieces : List (List ℕ)} {before : Octets} {up has : Bool} (tag : List ℕ) (after : Octets) (s : Speaks pieces before up xs)
     → has ≡ is_some_taken s.took → Converses tag pieces before after up has (Err end.Memory) xs
-wanting tag after s is = record { speaks = s; taken_is = is; comes = tt }
+wanting tag after s is = record { speaks = s; taken_is = is; comes = tt; held = tt }
 
 -- no response came
 pub unheard : {xs ys : List Event} {pieces : List (List ℕ)} {before mid : Octets} {responses : List Response} {at : ℕ} {was has : Bool} (tag : List ℕ) (begun : ℕ)
@@ -366,6 +366,7 @@ unheard {xs} {ys} {pieces} {before} {mid} {responses} {at} {was} {has} tag begun
         λ over. not_all_taken was pieces responses at begun (mid.given + length r.gave) c.speaks.took c.left place c.taken c.some_left r.reads.1
             (over_of begun before mid c.speaks.gave r.gave from c.given over),
       );
+      held = tt;
     }
 unheard {xs} {ys} {pieces} {before} {mid} {responses} {at} {was} {has} tag begun after up end.TooMuch from place c r =
     record {
@@ -376,6 +377,7 @@ unheard {xs} {ys} {pieces} {before} {mid} {responses} {at} {was} {has} tag begun
         too_much_of begun before mid c.speaks.gave r.gave from c.given r.reads.1,
         due_taken pieces responses at c.speaks.took c.left place c.taken (c.all_taken r.reads.2),
       );
+      held = tt;
     }
 unheard {xs} {ys} {pieces} {before} {mid} {responses} {at} {was} {has} tag begun after up (end.Bad offset) from place c r =
     record {
@@ -391,10 +393,29 @@ unheard {xs} {ys} {pieces} {before} {mid} {responses} {at} {was} {has} tag begun
         },
         omega (arith, within, r.reads.2, c.given, length-append before.octets (c.speaks.gave ++ r.gave), length-append c.speaks.gave r.gave),
       );
+      held = (
+        parts.0,
+        parts.1 ∙ ap (λ (l : List ℕ). parts.0 ++ l) (sym r.reads.3),
+        place_held,
+      );
     }
   where
     within : length (mid.octets ++ r.gave) ≤ length (before.octets ++ (c.speaks.gave ++ r.gave))
     within = let passed = passed_more before mid c.speaks.gave r.gave c.passed in Begins-length responses _ _ passed.spelled
+
+    parts : (front : List ℕ) × (before.octets ++ (c.speaks.gave ++ r.gave) ≡ front ++ (mid.octets ++ r.gave))
+    parts = let passed = passed_more before mid c.speaks.gave r.gave c.passed in Begins-parts responses _ _ passed.spelled
+
+    place_held : offset + length before.octets ≡ before.given + length parts.0
+    place_held = omega (
+      arith,
+      r.reads.2,
+      c.given,
+      ap length parts.1,
+      length-append before.octets (c.speaks.gave ++ r.gave),
+      length-append c.speaks.gave r.gave,
+      length-append parts.0 (mid.octets ++ r.gave),
+    )
 unheard {xs} {ys} {pieces} {before} {mid} {responses} {at} {was} {has} tag begun after up end.Memory from place c r =
     wanting tag after (spoken_more ys pieces before was up r.talk r.gave c.speaks r.ended r.said (awaited ys begun was up from place c r.ended r.said r.needed)) c.taken_is
 unheard tag begun after up end.Stray from place c r = absurd r.reads
@@ -556,6 +577,7 @@ done {pieces = pieces} {before} {after} {responses} {at} {up} tag w s code place
         λ is. sym (append-nil h.speaks.took) ∙ ap (λ (l : List ℕ). h.speaks.took ++ l) (sym (h.all_taken is)) ∙ h.taken ∙ ap joined_pieces
             (sym (take_min pieces (continuations responses + 1) at place)),
       );
+      held = tt;
     }
   where
     refused : (up : Bool) (s : Status) → is_settled_by up s ≡ true → up ≡ false → s ≢ status.Ok
@@ -583,6 +605,7 @@ not_whole {pieces = pieces} {before} {after} {responses} {at} {up} tag w status.
         λ same. lacking h.speaks.took h.left (joined_pieces pieces) (h.some_left settled)
             (h.taken ∙ whole) same,
       );
+      held = tt;
     }
 not_whole tag w status.No code place is now settled h = absurd (cc settled)
 not_whole tag w status.Bad code place is now settled h = absurd (cc settled)
@@ -603,6 +626,7 @@ ends {pieces = pieces} {before} {after} {responses} {at} {up} tag w end.Stray pl
         passed = h.passed;
         decided = (other, s, code, after.octets, subst (λ (r : Response). Begins (r ∷ []) after.octets h.remaining) is h.begins, because why);
       };
+      held = tt;
     }
   where
     because : (other ≢ tag) ⊎ ((s ≡ status.Ok) × (nat_eq at (length pieces) ≡ false)) → (other ≢ tag) ⊎ ((s ≡ status.Ok) × (continuations responses + 1 < length pieces))
@@ -618,6 +642,7 @@ ends {pieces = pieces} {before} {after} {responses} {at} {up} tag w end.Bye plac
         passed = h.passed;
         decided = (code, after.octets, subst (λ (r : Response). Begins (r ∷ []) after.octets h.remaining) is h.begins);
       };
+      held = tt;
     }
 ends tag w end.Lost place never h = absurd never
 ends tag w (end.Bad at) place never h = absurd never
@@ -627,10 +652,9 @@ ends tag w end.NoQresync place never h = absurd never
 ends tag w end.Lacks place never h = absurd never
 ends tag w end.Memory place never h = absurd never
 
--- nothing was said
-pub silent : (tag : List ℕ) (pieces : List (List ℕ)) (before after : Octets) (e : LinkEnd) → IsCause tag pieces before [] [] e
-    → Converses tag pieces before after true false (Err e) []
-silent tag pieces before after e why = record {
+-- nothing was said, and memory ran out
+pub silent : (tag : List ℕ) (pieces : List (List ℕ)) (before after : Octets) → Converses tag pieces before after true false (Err end.Memory) []
+silent tag pieces before after = record {
   speaks = record {
     talk = [];
     gave = [];
@@ -641,5 +665,6 @@ silent tag pieces before after e why = record {
     needed = reads_none (Awaits pieces before);
   };
   taken_is = refl;
-  comes = why;
+  comes = tt;
+  held = tt;
 }

@@ -93,6 +93,7 @@ read_bad {events} begun before now offset at (gave, gains) so place =
         at,
         subst (λ (l : List ℕ). ScanOf l (Bad at)) gains.grows.octets so,
         ap (λ (l : List ℕ). offset + length l) (sym gains.grows.octets) ∙ place ∙ gains.grows.given,
+        gains.grows.octets,
       );
     }
 
@@ -150,5 +151,10 @@ read_held begun up before after result down reads =
 
 -- what is held is read, where nothing is said
 pub held_bad : (before : Octets) (offset at : ℕ) → ScanOf before.octets (Bad at) → offset + length before.octets ≡ before.given → (place : ℕ) × ScanOf (before.octets ++ [])
-    (Bad place) × (offset + length (before.octets ++ []) ≡ before.given + length {A = ℕ} [])
-held_bad before offset at so place = (at, subst (λ (l : List ℕ). ScanOf l (Bad at)) (sym (append-nil before.octets)) so, omega (arith, place, ap length (append-nil before.octets)))
+    (Bad place) × (offset + length (before.octets ++ []) ≡ before.given + length {A = ℕ} []) × (before.octets ≡ before.octets ++ [])
+held_bad before offset at so place = (
+  at,
+  subst (λ (l : List ℕ). ScanOf l (Bad at)) (sym (append-nil before.octets)) so,
+  omega (arith, place, ap length (append-nil before.octets)),
+  sym (append-nil before.octets),
+)

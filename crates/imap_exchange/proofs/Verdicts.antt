@@ -44,6 +44,12 @@ pub Begins-length : (vs : List Response) (r b : List ℕ) → Begins vs r b → 
 Begins-length [] r b is = omega (arith, ap length is)
 Begins-length (v ∷ vs) r b (text, more, spells, is, rest) = omega (arith, Begins-length vs r more rest, ap length is, length-append text more)
 
+-- what stands before it, and what stands after
+pub Begins-parts : (vs : List Response) (r b : List ℕ) → Begins vs r b → (front : List ℕ) × (b ≡ front ++ r)
+Begins-parts [] r b is = ([], is)
+Begins-parts (v ∷ vs) r b (text, more, spells, is, rest) =
+    let later = Begins-parts vs r more rest in (text ++ later.0, is ∙ ap (λ (l : List ℕ). text ++ l) later.1 ∙ sym (append_assoc text later.0 r))
+
 -- what stands after a response is shorter than what begins with it
 pub Begins-shorter : (v : Response) (r b : List ℕ) → Begins (v ∷ []) r b → length r < length b
 Begins-shorter v r b (text, more, spells, is, remaining) = omega (arith, some text (spelling_some v text spells), ap length is, ap length remaining, length-append text more)

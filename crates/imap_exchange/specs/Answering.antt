@@ -108,6 +108,12 @@ pub record IsOf (command : Command) (before : Option (List ℕ)) (x : Exchange) 
   pub selected_is : x.selected ≡ before
   pub now_is : now ≡ selected_by command x.status before
 
+-- Where no response begins at an offset of the life, the octets from there on are held: those before it are read.
+abbrev pub HoldsUnread : Octets → List ℕ → Octets → Result Answer LinkEnd → Type 0
+HoldsUnread before gave after (Err (end.Bad at)) =
+    (read : List ℕ) × (before.octets ++ gave ≡ read ++ after.octets) × (at + length before.octets ≡ before.given + length read)
+HoldsUnread before gave after _ = Unit {0}
+
 -- whether these octets, which the store took, are some
 abbrev pub is_some_taken : List ℕ → Bool
 is_some_taken [] = false
@@ -119,3 +125,4 @@ pub record Converses (tag : List ℕ) (pieces : List (List ℕ)) (before after :
   pub speaks : Speaks pieces before up events
   pub taken_is : taken ≡ is_some_taken speaks.took
   pub comes : ComesTo tag pieces before speaks.gave speaks.took after up result
+  pub held : HoldsUnread before speaks.gave after result

@@ -35,6 +35,7 @@ ReadsOf begun was before gave after (Err end.Lost) = ScanOf (before.octets ++ ga
 ReadsOf begun was before gave after (Err end.TooMuch) = ScanOf (before.octets ++ gave) scan.NeedMore × IsOver begun (before.given + length gave) × (was ≡ true)
 ReadsOf begun was before gave after (Err (end.Bad at)) =
     (place : ℕ) × ScanOf (before.octets ++ gave) (scan.Bad place) × (at + length (before.octets ++ gave) ≡ before.given + length gave)
+    × (after.octets ≡ before.octets ++ gave)
 ReadsOf begun was before gave after (Err end.Memory) = Unit {0}
 ReadsOf begun was before gave after (Err _) = ⊥
 

@@ -1,12 +1,8 @@
-use Rattle.gate_world.proofs.Joins.{join, widen}
-use Rattle.imap_client.proofs.Greetings.{met, unwelcome}
+use Rattle.gate_world.proofs.Joins.{widen}
+use Rattle.imap_client.proofs.Greetings.{greeted_alone}
 use Rattle.imap_client.proofs.client.Client.read_greeting.Goals as goal
 
-pub returns-in-Ok-clause-tape : goal.returns-in-Ok-clause-tape
-returns-in-Ok-clause-tape g c =
-    widen _ c.in-Ok.ensures.tape
-    (λ x greets. met c.greet.new.unread c.greet.new.up c.in-Ok.preauth c.begin.new.self c.begin.ensures c.in-Ok.ensures.stays greets)
-
-pub returns-in-Err-clause-tape : goal.returns-in-Err-clause-tape
-returns-in-Err-clause-tape g c =
-    join _ c.in-Err.ensures.tape c.hang_up_where.ensures.tape (λ x y greets hangs. unwelcome y c.greet.new.unread c.greet.new.up c.in-Err.end greets hangs)
+pub returns-clause-tape : goal.returns-clause-tape
+returns-clause-tape g c =
+    widen _ c.read_greeting_keeping.ensures.tape
+    (λ x so. greeted_alone x c.read_greeting_keeping.new.self c.read_greeting_keeping.new.unread c.read_greeting_keeping.result so)

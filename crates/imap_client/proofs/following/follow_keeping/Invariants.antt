@@ -2,7 +2,7 @@ use Rattle.std.proofs.Common.{◌≡◌, false}
 use Rattle.gate_world.specs.Causes.{LinkAlone, Rose}
 use Rattle.imap_client.specs.LinkLife.{life_left}
 use Rattle.imap_client.proofs.PlanSteps.{Course}
-use Rattle.imap_client.proofs.following.follow_torn.Given as goal
+use Rattle.imap_client.proofs.following.follow_keeping.Given as goal
 
 abbrev pub invariant-following : goal.invariant-following
 invariant-following g l =
