@@ -1,5 +1,5 @@
 -- The line on a cause: what happened, and what to do.
-use Rattle.std.specs.Prelude.{ℕ, Bool, true, false, ◌++◌, List, [], ◌∷◌, codes, decimal}
+use Rattle.std.specs.Prelude.{ℕ, Bool, true, false, ◌++◌, List, [], ◌∷◌, codes, decimal, Option, Some, None}
 use Rattle.store_causes.specs.declared.cause.Asked.{Asked}
 use Rattle.store_causes.specs.declared.cause.Asked.TheVariants as asked
 use Rattle.store_causes.specs.declared.cause.Breach.{Breach}
@@ -67,3 +67,12 @@ cause_piece store user cause.LoginDisabled = text.LOGIN_DISABLED.now
 cause_piece store user (cause.Lacking rev2 qresync) = lacking_piece rev2 qresync
 cause_piece store user cause.NotEnabled = text.NOT_ENABLED.now
 cause_piece store user (cause.NoValidity name) = text.NO_VALIDITY.now ++ shown name
+
+abbrev pub begun_piece : List ℕ → List ℕ
+begun_piece [] = []
+begun_piece (octet ∷ octets) = text.BEGINS.now ++ shown (octet ∷ octets)
+
+-- how octets begin that can't be read, where anything of them is told
+abbrev pub begins_piece : Option (List ℕ) → List ℕ
+begins_piece None = []
+begins_piece (Some octets) = begun_piece octets

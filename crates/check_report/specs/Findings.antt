@@ -48,3 +48,4 @@ pub record IsFindingOf (checked : Checked) (finding : Finding) : Type 0 where
   pub special_use : finding.special_use ≡ checked.special_use
   pub folders : finding.folders.items ≡ folder_findings checked.mirror.mail.folders
   pub cause : finding.cause ≡ checked.cause
+  pub beginning : finding.beginning ≡ checked.beginning

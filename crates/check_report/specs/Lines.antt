@@ -11,7 +11,7 @@ use Rattle.check_report.specs.declared.finding.FolderFinding.{FolderFinding}
 use Rattle.check_report.specs.declared.folders.TheConstants as text
 use Rattle.check_report.specs.declared.reports.TheConstants as report_text
 use Rattle.check_report.specs.Shown.{shown}
-use Rattle.check_report.specs.CauseLines.{cause_piece}
+use Rattle.check_report.specs.CauseLines.{begins_piece, cause_piece}
 
 -- ---- folders
 
@@ -104,15 +104,15 @@ is_connected (Some other) = false
 abbrev pub read_lines : Bool → List FolderFinding → Option StoreCause → List ℕ
 read_lines special_use fs c = if is_connected c then connected_lines special_use fs else []
 
--- what a first round takes and that the store can be used, or the cause
-abbrev pub last_lines : List ℕ → List ℕ → List FolderFinding → Option StoreCause → List ℕ
-last_lines store user fs None = round_line fs ++ report_text.USABLE.now
-last_lines store user fs (Some c) = cause_piece store user c ++ codes "\n"
+-- what a first round takes and that the store can be used, or the cause, and how octets begin that can't be read
+abbrev pub last_lines : List ℕ → List ℕ → List FolderFinding → Option StoreCause → Option (List ℕ) → List ℕ
+last_lines store user fs None beginning = round_line fs ++ report_text.USABLE.now
+last_lines store user fs (Some c) beginning = cause_piece store user c ++ begins_piece beginning ++ codes "\n"
 
-abbrev pub lines_of : List ℕ → List ℕ → Option Bool → Bool → Bool → List FolderFinding → Option StoreCause → List ℕ
-lines_of store user preauth let_in special_use fs c =
-    greeting_lines store user preauth let_in ++ read_lines special_use fs c ++ last_lines store user fs c
+abbrev pub lines_of : List ℕ → List ℕ → Option Bool → Bool → Bool → List FolderFinding → Option StoreCause → Option (List ℕ) → List ℕ
+lines_of store user preauth let_in special_use fs c beginning =
+    greeting_lines store user preauth let_in ++ read_lines special_use fs c ++ last_lines store user fs c beginning
 
 -- The whole report on a store that is named so, and on its user: a function of what may be told alone.
-abbrev pub report_of : List ℕ → List ℕ → Option Bool → Bool → Bool → List FolderFinding → Option StoreCause → List ℕ
-report_of store user preauth let_in special_use fs c = lines_of (shown store) (shown user) preauth let_in special_use fs c
+abbrev pub report_of : List ℕ → List ℕ → Option Bool → Bool → Bool → List FolderFinding → Option StoreCause → Option (List ℕ) → List ℕ
+report_of store user preauth let_in special_use fs c beginning = lines_of (shown store) (shown user) preauth let_in special_use fs c beginning

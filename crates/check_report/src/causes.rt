@@ -5,6 +5,7 @@ ghost use Rattle.check_report.specs.CauseLines as lines;
 use crate::asked::put_asked;
 use crate::pieces::{digits, put};
 use crate::shown::shown;
+use octets::Bytes;
 use std::alloc::{AllocError, Global};
 use store_causes::{Asked, Breach, StoreCause};
 
@@ -75,6 +76,8 @@ pub const FETCH_REFUSED: &str = "the store refuses to tell the messages of the f
 /// Where a folder has no UIDVALIDITY.
 pub const NO_VALIDITY: &str =
     "the store tells no UIDVALIDITY (RFC 9051 section 2.3.1.1) for the folder ";
+/// Before the beginning of octets that can't be read.
+pub const BEGINS: &str = "; it begins: ";
 
 // A greeting that doesn't come.
 fn put_greeting(
@@ -242,5 +245,31 @@ pub fn put_cause(
             put(out, name.as_slice())?;
             Ok(())
         }
+    }
+}
+
+fn put_begun(alloc: Global, out: &mut Vec<u8>, octets: &[u8]) -> Result<(), AllocError>
+    ensures { OnOk result (out.new.items ≡ out.old.items ++ lines.begun_piece octets.now) }
+{
+    if octets.is_empty() {
+        return Ok(());
+    }
+    let text = shown(alloc, octets)?;
+    put(out, BEGINS.as_bytes())?;
+    put(out, text.as_slice())?;
+    Ok(())
+}
+
+/// How octets begin that can't be read, where anything of them is told.
+pub fn put_beginning(
+    alloc: Global,
+    out: &mut Vec<u8>,
+    beginning: &Option<Bytes>,
+) -> Result<(), AllocError>
+    ensures { OnOk result (out.new.items ≡ out.old.items ++ lines.begins_piece beginning.now) }
+{
+    match beginning {
+        None => Ok(()),
+        Some(text) => put_begun(alloc, out, text.as_slice()),
     }
 }

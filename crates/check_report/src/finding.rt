@@ -1,4 +1,5 @@
-// What may be told of a check: no flag, no header, no body, and no text of the store's but names of folders.
+// What may be told of a check: no flag, no header, no body, and no text of the store's but names of folders, and how octets begin that can't
+// be read, up to a quoted string or a literal.
 ghost use Rattle.std.specs.Prelude.{◌≡◌, IfOk, map, length, fold};
 ghost use Rattle.mail_maps.specs.Mailboxes.{mailboxes_of as mailboxes_told};
 ghost use Rattle.check_report.specs.Findings as findings;
@@ -43,6 +44,8 @@ pub struct Finding {
     pub folders: Vec<FolderFinding>,
     /// None where the store can be used.
     pub cause: Option<StoreCause>,
+    /// How octets begin that can't be read.
+    pub beginning: Option<Bytes>,
 }
 
 fn role_at(rows: &BTreeMap<u64, MailboxRow>, number: u64) -> Option<Role>
@@ -101,6 +104,7 @@ pub fn finding_of(alloc: Global, checked: Checked) -> Result<Finding, AllocError
         let_in,
         special_use,
         cause,
+        beginning,
         ..
     } = checked;
     Ok(Finding {
@@ -109,5 +113,6 @@ pub fn finding_of(alloc: Global, checked: Checked) -> Result<Finding, AllocError
         special_use,
         folders,
         cause,
+        beginning,
     })
 }

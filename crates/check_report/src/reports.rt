@@ -2,7 +2,7 @@
 ghost use Rattle.std.specs.Prelude.{◌≡◌, ◌++◌, OnOk, IfOk};
 ghost use Rattle.check_report.specs.Lines as lines;
 
-use crate::causes::put_cause;
+use crate::causes::{put_beginning, put_cause};
 use crate::finding::Finding;
 use crate::folders::{put_folders, put_round};
 use crate::pieces::put;
@@ -114,7 +114,7 @@ fn put_end(
     user: &[u8],
     found: &Finding,
 ) -> Result<(), AllocError>
-    ensures { OnOk result (out.new.items ≡ out.old.items ++ lines.last_lines store.now user.now found.now.folders.items found.now.cause) }
+    ensures { OnOk result (out.new.items ≡ out.old.items ++ lines.last_lines store.now user.now found.now.folders.items found.now.cause found.now.beginning) }
 {
     match &found.cause {
         None => {
@@ -124,6 +124,7 @@ fn put_end(
         }
         Some(cause) => {
             put_cause(alloc, out, store, user, cause)?;
+            put_beginning(alloc, out, &found.beginning)?;
             put(out, b"\n")?;
             Ok(())
         }
@@ -137,7 +138,7 @@ pub fn report(
     user: &[u8],
     found: &Finding,
 ) -> Result<Vec<u8>, AllocError>
-    ensures { IfOk result (λ text. text.items ≡ lines.report_of store.now user.now found.now.preauth found.now.let_in found.now.special_use found.now.folders.items found.now.cause) }
+    ensures { IfOk result (λ text. text.items ≡ lines.report_of store.now user.now found.now.preauth found.now.let_in found.now.special_use found.now.folders.items found.now.cause found.now.beginning) }
 {
     let store = shown(alloc, store)?;
     let user = shown(alloc, user)?;

@@ -32,6 +32,16 @@ impl Rows {
             .failing(self.failing)
     }
 
+    // The store sends a text so often.
+    fn repeat(&mut self, words: &str) -> Result<(), AllocError> {
+        let (times, text) = first_number(words);
+        let octets = octets_of(self.alloc, text)?;
+        for _ in 0..times {
+            self.gives.extend_from_slice(octets.as_slice())?;
+        }
+        Ok(())
+    }
+
     // What the store took in the life.
     fn put_taken(out: &mut String, events: &[Event]) -> Result<(), AllocError> {
         for event in events {
@@ -75,6 +85,7 @@ impl TestRows for Rows {
             "part" => self
                 .gives
                 .extend_from_slice(octets_of(self.alloc, rest)?.as_slice())?,
+            "times" => self.repeat(rest)?,
             "opening" => {
                 self.open = mem::replace(&mut self.gives, Vec::new(self.alloc));
             }

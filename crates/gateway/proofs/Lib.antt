@@ -6,3 +6,4 @@ mod CompletingShow
 mod Performing
 mod Told
 mod AppendOnce
+mod CheckReads

@@ -11,5 +11,7 @@ mod laws;
 mod program;
 
 pub use gate_words::{Page, Place, Task, WordsError, read_words};
-pub use laws::{obeyed_programs_tell, programs_append_once, quiet_programs_tell};
+pub use laws::{
+    obeyed_programs_tell, programs_append_once, programs_check_by_reading, quiet_programs_tell,
+};
 pub use program::{run, run_read};

@@ -7,13 +7,16 @@ ghost use Rattle.gate_words.specs.Task.{IsTask};
 ghost use Rattle.gate_words.specs.declared.task.Task.{Task};
 ghost use Rattle.gate_serving.specs.Run.{Stood};
 ghost use Rattle.gateway.specs.Appending.{AppendsOnce};
+ghost use Rattle.gateway.specs.Checking.{ChecksByReading};
 ghost use Rattle.gateway.specs.Complete.{AnswersAll, CompletesServing, CompletesShow};
 ghost use Rattle.gateway.specs.Program.{EndsDone, EndsFailed, EndsOnce, EndsStore, IsApart, ChecksStore, IsSaid, IsWholeRun, Performs, RunsExplain, RunsShow, RunsStore, TellsReport, front_failed, words_refused};
 ghost use Rattle.gateway.specs.ReadWords.{AreRead};
 
 use crate::check::{Report, report_on};
 use crate::explain::explain_one;
-use crate::laws::{obeyed_programs_tell, programs_append_once, quiet_programs_tell};
+use crate::laws::{
+    obeyed_programs_tell, programs_append_once, programs_check_by_reading, quiet_programs_tell,
+};
 use crate::show::show_one;
 use gate_serving::{ClientOutcome, Door, FrontError, Gate, serve};
 use gate_words::{Page, Place, Task, WordsError, read_words};
@@ -274,6 +277,8 @@ pub fn run_read<W: World>(alloc: Global, read: Result<Task, WordsError>, world: 
         → Adds (W.tape world.old) (W.tape world.new) (λ es. (words : List (List ℕ)) → AreRead words read → CompletesShow words result es) }
     ensures appends { Adds (W.tape world.old) (W.tape world.new) (λ es. (words : List (List ℕ)) → AreRead words read
         → AppendsOnce words (W.hidden world.old) result es) }
+    ensures reads { Adds (W.tape world.old) (W.tape world.new) (λ es. (words : List (List ℕ)) → AreRead words read
+        → ChecksByReading words (W.hidden world.old) result es) }
 
     ensures statuses { (result ≡ 0) ⊎ (result ≡ 2) ⊎ (result ≡ 5) ⊎ (result ≡ 6) ⊎ (result ≡ 8) }
     ensures refused { (result ≡ 2) ↔ IsErrOf read WordsError.Refused }
@@ -289,6 +294,7 @@ pub fn run_read<W: World>(alloc: Global, read: Result<Task, WordsError>, world: 
     obeyed_programs_tell();
     quiet_programs_tell();
     programs_append_once();
+    programs_check_by_reading();
     match read {
         Ok(task) => perform(alloc, world, &task),
         Err(error) => end_unread(world, error),
@@ -318,6 +324,9 @@ pub fn run<W: World>(words: &[String], world: &mut W, watchers: &mut Vec<Box<dyn
     // A law over that run: for each creation or import of an Email the store takes octets of one APPEND at most, and of none for anything else that a call
     // is to change. Either comes to a new Email only by that APPEND, which was answered OK with a usable UID. A link life has no APPENDs besides these.
     ensures appends { Adds (W.tape world.old) (W.tape world.new) (AppendsOnce (map string_bytes words.now) (W.hidden world.old) result) }
+
+    // A law over a run of `check`: all that the store takes is a front of the texts of commands that only read.
+    ensures reads { Adds (W.tape world.old) (W.tape world.new) (ChecksByReading (map string_bytes words.now) (W.hidden world.old) result) }
 
     // When each status comes, in every world: 8 of a check alone. Out of memory in the words comes before their refusal.
     ensures statuses { (result ≡ 0) ⊎ (result ≡ 2) ⊎ (result ≡ 5) ⊎ (result ≡ 6) ⊎ (result ≡ 8) }

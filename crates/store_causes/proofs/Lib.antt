@@ -4,3 +4,7 @@ mod Finds
 mod Readings
 mod Losing
 mod Reasons
+mod Telling
+mod TwoRounds
+mod Sending
+mod Taking

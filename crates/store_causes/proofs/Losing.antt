@@ -83,15 +83,15 @@ not_so k c R keeps is loses = absurd (let both : false ≡ true = sym keeps ∙ 
 abbrev pub greeting_ended : LinkEnd → Result Bool LinkEnd
 greeting_ended e = Err e
 
-pub greeting_lost : (e : LinkEnd) (r : Result Checked AllocError) (was now : Faults) → GreetingFinds (unanswered_greeting e) r
+pub greeting_lost : (e : LinkEnd) (unread : List ℕ) (r : Result Checked AllocError) (was now : Faults) → GreetingFinds (unanswered_greeting e) unread r
     → (greeting_ended e ≡ greeting_ended end.Lost → Rose was.link now.link) → BlamesLink r was now
-greeting_lost e (Err f) was now finds lost = tt
-greeting_lost end.Lost (Ok k) was now finds lost = λ loses. lost refl
-greeting_lost (end.Bad at) (Ok k) was now finds lost = λ loses. not_so k _ (Rose was.link now.link) refl finds.cause_is loses
-greeting_lost end.Stray (Ok k) was now finds lost = λ loses. not_so k _ (Rose was.link now.link) refl finds.cause_is loses
-greeting_lost end.Bye (Ok k) was now finds lost = λ loses. not_so k _ (Rose was.link now.link) refl finds.cause_is loses
-greeting_lost end.TooMuch (Ok k) was now finds lost = λ loses. not_so k _ (Rose was.link now.link) refl finds.cause_is loses
-greeting_lost end.Refused (Ok k) was now finds lost = absurd finds
-greeting_lost end.NoQresync (Ok k) was now finds lost = absurd finds
-greeting_lost end.Lacks (Ok k) was now finds lost = absurd finds
-greeting_lost end.Memory (Ok k) was now finds lost = absurd finds
+greeting_lost e unread (Err f) was now finds lost = tt
+greeting_lost end.Lost unread (Ok k) was now finds lost = λ loses. lost refl
+greeting_lost (end.Bad at) unread (Ok k) was now finds lost = λ loses. not_so k _ (Rose was.link now.link) refl finds.cause_is loses
+greeting_lost end.Stray unread (Ok k) was now finds lost = λ loses. not_so k _ (Rose was.link now.link) refl finds.cause_is loses
+greeting_lost end.Bye unread (Ok k) was now finds lost = λ loses. not_so k _ (Rose was.link now.link) refl finds.cause_is loses
+greeting_lost end.TooMuch unread (Ok k) was now finds lost = λ loses. not_so k _ (Rose was.link now.link) refl finds.cause_is loses
+greeting_lost end.Refused unread (Ok k) was now finds lost = absurd finds
+greeting_lost end.NoQresync unread (Ok k) was now finds lost = absurd finds
+greeting_lost end.Lacks unread (Ok k) was now finds lost = absurd finds
+greeting_lost end.Memory unread (Ok k) was now finds lost = absurd finds

@@ -1,5 +1,5 @@
 -- A watched plan that is followed.
-use Rattle.std.proofs.Common.{Option, Some, None, Result, Ok, Err, ◌≡◌, ◌≢◌, ◌++◌, Bool, true, false, List, [], ◌∷◌, IsOk, fold, refl, sym, ◌∙◌, ap, subst, append_assoc}
+use Rattle.std.proofs.Common.{Option, Some, None, Result, Ok, Err, ◌≡◌, ◌≢◌, ◌++◌, Bool, true, false, ℕ, List, [], ◌∷◌, IsOk, fold, refl, sym, ◌∙◌, ap, subst, append_assoc}
 use Rattle.std.proofs.lemmas.List.{append-nil}
 use Rattle.std.proofs.lemmas.List.Sums.{fold-append}
 use Rattle.std.specs.declared.alloc.AllocError.{AllocError}
@@ -9,6 +9,7 @@ use Rattle.imap_exchange.specs.declared.link_end.LinkEnd.{LinkEnd}
 use Rattle.imap_exchange.specs.declared.link_end.LinkEnd.TheVariants as end
 use Rattle.imap_client.specs.declared.plan.Due.{Due}
 use Rattle.imap_client.specs.LinkLife.{LinkLife, ClientState, fresh}
+use Rattle.imap_client.specs.Unread.{LeavesUnread}
 use Rattle.imap_client.specs.Plans.{Planned, StopsAtRefusal, FollowsTo, HearsAll, HeardNone, HeardMore}
 use Rattle.store_causes.specs.declared.cause.StoreCause.{StoreCause}
 use Rattle.store_causes.specs.declared.notes.Notes.{Notes}
@@ -65,9 +66,9 @@ memory_not e other is = true_not_false (sym (ap is_memory is) ∙ other)
 
 -- all is done
 pub asked_done : {S : Type 0} {plan : S → Planned} {hears : S → Exchange → S → Type 0} {first last : Watched S} {life left : LinkLife} {client : ClientState} {es : List Event}
-    → (StopsAtRefusal (plan first.inner) → client.alive ≡ true) → WatchedFollows plan hears first last life left client (Ok tt) es
-    → AsksTo plan hears first.inner last.inner first.notes last.notes life left client (Ok None) es
-asked_done {plan = plan} {hears = hears} {first = first} {last} alive to =
+    (unread : List ℕ) → (StopsAtRefusal (plan first.inner) → client.alive ≡ true) → WatchedFollows plan hears first last life left client (Ok tt) es
+    → AsksTo plan hears first.inner last.inner first.notes last.notes life left client unread (Ok None) es
+asked_done {plan = plan} {hears = hears} {first = first} {last} unread alive to =
     let heard = to.heard (λ is. unit_ok_not end.Memory is) in
     record {
       exchanges = to.exchanges;
@@ -79,13 +80,14 @@ asked_done {plan = plan} {hears = hears} {first = first} {last} alive to =
       noted_is = λ _. notes_after plan hears heard;
       goes_on = λ _ stops. alive stops;
       is_over = λ e is. absurd (unit_ok_not e is);
+      leaves = tt;
     }
 
 -- out of memory
 pub asked_wants : {S : Type 0} {plan : S → Planned} {hears : S → Exchange → S → Type 0} {first last : Watched S} {life left : LinkLife} {client : ClientState} {es : List Event}
-    (e : LinkEnd) (f : AllocError) (state : S) (notes : Notes) → client ≡ fresh → WatchedFollows plan hears first last life left client (Err e) es
-    → AsksTo plan hears first.inner state first.notes notes life left client (Err f) es
-asked_wants e f state notes over to =
+    (e : LinkEnd) (f : AllocError) (state : S) (notes : Notes) (unread : List ℕ) → client ≡ fresh → LeavesUnread e left.gave unread
+    → WatchedFollows plan hears first last life left client (Err e) es → AsksTo plan hears first.inner state first.notes notes life left client unread (Err f) es
+asked_wants e f state notes unread over leaves to =
     record {
       exchanges = to.exchanges;
       ended = Err e;
@@ -96,14 +98,16 @@ asked_wants e f state notes over to =
       noted_is = λ is. absurd (unit_ok_not e (sym is));
       goes_on = λ is stops. absurd (unit_ok_not e (sym is));
       is_over = λ g is. ap (λ (c : ClientState). c.alive) over;
+      leaves = leaves;
     }
 
 -- a cause, which is taken out of the notes
 pub asked_stops : {S : Type 0} {plan : S → Planned} {hears : S → Exchange → S → Type 0} {first last : Watched S} {life left : LinkLife} {client : ClientState} {es : List Event}
-    (e : LinkEnd) (cause : Option StoreCause) (state : S) (notes : Notes) → client ≡ fresh → is_memory e ≡ false → cause ≡ cause_at last.notes (plan last.inner []) e
+    (e : LinkEnd) (cause : Option StoreCause) (state : S) (notes : Notes) (unread : List ℕ) → client ≡ fresh → LeavesUnread e left.gave unread
+    → is_memory e ≡ false → cause ≡ cause_at last.notes (plan last.inner []) e
     → state ≡ last.inner → notes.let_in ≡ last.notes.let_in → WatchedFollows plan hears first last life left client (Err e) es
-    → AsksTo plan hears first.inner state first.notes notes life left client (Ok cause) es
-asked_stops {plan = plan} {hears = hears} {first = first} {last} e cause state notes over other cause_is state_is in_is to =
+    → AsksTo plan hears first.inner state first.notes notes life left client unread (Ok cause) es
+asked_stops {plan = plan} {hears = hears} {first = first} {last} e cause state notes unread over leaves other cause_is state_is in_is to =
     let heard = to.heard (λ is. memory_not e other (same_end e end.Memory is)) in
     let due_is : plan last.inner [] ≡ plan first.inner to.exchanges = plan_after plan hears heard [] ∙ ap (plan first.inner) (append-nil to.exchanges) in
     let found : cause_at (fold noted first.notes to.exchanges) (plan first.inner to.exchanges) e ≡ cause =
@@ -118,4 +122,5 @@ asked_stops {plan = plan} {hears = hears} {first = first} {last} e cause state n
       noted_is = λ is. absurd (unit_ok_not e (sym is));
       goes_on = λ is stops. absurd (unit_ok_not e (sym is));
       is_over = λ g is. ap (λ (c : ClientState). c.alive) over;
+      leaves = leaves;
     }

@@ -1,5 +1,6 @@
--- Causes says why a store can't be used; Checks what a check asks, and what is found; Reads and Reasons are for laws.
+-- Causes says why a store can't be used; Beginnings what is told of octets that can't be read; Checks what a check asks, and what is found; Reads and Reasons are for laws.
 pub mod Causes
+pub mod Beginnings
 pub mod Checks
 pub mod Reads
 pub mod Reasons

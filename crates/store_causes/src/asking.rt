@@ -10,7 +10,8 @@ ghost use Rattle.store_causes.specs.reading.Noting.{cause_at};
 use crate::cause::StoreCause;
 use crate::watched::Watched;
 use gate_world::Link;
-use imap_client::{Client, LinkEnd, Plan, follow};
+use imap_client::{Client, LinkEnd, Plan, follow_keeping};
+use imap_exchange::Received;
 use std::alloc::{AllocError, Global};
 
 fn is_memory(end: LinkEnd) -> bool
@@ -42,24 +43,27 @@ fn take_stop<P: Plan>(
     Ok(cause)
 }
 
-/// Asks what is due, until all is done or there is a cause. Where there is one the life has ended.
+/// Asks what is due, until all is done or there is a cause. Where there is one the life has ended, and where no response begins at
+/// an offset of what the store gave, `unread` has the octets from there on.
 pub fn ask_all<L: Link, P: Plan>(
     alloc: Global,
     client: &mut Client,
     link: &mut L,
     plan: &mut Watched<P>,
+    unread: &mut Received,
 ) -> Result<Option<StoreCause>, AllocError>
     requires alive { client.old.alive ≡ true }
     requires kept { P.keeps plan.old.inner plan.old.inner }
     requires lost { loses_link plan.old.notes.cause ≡ false }
     ensures tape { Adds (L.tape link.old) (L.tape link.new) (λ es. (life : LinkLife) → Stands client.old life → (left : LinkLife)
-        × AsksTo P.plan P.hears plan.old.inner plan.new.inner plan.old.notes plan.new.notes life left client.new result es) }
+        × AsksTo P.plan P.hears plan.old.inner plan.new.inner plan.old.notes plan.new.notes life left client.new unread.new.octets result es) }
     ensures lost { loses_link plan.new.notes.cause ≡ false }
     ensures alone { LinkAlone (L.faults link.old) (L.faults link.new) }
     ensures cause { IfOk result (λ cause. loses_link cause ≡ true → Rose (L.faults link.old).link (L.faults link.new).link) }
     ensures hidden { L.hidden link.new ≡ L.hidden link.old }
 {
-    match follow(client, link, plan) {
+    let mut torn = false;
+    match follow_keeping(client, link, plan, &mut torn, unread) {
         Ok(()) => Ok(None),
         Err(end) => {
             let cause = take_stop(alloc, plan, end)?;

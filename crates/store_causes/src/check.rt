@@ -5,15 +5,19 @@ ghost use Rattle.gate_world.specs.Tape.{Adds};
 ghost use Rattle.imap_client.specs.LinkLife.{LinkLife, Stands};
 ghost use Rattle.store_causes.specs.Causes.{loses_link};
 ghost use Rattle.store_causes.specs.Checks.{AsksStore, Checks, IsCauseAlone, Meets};
-ghost use Rattle.store_causes.specs.reading.Following.{GreetingFinds, ReadsTo, unanswered_greeting};
+ghost use Rattle.store_causes.specs.reading.Following.{GreetingFinds, unanswered_greeting};
+ghost use Rattle.store_causes.specs.reading.Rounding.{ReadsTo};
 
 use crate::answers::unanswered;
 use crate::asking::ask_all;
+use crate::beginning::beginning_by;
 use crate::cause::{Asked, StoreCause};
 use crate::notes::Notes;
+use crate::rounds::{RoundFound, ask_round};
 use crate::watched::Watched;
 use gate_world::{Link, Secrets};
-use imap_client::{Client, Connection, LinkEnd, Round, RoundStage, Stage, refusals_stop};
+use imap_client::{Client, Connection, LinkEnd, Stage, refusals_stop};
+use imap_exchange::Received;
 use octets::Bytes;
 use std::alloc::{AllocError, Global};
 use told_mail::Mirror;
@@ -27,15 +31,18 @@ pub struct Checked {
     pub let_in: bool,
     /// Whether the store told SPECIAL-USE once a client was connected.
     pub special_use: bool,
-    /// The mail that was told.
+    /// The mail that was told in the first round.
     pub mirror: Mirror,
     /// None where the store can be used.
     pub cause: Option<StoreCause>,
+    /// Where the cause is that octets can't be read, and they came after another command than LOGIN: how they begin, up to an end of a
+    /// line, a quoted string or a literal.
+    pub beginning: Option<Bytes>,
 }
 
-// Nothing but a cause.
-fn cause_alone(alloc: Global, cause: StoreCause) -> Checked
-    ensures { IsCauseAlone cause result }
+// Nothing but a cause, and how octets begin that can't be read.
+fn cause_alone(alloc: Global, cause: StoreCause, beginning: Option<Bytes>) -> Checked
+    ensures { IsCauseAlone cause beginning result }
 {
     Checked {
         preauth: None,
@@ -43,6 +50,7 @@ fn cause_alone(alloc: Global, cause: StoreCause) -> Checked
         special_use: false,
         mirror: Mirror::new(alloc),
         cause: Some(cause),
+        beginning,
     }
 }
 
@@ -60,7 +68,7 @@ fn connection(alloc: Global, user: &[u8], password: &[u8]) -> Result<Connection,
     })
 }
 
-// A round over all folders, once a client is connected, of which this is known.
+// Two rounds over all folders, once a client is connected, of which this is known: the second one after the mail that the first told.
 fn read_mail<L: Link>(
     alloc: Global,
     client: &mut Client,
@@ -71,28 +79,43 @@ fn read_mail<L: Link>(
     requires alive { client.old.alive ≡ true }
     requires lost { loses_link notes.cause ≡ false }
     ensures tape { Adds (L.tape link.old) (L.tape link.new) (λ es. (life : LinkLife) → Stands client.old life → (left : LinkLife)
-        × ReadsTo preauth notes life left client.new result es) }
+        × ReadsTo preauth notes life left client.new es result) }
     ensures alone { LinkAlone (L.faults link.old) (L.faults link.new) }
     ensures cause { IfOk result (λ k. loses_link k.cause ≡ true → Rose (L.faults link.old).link (L.faults link.new).link) }
     ensures hidden { L.hidden link.new ≡ L.hidden link.old }
 {
     let let_in = notes.let_in;
     let special_use = client.special_use();
-    let mut plan = Watched {
-        inner: Round {
-            stage: RoundStage::Listing { special_use },
-            mirror: Mirror::new(alloc),
-        },
+    let first = ask_round(alloc, client, link, special_use, Mirror::new(alloc), notes)?;
+    let RoundFound {
         notes,
-    };
-    let cause = ask_all(alloc, client, link, &mut plan)?;
-    let Watched { inner, .. } = plan;
+        mirror,
+        cause,
+        beginning,
+    } = first;
+    if !client.alive() {
+        return Ok(Checked {
+            preauth: Some(preauth),
+            let_in,
+            special_use,
+            mirror,
+            cause,
+            beginning,
+        });
+    }
+    let again = ask_round(alloc, client, link, special_use, mirror.copy()?, notes)?;
+    let RoundFound {
+        cause,
+        beginning,
+        ..
+    } = again;
     Ok(Checked {
         preauth: Some(preauth),
         let_in,
         special_use,
-        mirror: inner.mirror,
+        mirror,
         cause,
+        beginning,
     })
 }
 
@@ -117,26 +140,31 @@ fn ask_store<L: Link>(
         inner: connection,
         notes: Notes::new(preauth),
     };
-    let cause = ask_all(alloc, client, link, &mut plan)?;
+    let mut unread = Received::new(alloc);
+    let cause = ask_all(alloc, client, link, &mut plan, &mut unread)?;
     let Watched { notes, .. } = plan;
     if !client.alive() {
+        let beginning = beginning_by(alloc, &cause, unread.as_slice())?;
         return Ok(Checked {
             preauth: Some(preauth),
             let_in: notes.let_in,
             special_use: false,
             mirror: Mirror::new(alloc),
             cause,
+            beginning,
         });
     }
     read_mail(alloc, client, link, preauth, notes)
 }
 
-// Where no greeting lets the client in: the cause; an error where memory ran out.
-fn unwelcome(alloc: Global, end: LinkEnd) -> Result<Checked, AllocError>
-    ensures { GreetingFinds (unanswered_greeting end) result }
+// Where no greeting lets the client in, and these octets stayed unread: the cause; an error where memory ran out.
+fn unwelcome(alloc: Global, end: LinkEnd, unread: &[u8]) -> Result<Checked, AllocError>
+    ensures { GreetingFinds (unanswered_greeting end) unread.now result }
 {
-    match unanswered(Asked::Greeting, end) {
-        Some(cause) => Ok(cause_alone(alloc, cause)),
+    let cause = unanswered(Asked::Greeting, end);
+    let beginning = beginning_by(alloc, &cause, unread)?;
+    match cause {
+        Some(cause) => Ok(cause_alone(alloc, cause, beginning)),
         None => Err(AllocError),
     }
 }
@@ -150,7 +178,8 @@ fn meet<L: Link>(alloc: Global, link: &mut L, connection: Connection) -> Result<
     ensures hidden { L.hidden link.new ≡ L.hidden link.old }
 {
     let mut client = Client::new(alloc);
-    match client.read_greeting(link) {
+    let mut unread = Received::new(alloc);
+    match client.read_greeting_keeping(link, &mut unread) {
         Ok(preauth) => {
             let mut connection = connection;
             connection.preauth = preauth;
@@ -158,11 +187,12 @@ fn meet<L: Link>(alloc: Global, link: &mut L, connection: Connection) -> Result<
             client.leave(link);
             checked
         }
-        Err(end) => unwelcome(alloc, end),
+        Err(end) => unwelcome(alloc, end, unread.as_slice()),
     }
 }
 
-/// Asks a store in one link life what serving asks: what connects a client, and then a round over all folders.
+/// Asks a store in one link life what serving asks: what connects a client, and then two rounds over all folders, of which the second
+/// asks what is new since the first.
 pub fn check_store<W: Link + Secrets>(
     alloc: Global,
     world: &mut W,
@@ -176,6 +206,6 @@ pub fn check_store<W: Link + Secrets>(
     let connection = connection(alloc, user, world.password())?;
     match world.dial() {
         Ok(()) => meet(alloc, world, connection),
-        Err(_) => Ok(cause_alone(alloc, StoreCause::Unreached)),
+        Err(_) => Ok(cause_alone(alloc, StoreCause::Unreached, None)),
     }
 }

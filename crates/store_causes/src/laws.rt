@@ -16,7 +16,10 @@ ghost use Rattle.store_causes.specs.declared.cause.StoreCause.{StoreCause};
 ghost use Rattle.store_causes.specs.Causes.{DoesntFailAtOnce, StopsBy};
 ghost use Rattle.imap_client.specs.declared.plan.Refusal.{Refusal};
 ghost use Rattle.imap_client.specs.Refusals.{refusal_end};
-ghost use Rattle.store_causes.specs.Reads.{OnlyReads};
+ghost use Rattle.std.specs.declared.alloc.AllocError.{AllocError};
+ghost use Rattle.store_causes.specs.declared.check.Checked.{Checked};
+ghost use Rattle.store_causes.specs.Checks.{Checks};
+ghost use Rattle.store_causes.specs.Reads.{OnlyReads, TakesReads};
 ghost use Rattle.store_causes.specs.Reasons.{AnsweredSo};
 
 /// Each command that a check asks only reads.
@@ -24,6 +27,11 @@ pub fn checks_only_read()
     ensures connecting { (preauth : Bool) (user password : List ℕ) (xs : List Exchange) (command : Command)
         → connect_plan preauth user password xs ≡ dues.Send command → OnlyReads command }
     ensures round { (special_use : Bool) (m : Mail) (xs : List Exchange) (command : Command) → round_plan special_use m xs ≡ dues.Send command → OnlyReads command }
+{}
+
+/// Over a whole check, all that the store took is a front of the texts of commands that only read, in order.
+pub fn checks_take_reads()
+    ensures { (user password : List ℕ) (result : Result Checked AllocError) (events : List Event) → Checks user password result events → TakesReads 1 events }
 {}
 
 /// There is at most one cause.

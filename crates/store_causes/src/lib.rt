@@ -3,11 +3,13 @@
 
 // Causes.
 mod answers;
+mod beginning;
 mod cause;
 
 // What is known of a life, and a plan that is watched.
 mod asking;
 mod notes;
+mod rounds;
 mod watched;
 
 // The check.
@@ -16,6 +18,9 @@ mod check;
 // Laws.
 mod laws;
 
+pub use beginning::MAX_BEGINNING_OCTETS;
 pub use cause::{Asked, Breach, StoreCause};
 pub use check::{Checked, check_store};
-pub use laws::{answers_are_so, checks_only_read, each_stop_has_a_cause, one_cause};
+pub use laws::{
+    answers_are_so, checks_only_read, checks_take_reads, each_stop_has_a_cause, one_cause,
+};

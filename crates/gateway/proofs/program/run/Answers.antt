@@ -19,6 +19,9 @@ returns-clause-shown g c = λ well.
 pub returns-clause-appends : goal.returns-clause-appends
 returns-clause-appends g c = widen _ c.run_read.ensures.appends (λ x so. so _ (are_read _ _ c.read_words-read.ensures.ok c.read_words-read.ensures.refused))
 
+pub returns-clause-reads : goal.returns-clause-reads
+returns-clause-reads g c = widen _ c.run_read.ensures.reads (λ x so. so _ (are_read _ _ c.read_words-read.ensures.ok c.read_words-read.ensures.refused))
+
 pub returns-clause-words : goal.returns-clause-words
 returns-clause-words g c = λ two.
     no_task _ c.read_words-read.result (are_read _ _ c.read_words-read.ensures.ok c.read_words-read.ensures.refused) (c.run_read.ensures.refused.0 two)

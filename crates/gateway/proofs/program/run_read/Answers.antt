@@ -30,6 +30,9 @@ returns-in-Ok-clause-shown g c = λ well.
 pub returns-in-Ok-clause-appends : goal.returns-in-Ok-clause-appends
 returns-in-Ok-clause-appends g c = widen _ c.perform.ensures.run (λ x so words are. c.programs_append_once.ensures _ _ _ x)
 
+pub returns-in-Ok-clause-reads : goal.returns-in-Ok-clause-reads
+returns-in-Ok-clause-reads g c = widen _ c.perform.ensures.run (λ x so words are. c.programs_check_by_reading.ensures _ _ _ x)
+
 pub returns-in-Ok-clause-refused : goal.returns-in-Ok-clause-refused
 returns-in-Ok-clause-refused g c = not_refused c.args.read c.in-Ok.task c.perform.result c.in-Ok.is c.perform.ensures.statuses
 
@@ -61,6 +64,9 @@ returns-in-Err-clause-shown g c = λ well.
 
 pub returns-in-Err-clause-appends : goal.returns-in-Err-clause-appends
 returns-in-Err-clause-appends g c = widen _ c.end_unread.ensures.run (λ x so words are. c.programs_append_once.ensures _ _ _ x)
+
+pub returns-in-Err-clause-reads : goal.returns-in-Err-clause-reads
+returns-in-Err-clause-reads g c = widen _ c.end_unread.ensures.run (λ x so words are. c.programs_check_by_reading.ensures _ _ _ x)
 
 pub returns-in-Err-clause-statuses : goal.returns-in-Err-clause-statuses
 returns-in-Err-clause-statuses g c = elim c.end_unread.ensures.statuses [ inl two ↦ inr (inl two) | inr five ↦ inr (inr (inl five)) ]

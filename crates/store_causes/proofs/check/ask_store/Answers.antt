@@ -2,9 +2,10 @@ use Rattle.std.proofs.Common.{refl, sym, ap, ◌∙◌}
 use Rattle.std.proofs.lemmas.Result.{err_from_is_err_and}
 use Rattle.gate_world.proofs.Joins.{join, widen}
 use Rattle.told_mail.specs.Told.{Told}
-use Rattle.store_causes.proofs.Finds.{begun_asks, unconnected, wants_connected, connected}
+use Rattle.store_causes.proofs.Finds.{begun_asks, unconnected, wants_connected, wants_stopped, connected}
 use Rattle.store_causes.specs.Causes.{loses_link}
 use Rattle.store_causes.specs.declared.notes.Notes.{Notes}
+use Rattle.store_causes.specs.reading.Following.{beginning_by}
 use Rattle.store_causes.proofs.Losing.{lost_after}
 use Rattle.store_causes.proofs.check.ask_store.Goals as goal
 
@@ -19,8 +20,18 @@ returns-then-not-alive-clause-tape g c =
     widen _ c.in_ok-cause.ensures.tape (λ x so life stands. let f = so life stands in (
       f.0,
       unconnected c.in_ok-cause.cause _ c.requires.stage (c.refusals_stop.ensures.connecting _ _ _) (sym c.alive.ensures ∙ c.if-not-alive.true) refl refl refl
-          (ap (λ (t : Told). t.mail) c.new-then-not-alive.ensures) refl (begun_asks c.new.ensures f.1),
+          (ap (λ (t : Told). t.mail) c.new-then-not-alive.ensures) refl
+          (c.in_ok-beginning.ensures.told ∙ ap (beginning_by c.in_ok-cause.cause) c.as_slice.ensures) (begun_asks c.new.ensures f.1),
     ))
+
+pub returns-in_err-beginning-clause-tape : goal.returns-in_err-beginning-clause-tape
+returns-in_err-beginning-clause-tape g c =
+    let ends = err_from_is_err_and c.from_residual-in_err-beginning.result c.from_residual-in_err-beginning.ensures.1 in
+    rw (ends.1, ends.2) (widen _ c.in_ok-cause.ensures.tape (λ x so life stands. let f = so life stands in (
+      f.0,
+      wants_stopped c.in_ok-cause.cause c.in_err-beginning.field-0.0 c.requires.stage (c.refusals_stop.ensures.connecting _ _ _)
+          (sym c.alive.ensures ∙ c.if-not-alive.true) (begun_asks c.new.ensures f.1),
+    )))
 
 pub returns-clause-tape : goal.returns-clause-tape
 returns-clause-tape g c =
