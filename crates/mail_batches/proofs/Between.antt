@@ -32,7 +32,7 @@ asymmetric i j (inl a) (inr b) = let e = b.0 in omega (arith, a, e)
 asymmetric i j (inr a) (inl b) = let e = a.0 in omega (arith, b, e)
 asymmetric i j (inr a) (inr b) = let l = a.1 in let r = b.1 in omega (arith, l, r)
 
-after_in : (i y : Item) (xs : List Item) → AllAfter i xs → Contains xs y → ComesBefore i y
+pub after_in : (i y : Item) (xs : List Item) → AllAfter i xs → Contains xs y → ComesBefore i y
 after_in i y [] after c = absurd (none_in y c)
 after_in i y (x ∷ xs) after c = elim (is_in x y xs c) [
   | inl same ↦ subst (ComesBefore i) same after.0

@@ -227,11 +227,11 @@ ascending (k ∷ ks) sorted = (above k ks sorted.0, ascending ks sorted.1)
 abbrev folder_of : NumberedFolder → Folder
 folder_of h = h.folder
 
-some_held : (o : Option NumberedFolder) → IsSome (option_map folder_of o) → (h : NumberedFolder) × (o ≡ Some h)
+pub some_held : (o : Option NumberedFolder) → IsSome (option_map folder_of o) → (h : NumberedFolder) × (o ≡ Some h)
 some_held None is = absurd (cc)
 some_held (Some h) is = (h, refl)
 
-some_folder : (o : Option NumberedFolder) (f : Folder) → option_map folder_of o ≡ Some f → (h : NumberedFolder) × (o ≡ Some h) × (h.folder ≡ f)
+pub some_folder : (o : Option NumberedFolder) (f : Folder) → option_map folder_of o ≡ Some f → (h : NumberedFolder) × (o ≡ Some h) × (h.folder ≡ f)
 some_folder None f e = absurd (some_none f (sym e))
 some_folder (Some h) f e = (h, refl, one_some h.folder f e)
 

@@ -9,9 +9,9 @@ pub mod ReadLemmas
 pub mod Between
 pub mod SpelledItems
 mod RuleLemmas
-mod TableLemmas
+pub mod TableLemmas
 mod ItemSteps
 mod AddingLemmas
-mod MailLemmas
-mod Differences
+pub mod MailLemmas
+pub mod Differences
 mod WriteLemmas

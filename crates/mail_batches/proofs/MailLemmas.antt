@@ -20,7 +20,7 @@ use Rattle.mail_batches.proofs.Once.{ascends_found}
 
 module _ {X : Type 0} (key : X → ℕ) where
   -- what is found is above what all are above
-  above_found : (n k : ℕ) (xs : List X) (x : X) → AllAbove key n xs → with_key key k xs ≡ Some x → n < key x
+  pub above_found : (n k : ℕ) (xs : List X) (x : X) → AllAbove key n xs → with_key key k xs ≡ Some x → n < key x
   above_found n k [] x up e = absurd (some_none x (sym e))
   above_found n k (y ∷ ys) x up e = elim (same_or_other (key y) k) [
     | inl same ↦ subst (λ (z : X). n < key z) (one_some y x (sym (taken key k y ys same) ∙ e)) up.0
@@ -50,7 +50,7 @@ module _ {X : Type 0} (key : X → ℕ) where
 abbrev mark_of : Message → ℕ
 mark_of x = x.mark
 
-some_of : (o : Option Message) (q : ℕ) → option_map mark_of o ≡ Some q → (x : Message) × (o ≡ Some x) × (x.mark ≡ q)
+pub some_of : (o : Option Message) (q : ℕ) → option_map mark_of o ≡ Some q → (x : Message) × (o ≡ Some x) × (x.mark ≡ q)
 some_of None q e = absurd (some_none q (sym e))
 some_of (Some x) q e = (x, refl, one_some x.mark q e)
 
@@ -60,12 +60,12 @@ stands m n u q x e marked =
     let uid : x.uid ≡ u = found_key uid_of u (messages_of (held_in m.folders n)) x e in
     record { there = ap (λ (v : ℕ). message_in m.folders n v) uid ∙ e; marked = marked }
 
-mark_stands : (m : Mail) (p : ℕ × ℕ) (q : ℕ) → mark_in m.folders p ≡ Some q → HasMark m q
+pub mark_stands : (m : Mail) (p : ℕ × ℕ) (q : ℕ) → mark_in m.folders p ≡ Some q → HasMark m q
 mark_stands m p q e =
     let f = some_of (message_in m.folders p.0 p.1) q e in
     (record { folder = p.0; message = f.0 }, stands m p.0 p.1 q f.0 f.1 f.2)
 
-stands_mark : (m : Mail) (q : ℕ) (p : Placed) → StandsAs m q p → mark_in m.folders (p.folder, p.message.uid) ≡ Some q
+pub stands_mark : (m : Mail) (q : ℕ) (p : Placed) → StandsAs m q p → mark_in m.folders (p.folder, p.message.uid) ≡ Some q
 stands_mark m q p s = ap (option_map mark_of) s.there ∙ ap (λ (k : ℕ). Some k) s.marked
 
 -- a mark stands at one place
@@ -126,7 +126,7 @@ none_other m folder x none o = none (o.was, o.stood)
 
 -- ---- marks that are in one mail, and in the other not or otherwise
 
-held_of : (o : Option NumberedFolder) (u : ℕ) (x : Message) → with_key uid_of u (messages_of o) ≡ Some x → (h : NumberedFolder) × (o ≡ Some h) × (with_key uid_of u h.messages ≡ Some x)
+pub held_of : (o : Option NumberedFolder) (u : ℕ) (x : Message) → with_key uid_of u (messages_of o) ≡ Some x → (h : NumberedFolder) × (o ≡ Some h) × (with_key uid_of u h.messages ≡ Some x)
 held_of None u x e = absurd (some_none x (sym e))
 held_of (Some h) u x e = (h, refl, e)
 

@@ -16,10 +16,10 @@ pub record GoesOn (before now : Tables) : Type 0 where
   pub counter : before.next_folder ≤ now.next_folder
   pub fresh : (n : ℕ) (f : Folder) → now.folders n ≡ Some f → before.folders n ≡ None → before.next_folder ≤ n
 
-at_key : {X : Type 0} (f : ℕ → Option X) (k : ℕ) (w : Option X) (q : ℕ) → k ≡ q → update nat_eq f k w q ≡ w
+pub at_key : {X : Type 0} (f : ℕ → Option X) (k : ℕ) (w : Option X) (q : ℕ) → k ≡ q → update nat_eq f k w q ≡ w
 at_key f k w q same = ap (λ (b : Bool). cond b w (f q)) (eq-eqb k q same)
 
-off_key : {X : Type 0} (f : ℕ → Option X) (k : ℕ) (w : Option X) (q : ℕ) → k ≢ q → update nat_eq f k w q ≡ f q
+pub off_key : {X : Type 0} (f : ℕ → Option X) (k : ℕ) (w : Option X) (q : ℕ) → k ≢ q → update nat_eq f k w q ≡ f q
 off_key f k w q other = ap (λ (b : Bool). cond b w (f q)) (ne_eqb k q other)
 
 stays : (t now : Tables) → now.folders ≡ t.folders → now.next_folder ≡ t.next_folder → GoesOn t now
@@ -28,7 +28,7 @@ stays t now folders counter = record {
   fresh = λ n f e none. absurd (some_none f (sym e ∙ ap (λ (g : ℕ → Option Folder). g n) folders ∙ none));
 }
 
-not_some : {X : Type 0} (o : Option X) → IsSome o → o ≡ None → ⊥
+pub not_some : {X : Type 0} (o : Option X) → IsSome o → o ≡ None → ⊥
 not_some None is e = absurd (cc is)
 not_some (Some x) is e = some_none x e
 
