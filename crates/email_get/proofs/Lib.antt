@@ -1,4 +1,4 @@
-mod AskLemmas
+pub mod AskLemmas
 mod ShowingLemmas
 mod LoopLemmas
 pub mod Due

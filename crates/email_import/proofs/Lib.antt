@@ -1,4 +1,3 @@
-pub mod AskLemmas
 pub mod OrderLemmas
 pub mod MemberLemmas
 pub mod CheckLemmas

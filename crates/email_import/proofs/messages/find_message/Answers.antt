@@ -3,7 +3,7 @@ use Rattle.email_bodies.specs.Asking.{BodyAsk}
 use Rattle.email_bodies.specs.declared.error.BodyError.TheVariants.{Memory}
 use Rattle.email_get.specs.Asked.{FailsAfter}
 use Rattle.email_get.specs.Blobs.{FindsBlob}
-use Rattle.email_import.proofs.AskLemmas.{unasked, lacks_memory, same_error, vain_after, given_after, refused_after}
+use Rattle.email_get.proofs.AskLemmas.{unasked, lacks_memory, same_error, vain_after, given_after, refused_after}
 use Rattle.set_jobs.specs.declared.done.SetError.{SetError}
 use Rattle.email_import.specs.Messages.{FindsMessage}
 use Rattle.email_import.proofs.FindLemmas.{too_long, isnt_long, found_is, lacks_is, due_message}
