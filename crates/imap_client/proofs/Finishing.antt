@@ -30,7 +30,7 @@ use Rattle.imap_client.specs.Connecting.{is_ok}
 use Rattle.imap_client.specs.LinkLife.{LinkLife, ClientState, next_number, selected, selected_after, special_use}
 use Rattle.imap_client.specs.Plans.{Planned, Ran, Begun, Then, IsEnd, Finished, Failed, Broken, LifeHadEnded, Wanting}
 use Rattle.imap_client.specs.Rounds.{Rounds, RoundState, round_due, round_step, round_from, of_folder, headers_of, is_sliced, slice_of}
-use Rattle.imap_client.specs.Rounds.{new_of, uid_next_told, selectable_from, selecting, next_stage, fetching, fetched_stage, selected_stage, is_sliced_in}
+use Rattle.imap_client.specs.Rounds.{new_of, sliced_to, selectable_from, selecting, next_stage, fetching, fetched_stage, selected_stage, is_sliced_in}
 use Rattle.imap_client.specs.Rounds.{is_slicing, obeyed, round_after}
 use Rattle.imap_client.specs.Selecting.{select_of, tells_validity}
 use Rattle.imap_client.specs.WholeRounds.{IsObeyed, AnsweredAt, FetchesHeaders, Slice, Rest, FetchesFolder, WithModseqs, WithoutModseqs, AsksFolder, Asked, VisitsFrom, NoMore}
@@ -184,10 +184,10 @@ fetching_at at uid_next m xs (Some h) there so = fetching_by at uid_next m xs h 
 
 selected_by_validity : (at : ℕ) (m : Mail) (x : Exchange) (xs : List Exchange) (h : NumberedFolder) (valid : Bool) → slice_get m.folders at ≡ Some h → select_of h.folder ≡ due.Send x.command
     → x.status ≡ status.Ok → tells_validity x.responses ≡ valid
-    → DoesFrom (if valid then fetching at (uid_next_told x.responses) (slice_get (tell m x).folders at) else stage.Failing refusal.Lacks) (tell m x) xs
+    → DoesFrom (if valid then fetching at (sliced_to x.responses) (slice_get (tell m x).folders at) else stage.Failing refusal.Lacks) (tell m x) xs
     → Parts (AsksFolder at) (at + 1) m (x ∷ xs)
 selected_by_validity at m x xs h true there here ok valid so =
-    let f = fetching_at at (uid_next_told x.responses) (tell m x) xs (slice_get (tell m x).folders at) refl so in
+    let f = fetching_at at (sliced_to x.responses) (tell m x) xs (slice_get (tell m x).folders at) refl so in
     (x ∷ f.0, f.1, f.2, ap (λ (l : List Exchange). x ∷ l) f.3, Asked (answered_by m x h there here ok) valid f.4, f.5)
 selected_by_validity at m x xs h false there here ok valid so = absurd so
 

@@ -6,6 +6,7 @@ mod Greetings
 mod RoundSteps
 mod Refutations
 mod Finishing
+mod Sparse
 mod ConnectedLives
 mod FoldersStay
 mod Fetching

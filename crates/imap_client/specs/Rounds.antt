@@ -1,6 +1,6 @@
 -- A round: LIST, and then for each folder that can be selected, by number, SELECT and what is fetched (RFC 9051
 -- sections 6.3.2, 6.3.9 and 6.4.5, RFC 7162 section 3.2.5).
-use Rattle.std.specs.Prelude.{◌≡◌, ◌≢◌, ◌<◌, ◌≤◌, ◌^◌, ◌+◌, ◌-◌, ◌==◌, ◌||◌, ℕ, Bool, false, not, nat_lt, min, List, [], ◌∷◌, codes, bytes_eq, drop, fold}
+use Rattle.std.specs.Prelude.{◌≡◌, ◌≢◌, ◌<◌, ◌≤◌, ◌^◌, ◌+◌, ◌-◌, ◌==◌, ◌||◌, ◌&&◌, ℕ, Bool, false, not, nat_lt, nat_le, min, List, [], ◌∷◌, codes, bytes_eq, drop, fold}
 use Rattle.std.specs.Prelude.{if◌then◌else◌, is_some, slice_get, Option, Some, None, Result, Err}
 use Rattle.std.specs.List.{list_any}
 use Rattle.gate_world.specs.declared.event.Event.{Event}
@@ -23,7 +23,7 @@ use Rattle.imap_client.specs.declared.plan.Due.TheVariants as due
 use Rattle.imap_client.specs.declared.plan.Refusal.TheVariants as refusal
 use Rattle.imap_client.specs.declared.round.RoundStage.{RoundStage}
 use Rattle.imap_client.specs.declared.round.RoundStage.TheVariants as stage
-use Rattle.imap_client.specs.declared.round.TheConstants.{SLICE_UIDS}
+use Rattle.imap_client.specs.declared.round.TheConstants.{SLICE_UIDS, SPARSE_UIDS}
 use Rattle.imap_client.specs.Connecting.{is_ok}
 use Rattle.imap_client.specs.LinkLife.{LinkLife, ClientState, special_use}
 use Rattle.imap_client.specs.Plans.{Planned, Follows}
@@ -103,6 +103,22 @@ uid_next_in _ = None
 abbrev pub uid_next_told : List Response → ℕ
 uid_next_told rs = last_told uid_next_in 0 (after_closed rs)
 
+abbrev pub exists_in : Response → Option ℕ
+exists_in (response.Exists n) = Some n
+exists_in _ = None
+
+-- the last number of messages that a SELECT tells of its folder (RFC 9051 section 7.4.1); 2^32 - 1 where it tells none
+abbrev pub exists_told : List Response → ℕ
+exists_told rs = last_told exists_in 4294967295 (after_closed rs)
+
+-- SELECT tells of no more messages than one slice may bring, and of so many UIDs that there were many slices
+abbrev pub is_sparse : List Response → Bool
+is_sparse rs = nat_le (exists_told rs) SLICE_UIDS && nat_lt SPARSE_UIDS (uid_next_told rs)
+
+-- the UIDNEXT up to which headers are asked for in slices; 0 where the folder is sparse, so that they are asked for at once
+abbrev pub sliced_to : List Response → ℕ
+sliced_to rs = if is_sparse rs then 0 else uid_next_told rs
+
 -- ---- stages
 
 abbrev pub selecting : Option ℕ → RoundStage
@@ -128,7 +144,7 @@ is_slicing (stage.FetchingHeaders at uid_next) m = is_sliced_in uid_next (slice_
 is_slicing _ m = false
 
 abbrev pub selected_stage : ℕ → List Response → Mail → RoundStage
-selected_stage at rs told = if tells_validity rs then fetching at (uid_next_told rs) (slice_get told.folders at) else stage.Failing refusal.Lacks
+selected_stage at rs told = if tells_validity rs then fetching at (sliced_to rs) (slice_get told.folders at) else stage.Failing refusal.Lacks
 
 abbrev pub fetched_stage : Bool → ℕ → ℕ → Mail → RoundStage
 fetched_stage sliced at uid_next told = if sliced then stage.FetchingHeaders at uid_next else next_stage (at + 1) told

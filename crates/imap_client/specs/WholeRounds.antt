@@ -7,6 +7,7 @@ use Rattle.gate_world.specs.Octets.{store_took_in}
 use Rattle.imap_types.specs.Commands.{command_text}
 use Rattle.imap_types.specs.declared.command.Command.{Command}
 use Rattle.imap_types.specs.declared.command.Command.TheVariants as command
+use Rattle.imap_types.specs.declared.response.Response.{Response}
 use Rattle.imap_types.specs.declared.response.Status.TheVariants as status
 use Rattle.told_folder.specs.declared.exchange.Exchange.{Exchange}
 use Rattle.told_folder.specs.declared.message.Folder.{Folder}
@@ -14,7 +15,7 @@ use Rattle.told_folder.specs.declared.message.NumberedFolder.{NumberedFolder}
 use Rattle.told_mail.specs.Mail.{Mail}
 use Rattle.told_mail.specs.Exchanges.{tell}
 use Rattle.imap_client.specs.LinkLife.{LinkLife, next_number, selected, selected_after, special_use}
-use Rattle.imap_client.specs.Rounds.{selectable_from, has_modseqs, is_sliced, slice_of, new_of, uid_next_told}
+use Rattle.imap_client.specs.Rounds.{selectable_from, has_modseqs, is_sliced, slice_of, new_of, sliced_to}
 use Rattle.imap_client.specs.Selecting.{known_folder, tells_validity}
 
 -- the exchange is of the command and was answered OK, and the mail after it is what it told
@@ -35,8 +36,7 @@ pub record AnsweredAt (at : ℕ) (command_for : Folder → Command) (before : Ma
   pub after : Mail
   pub obeyed : IsObeyed (command_for place.held.folder) before exchange after
 
--- The headers that are new in the folder at this place: slices while the UIDNEXT that its SELECT told is further away than a
--- slice, and then the rest.
+-- The headers that are new in the folder at this place: slices while this UIDNEXT is further away than a slice, and then the rest.
 pub data FetchesHeaders (at uid_next : ℕ) : Mail → List Exchange → Mail → Type 0 where
   Slice : {before after : Mail} {xs : List Exchange} (slice : AnsweredAt at slice_of before) → is_sliced uid_next slice.place.held.folder ≡ true
       → FetchesHeaders at uid_next slice.after xs after → FetchesHeaders at uid_next before (slice.exchange ∷ xs) after
@@ -51,11 +51,16 @@ pub data FetchesFolder (at uid_next : ℕ) : Mail → List Exchange → Mail →
       → has_modseqs flags.place.held.folder ≡ false
       → FetchesHeaders at uid_next flags.after xs after → FetchesFolder at uid_next before (flags.exchange ∷ xs) after
 
--- The folder at this place: its SELECT, which tells a UIDVALIDITY, and then what is fetched.
+-- The folder at this place: its SELECT, which tells a UIDVALIDITY, and then what is fetched: in slices up to the UIDNEXT that it told,
+-- unless the folder is sparse.
 pub data AsksFolder (at : ℕ) : Mail → List Exchange → Mail → Type 0 where
   Asked : {before after : Mail} {xs : List Exchange} (select : AnsweredAt at (λ f. command.Select f.name (known_folder f)) before)
       → tells_validity select.exchange.responses ≡ true
-      → FetchesFolder at (uid_next_told select.exchange.responses) select.after xs after → AsksFolder at before (select.exchange ∷ xs) after
+      → FetchesFolder at (sliced_to select.exchange.responses) select.after xs after → AsksFolder at before (select.exchange ∷ xs) after
+
+-- what its SELECT told
+abbrev pub select_told : {at : ℕ} {before after : Mail} {xs : List Exchange} → AsksFolder at before xs after → List Response
+select_told (Asked select valid fetches) = select.exchange.responses
 
 -- the next folder that can be selected from this place on, and what is asked of it
 pub record NextFolder (from : ℕ) (before : Mail) : Type 0 where

@@ -1,5 +1,5 @@
 // What the definitions rule out, and what they promise.
-ghost use Rattle.std.specs.Prelude.{◌≡◌, ◌≢◌, ◌⊎◌, ◌++◌, ◌+◌, ◌∷◌, [], List, ℕ, Bool, true, Ok, Err, Some, IsSome, Option, Result, length};
+ghost use Rattle.std.specs.Prelude.{◌≡◌, ◌≢◌, ◌⊎◌, ◌++◌, ◌+◌, ◌≤◌, ◌∷◌, [], List, ℕ, Bool, true, Ok, Err, Some, IsSome, Option, Result, length};
 ghost use Rattle.std.specs.List.{flat_map};
 ghost use Rattle.gate_world.specs.declared.event.Event.{Event};
 ghost use Rattle.gate_world.specs.Octets.{store_gave_in, store_took_in};
@@ -19,10 +19,10 @@ ghost use Rattle.imap_client.specs.LinkLife.{LinkLife, ClientState, next_number,
 ghost use Rattle.imap_client.specs.Plans.{Planned, Follows, StopsAtRefusal, ends_torn};
 ghost use Rattle.imap_client.specs.Obeying.{Obeys};
 ghost use Rattle.imap_client.specs.Decided.{IsDecided};
-ghost use Rattle.imap_client.specs.Rounds.{Rounds, round_plan};
+ghost use Rattle.imap_client.specs.Rounds.{Rounds, is_sparse, round_plan};
 ghost use Rattle.imap_client.specs.Sent.{due_texts, next_text};
 ghost use Rattle.imap_client.specs.WholeFetches.{IsFinishedFetch};
-ghost use Rattle.imap_client.specs.WholeRounds.{IsFinishedRound};
+ghost use Rattle.imap_client.specs.WholeRounds.{AsksFolder, IsFinishedRound, select_told};
 ghost use Rattle.told_mail.specs.Mail.{Mail, folder_in};
 
 /// A BYE is no welcome.
@@ -42,6 +42,12 @@ pub fn capabilities_after_login_count()
 pub fn finished_rounds_are_whole()
     ensures { (before after : Mail) (life left : LinkLife) (client : ClientState) (events : List Event) → Rounds before after life left client (Ok tt) events
         → IsFinishedRound before after life left events }
+{}
+
+/// Of a folder whose SELECT tells of few messages and of UIDs far beyond them a round asks by three commands at most.
+pub fn sparse_folders_take_three()
+    ensures { (at : ℕ) (before after : Mail) (xs : List Exchange) (asks : AsksFolder at before xs after) → is_sparse (select_told asks) ≡ true
+        → length xs ≤ 3 }
 {}
 
 /// The fetch of a body that ended in Ok sent exactly the commands of a whole fetch, in order, the mail is what these told, and the body

@@ -24,7 +24,8 @@ pub use imap_exchange::{LinkEnd, MAX_EXCHANGE_OCTETS, MAX_LIFE_OCTETS};
 pub use laws::{
     capabilities_after_login_count, commands_are_sent_in_order, fetches_keep_folders,
     finished_fetches_are_whole, finished_lives_go_on, finished_rounds_are_whole, no_bye_is_welcome,
-    obeyed_plans_end_ok, one_fetch, one_round, one_run, refusals_stop, torn_commands_were_taken,
+    obeyed_plans_end_ok, one_fetch, one_round, one_run, refusals_stop, sparse_folders_take_three,
+    torn_commands_were_taken,
 };
 pub use plan::{Due, Plan, Refusal};
 pub use round::{Round, RoundStage, is_selectable};

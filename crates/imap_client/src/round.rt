@@ -29,6 +29,9 @@ use told_mail::{Exchange, Folder, Mirror, NumberedFolder, ToldError, after_close
 /// The most UIDs that one fetch of headers asks for, but for the last one of a folder.
 pub const SLICE_UIDS: u64 = 10_000;
 
+/// The greatest UIDNEXT up to which a folder is asked for in slices whatever its number of messages.
+pub const SPARSE_UIDS: u64 = 1_000_000;
+
 /// How far a round is. A folder is named by its place among all, by number.
 #[derive(Clone, Copy, Debug, PartialEq, Drop)]
 pub enum RoundStage {
@@ -36,7 +39,7 @@ pub enum RoundStage {
     Listing { special_use: bool },
     /// SELECT of the folder is due.
     Selecting(usize),
-    /// The UIDNEXT is the one that the folder's SELECT told; 0 where it told none.
+    /// The UIDNEXT is the one that the folder's SELECT told; 0 where it told none, or the folder is sparse.
     FetchingFlags { at: usize, uid_next: u32 },
     /// FETCH of headers from the UID on before which all is known, a slice at a time; UIDNEXT as above.
     FetchingHeaders { at: usize, uid_next: u32 },
@@ -162,6 +165,42 @@ fn last_uid_next(responses: &[Response]) -> u32
     last
 }
 
+fn exists_in(response: &Response) -> Option<u32>
+    ensures { result ≡ rounds.exists_in response.now }
+{
+    match response {
+        Response::Exists(count) => Some(*count),
+        _ => None,
+    }
+}
+
+/// The number of messages that these responses tell last, else the greatest one.
+fn last_exists(responses: &[Response]) -> u32
+    ensures { result ≡ telling.last_told rounds.exists_in 4294967295 responses.now }
+{
+    let mut last = u32::MAX;
+    for response in responses {
+        if let Some(count) = exists_in(response) {
+            last = count;
+        }
+    }
+    last
+}
+
+/// The UIDNEXT that a SELECT tells, up to which headers are asked for in slices; 0 where the folder is sparse.
+fn sliced_to(responses: &[Response]) -> u32
+    ensures { result ≡ rounds.sliced_to responses.now }
+{
+    let told = after_closed(responses);
+    let uid_next = last_uid_next(told);
+    let few = u64::from(last_exists(told)) <= SLICE_UIDS;
+    if few && u64::from(uid_next) > SPARSE_UIDS {
+        0
+    } else {
+        uid_next
+    }
+}
+
 /// What is fetched first of a folder that is selected.
 fn fetching(mirror: &Mirror, at: usize, uid_next: u32) -> RoundStage
     ensures { result ≡ rounds.fetching at uid_next (slice_get mirror.now.mail.folders at) }
@@ -183,7 +222,7 @@ fn selected(mirror: &Mirror, at: usize, responses: &[Response]) -> RoundStage
     ensures { result ≡ rounds.selected_stage at responses.now mirror.now.mail }
 {
     if tells_validity(responses) {
-        fetching(mirror, at, last_uid_next(after_closed(responses)))
+        fetching(mirror, at, sliced_to(responses))
     } else {
         RoundStage::Failing(Refusal::Lacks)
     }
