@@ -68,6 +68,11 @@ cause_piece store user (cause.Lacking rev2 qresync) = lacking_piece rev2 qresync
 cause_piece store user cause.NotEnabled = text.NOT_ENABLED.now
 cause_piece store user (cause.NoValidity name) = text.NO_VALIDITY.now ++ shown name
 
+-- The cause, where a first round was done: a folder is refused then mostly since SELECT asks with what is known of it.
+abbrev pub again_piece : List ℕ → List ℕ → StoreCause → List ℕ
+again_piece store user (cause.Refused (asked.Selecting name)) = text.SELECT_AGAIN.now ++ shown name ++ text.WITH_KNOWN.now
+again_piece store user c = cause_piece store user c
+
 abbrev pub begun_piece : List ℕ → List ℕ
 begun_piece [] = []
 begun_piece (octet ∷ octets) = text.BEGINS.now ++ shown (octet ∷ octets)

@@ -48,4 +48,5 @@ pub record IsFindingOf (checked : Checked) (finding : Finding) : Type 0 where
   pub special_use : finding.special_use ≡ checked.special_use
   pub folders : finding.folders.items ≡ folder_findings checked.mirror.mail.folders
   pub cause : finding.cause ≡ checked.cause
+  pub again : finding.again ≡ checked.again
   pub beginning : finding.beginning ≡ checked.beginning

@@ -11,7 +11,7 @@ use Rattle.check_report.specs.declared.finding.FolderFinding.{FolderFinding}
 use Rattle.check_report.specs.declared.folders.TheConstants as text
 use Rattle.check_report.specs.declared.reports.TheConstants as report_text
 use Rattle.check_report.specs.Shown.{shown}
-use Rattle.check_report.specs.CauseLines.{begins_piece, cause_piece}
+use Rattle.check_report.specs.CauseLines.{again_piece, begins_piece, cause_piece}
 
 -- ---- folders
 
@@ -104,15 +104,20 @@ is_connected (Some other) = false
 abbrev pub read_lines : Bool → List FolderFinding → Option StoreCause → List ℕ
 read_lines special_use fs c = if is_connected c then connected_lines special_use fs else []
 
--- what a first round takes and that the store can be used, or the cause, and how octets begin that can't be read
-abbrev pub last_lines : List ℕ → List ℕ → List FolderFinding → Option StoreCause → Option (List ℕ) → List ℕ
-last_lines store user fs None beginning = round_line fs ++ report_text.USABLE.now
-last_lines store user fs (Some c) beginning = cause_piece store user c ++ begins_piece beginning ++ codes "\n"
+-- the cause: where a first round was done what that took stands before it
+abbrev pub end_piece : List ℕ → List ℕ → List FolderFinding → Bool → StoreCause → List ℕ
+end_piece store user fs true c = round_line fs ++ report_text.FIRST_ALONE.now ++ again_piece store user c
+end_piece store user fs false c = cause_piece store user c
 
-abbrev pub lines_of : List ℕ → List ℕ → Option Bool → Bool → Bool → List FolderFinding → Option StoreCause → Option (List ℕ) → List ℕ
-lines_of store user preauth let_in special_use fs c beginning =
-    greeting_lines store user preauth let_in ++ read_lines special_use fs c ++ last_lines store user fs c beginning
+-- what a first round takes and that the store can be used, or the cause, and how octets begin that can't be read
+abbrev pub last_lines : List ℕ → List ℕ → List FolderFinding → Option StoreCause → Bool → Option (List ℕ) → List ℕ
+last_lines store user fs None again beginning = round_line fs ++ report_text.USABLE.now
+last_lines store user fs (Some c) again beginning = end_piece store user fs again c ++ begins_piece beginning ++ codes "\n"
+
+abbrev pub lines_of : List ℕ → List ℕ → Option Bool → Bool → Bool → List FolderFinding → Option StoreCause → Bool → Option (List ℕ) → List ℕ
+lines_of store user preauth let_in special_use fs c again beginning =
+    greeting_lines store user preauth let_in ++ read_lines special_use fs c ++ last_lines store user fs c again beginning
 
 -- The whole report on a store that is named so, and on its user: a function of what may be told alone.
-abbrev pub report_of : List ℕ → List ℕ → Option Bool → Bool → Bool → List FolderFinding → Option StoreCause → Option (List ℕ) → List ℕ
-report_of store user preauth let_in special_use fs c beginning = lines_of (shown store) (shown user) preauth let_in special_use fs c beginning
+abbrev pub report_of : List ℕ → List ℕ → Option Bool → Bool → Bool → List FolderFinding → Option StoreCause → Bool → Option (List ℕ) → List ℕ
+report_of store user preauth let_in special_use fs c again beginning = lines_of (shown store) (shown user) preauth let_in special_use fs c again beginning

@@ -49,10 +49,10 @@ pub const LOGIN_REFUSED: &str =
     " in: the password in JMAPGATE_PASSWORD is another one or is empty, or LOGIN is refused for another cause, which its log may say";
 /// Where IMAP4rev2 isn't told.
 pub const NO_REV2: &str =
-    "once it lets the user in, the store does not tell IMAP4rev2 (RFC 9051), which jmapgate needs: Dovecot tells it with the line  imap_capability = +IMAP4rev2  in its configuration";
+    "once it lets the user in, the store does not tell IMAP4rev2 (RFC 9051), which jmapgate needs: Dovecot tells it with the line  imap_capability = +IMAP4rev2  in its configuration, from 2.4 on with  imap_capability { IMAP4rev2 = yes }  in three lines";
 /// Where neither is told.
 pub const NEITHER: &str =
-    "once it lets the user in, the store tells neither IMAP4rev2 (RFC 9051) nor QRESYNC (RFC 7162), which jmapgate needs: Dovecot tells the first with the line  imap_capability = +IMAP4rev2  in its configuration";
+    "once it lets the user in, the store tells neither IMAP4rev2 (RFC 9051) nor QRESYNC (RFC 7162), which jmapgate needs: Dovecot tells the first with the line  imap_capability = +IMAP4rev2  in its configuration, from 2.4 on with  imap_capability { IMAP4rev2 = yes }  in three lines";
 /// Where QRESYNC isn't told.
 pub const NO_QRESYNC: &str =
     "once it lets the user in, the store does not tell QRESYNC (RFC 7162), which jmapgate needs";
@@ -76,6 +76,11 @@ pub const FETCH_REFUSED: &str = "the store refuses to tell the messages of the f
 /// Where a folder has no UIDVALIDITY.
 pub const NO_VALIDITY: &str =
     "the store tells no UIDVALIDITY (RFC 9051 section 2.3.1.1) for the folder ";
+/// Where SELECT is refused once a first round was done, before the folder's name.
+pub const SELECT_AGAIN: &str = "the store refuses SELECT of ";
+/// The same, after it.
+pub const WITH_KNOWN: &str =
+    ", mostly since it is asked with what is known of the folder (QRESYNC, RFC 7162 section 3.2.5)";
 /// Before the beginning of octets that can't be read.
 pub const BEGINS: &str = "; it begins: ";
 
@@ -245,6 +250,28 @@ pub fn put_cause(
             put(out, name.as_slice())?;
             Ok(())
         }
+    }
+}
+
+/// Why the store can't be used, where a first round was done.
+pub fn put_again(
+    alloc: Global,
+    out: &mut Vec<u8>,
+    store: &[u8],
+    user: &[u8],
+    cause: &StoreCause,
+) -> Result<(), AllocError>
+    ensures { OnOk result (out.new.items ≡ out.old.items ++ lines.again_piece store.now user.now cause.now) }
+{
+    match cause {
+        StoreCause::Refused(Asked::Selecting(name)) => {
+            let name = shown(alloc, name.as_slice())?;
+            put(out, SELECT_AGAIN.as_bytes())?;
+            put(out, name.as_slice())?;
+            put(out, WITH_KNOWN.as_bytes())?;
+            Ok(())
+        }
+        _ => put_cause(alloc, out, store, user, cause),
     }
 }
 

@@ -44,6 +44,8 @@ pub struct Finding {
     pub folders: Vec<FolderFinding>,
     /// None where the store can be used.
     pub cause: Option<StoreCause>,
+    /// Whether a first round was done, so that the cause comes of the second.
+    pub again: bool,
     /// How octets begin that can't be read.
     pub beginning: Option<Bytes>,
 }
@@ -104,6 +106,7 @@ pub fn finding_of(alloc: Global, checked: Checked) -> Result<Finding, AllocError
         let_in,
         special_use,
         cause,
+        again,
         beginning,
         ..
     } = checked;
@@ -113,6 +116,7 @@ pub fn finding_of(alloc: Global, checked: Checked) -> Result<Finding, AllocError
         special_use,
         folders,
         cause,
+        again,
         beginning,
     })
 }

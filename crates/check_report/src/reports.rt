@@ -2,7 +2,7 @@
 ghost use Rattle.std.specs.Prelude.{◌≡◌, ◌++◌, OnOk, IfOk};
 ghost use Rattle.check_report.specs.Lines as lines;
 
-use crate::causes::{put_beginning, put_cause};
+use crate::causes::{put_again, put_beginning, put_cause};
 use crate::finding::Finding;
 use crate::folders::{put_folders, put_round};
 use crate::pieces::put;
@@ -14,6 +14,8 @@ use store_causes::{Asked, StoreCause};
 pub const HAS_BOTH: &str = "it has IMAP4rev2 and QRESYNC\n";
 /// Where there is no cause.
 pub const USABLE: &str = "the store can be used\n";
+/// Where there is one though a first round was done.
+pub const FIRST_ALONE: &str = "a first request would be answered, and the next would not: ";
 
 // Whether this is asked in a round.
 fn is_of_round(asked: &Asked) -> bool
@@ -107,6 +109,25 @@ fn put_read(alloc: Global, out: &mut Vec<u8>, found: &Finding) -> Result<(), All
     }
 }
 
+fn put_stop(
+    alloc: Global,
+    out: &mut Vec<u8>,
+    store: &[u8],
+    user: &[u8],
+    found: &Finding,
+    cause: &StoreCause,
+) -> Result<(), AllocError>
+    ensures { OnOk result (out.new.items ≡ out.old.items ++ lines.end_piece store.now user.now found.now.folders.items found.now.again cause.now) }
+{
+    if !found.again {
+        return put_cause(alloc, out, store, user, cause);
+    }
+    put_round(alloc, out, found.folders.as_slice())?;
+    put(out, FIRST_ALONE.as_bytes())?;
+    put_again(alloc, out, store, user, cause)?;
+    Ok(())
+}
+
 fn put_end(
     alloc: Global,
     out: &mut Vec<u8>,
@@ -114,7 +135,7 @@ fn put_end(
     user: &[u8],
     found: &Finding,
 ) -> Result<(), AllocError>
-    ensures { OnOk result (out.new.items ≡ out.old.items ++ lines.last_lines store.now user.now found.now.folders.items found.now.cause found.now.beginning) }
+    ensures { OnOk result (out.new.items ≡ out.old.items ++ lines.last_lines store.now user.now found.now.folders.items found.now.cause found.now.again found.now.beginning) }
 {
     match &found.cause {
         None => {
@@ -123,7 +144,7 @@ fn put_end(
             Ok(())
         }
         Some(cause) => {
-            put_cause(alloc, out, store, user, cause)?;
+            put_stop(alloc, out, store, user, found, cause)?;
             put_beginning(alloc, out, &found.beginning)?;
             put(out, b"\n")?;
             Ok(())
@@ -138,7 +159,7 @@ pub fn report(
     user: &[u8],
     found: &Finding,
 ) -> Result<Vec<u8>, AllocError>
-    ensures { IfOk result (λ text. text.items ≡ lines.report_of store.now user.now found.now.preauth found.now.let_in found.now.special_use found.now.folders.items found.now.cause found.now.beginning) }
+    ensures { IfOk result (λ text. text.items ≡ lines.report_of store.now user.now found.now.preauth found.now.let_in found.now.special_use found.now.folders.items found.now.cause found.now.again found.now.beginning) }
 {
     let store = shown(alloc, store)?;
     let user = shown(alloc, user)?;

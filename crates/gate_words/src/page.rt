@@ -124,7 +124,8 @@ The last line says that the store can be used (exit status 0), or why it cannot
 and what to do (exit status 8).
 
 It sends no command that changes mail, and writes neither the password nor what
-messages hold. It asks for the headers of all messages, as `serve` does at its
+messages hold; where it cannot read what the store says, though, it writes how
+that begins. It asks for the headers of all messages, as `serve` does at its
 first request: with much mail that takes a while.
 
 Usage: jmapgate check --store ADDR --user USER

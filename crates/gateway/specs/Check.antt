@@ -19,7 +19,7 @@ found_status (Some cause) = 8
 
 -- the report on a store that is named so, and on its user: a function of what may be told
 abbrev pub report_text : List ℕ → List ℕ → Finding → List ℕ
-report_text store user f = report_of store user f.preauth f.let_in f.special_use f.folders.items f.cause f.beginning
+report_text store user f = report_of store user f.preauth f.let_in f.special_use f.folders.items f.cause f.again f.beginning
 
 -- The store was checked, and this text is the report on it.
 pub record IsReport (store user password text : List ℕ) (status : ℕ) (events : List Event) : Type 0 where

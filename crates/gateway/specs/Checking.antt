@@ -16,7 +16,7 @@ TaskChecksByReading (StoreUnmade listen most a b c d) = Unit {0}
 TaskChecksByReading (ServedStore listen most a b) = Unit {0}
 TaskChecksByReading (ShownOne a b) = Unit {0}
 TaskChecksByReading {events = events} (CheckLacks store user a b c d) = TakesReads 1 events
-TaskChecksByReading (CheckedOne store user a checks) = TakesReads 1 checks.checking
+TaskChecksByReading {events = events} (CheckedOne store user a checks) = TakesReads 1 events
 TaskChecksByReading (Explained page a b) = Unit {0}
 
 abbrev pub ProgramChecksByReading : {words : List (List ℕ)} {secrets : Hidden} {status : ℕ} {blames : Faults} {events : List Event}

@@ -1,14 +1,11 @@
 -- What is found by connecting, and by the rounds after it.
-use Rattle.std.proofs.Common.{Option, Some, None, Result, Ok, Err, ◌≡◌, ◌++◌, Bool, true, false, ℕ, List, [], ◌∷◌, IsOk, fold, refl, sym, ◌∙◌, ap, subst, append_assoc, arith}
+use Rattle.std.proofs.Common.{Option, Some, None, Result, Ok, Err, ◌≡◌, ◌++◌, Bool, true, false, ℕ, List, [], ◌∷◌, fold, refl, sym, ◌∙◌, ap, subst, append_assoc}
 use Rattle.std.proofs.lemmas.List.Sums.{fold-append}
 use Rattle.std.specs.declared.alloc.AllocError.{AllocError}
 use Rattle.gate_world.specs.declared.event.Event.{Event}
 use Rattle.gate_world.specs.declared.event.Event.TheVariants.{Dialed}
 use Rattle.told_folder.specs.declared.exchange.Exchange.{Exchange}
-use Rattle.told_mail.specs.Mail.{Mail}
-use Rattle.told_mail.specs.Told.{Told}
-use Rattle.told_mail.specs.Exchanges.{tell, TellsKnown}
-use Rattle.told_mail.proofs.NumberLemmas.{numbers_stay, next_by}
+use Rattle.told_mail.specs.Exchanges.{tell}
 use Rattle.imap_exchange.specs.declared.link_end.LinkEnd.{LinkEnd}
 use Rattle.imap_exchange.specs.declared.link_end.LinkEnd.TheVariants as end
 use Rattle.imap_exchange.specs.Received.{Octets, nothing_given}
@@ -16,21 +13,16 @@ use Rattle.imap_exchange.specs.Answering.{HangsUp}
 use Rattle.imap_client.specs.Connecting.{connect_plan, planned_from, stage_after, GreetsBy, IsGreeted, IsMet, IsUnwelcome}
 use Rattle.imap_client.specs.LinkLife.{LinkLife, ClientState, Stands, selected_after, special_use}
 use Rattle.imap_client.specs.Unread.{LeavesUnread}
-use Rattle.imap_client.specs.Plans.{Planned, Follows, HearsAll, HeardNone, HeardMore, StopsAtRefusal}
-use Rattle.imap_client.specs.reading.Keeping.{KeepsMirror}
-use Rattle.imap_client.specs.Rounds.{RoundState, round_from, round_plan, round_step}
+use Rattle.imap_client.specs.Plans.{Planned, Follows, StopsAtRefusal}
+use Rattle.imap_client.specs.Rounds.{round_plan}
 use Rattle.imap_client.specs.declared.connection.Connection.{Connection}
 use Rattle.imap_client.specs.declared.connection.Stage.{Stage}
 use Rattle.imap_client.specs.declared.connection.Stage.TheVariants as stage
-use Rattle.imap_client.specs.declared.round.Round.{Round}
-use Rattle.imap_client.specs.declared.round.RoundStage.TheVariants as round
 use Rattle.imap_client.specs.declared.plan.Due.{Due}
-use Rattle.imap_client.specs.declared.plan.Due.TheVariants as due
 use Rattle.store_causes.specs.declared.cause.Asked.TheVariants as asked
 use Rattle.store_causes.specs.declared.cause.StoreCause.{StoreCause}
 use Rattle.store_causes.specs.declared.check.Checked.{Checked}
 use Rattle.store_causes.specs.declared.notes.Notes.{Notes}
-use Rattle.store_causes.specs.Beginnings.{beginning_told}
 use Rattle.store_causes.specs.Causes.{DoesntFailAtOnce, let_in_after, unanswered, StopsBy, IsOutcome, AllDone, Stopped}
 use Rattle.store_causes.specs.Checks.{no_mail, CanWant, FindsCause, IsCauseAlone, IsFound, AsksStore, Unconnected, Unread, Read, WantsConnected, WantsMail, WantsMore, Meets, Welcome, Unwelcome, Checks, Reached}
 use Rattle.store_causes.specs.reading.Noting.{noted, unasked}
@@ -78,17 +70,17 @@ connecting_finds c xs {n} {ended} {r} is f = subst (λ (s : Stage). Finds (plann
 stopped_in : (c : Connection) {life left : LinkLife} {client : ClientState} {cause : Option StoreCause} {es : List Event} (checked : Checked)
     {ended : Result (Unit {0}) LinkEnd} {xs : List Exchange} → (ended ≡ Ok tt → client.alive ≡ true) → client.alive ≡ false
     → Follows (connect_plan c.preauth c.user c.password) life left xs client ended es
-    → IsOutcome c.preauth None xs (connect_plan c.preauth c.user c.password xs) ended cause → IsFound c.preauth false xs [] cause left.gave checked
+    → IsOutcome c.preauth None xs (connect_plan c.preauth c.user c.password xs) ended cause → IsFound c.password c.preauth false xs [] false cause left.gave checked
     → AsksStore c.preauth c.user c.password life left client es (Ok checked)
 stopped_in c checked alive dead f AllDone found = let never = sym (alive refl) ∙ dead in absurd (cc never)
 stopped_in c checked {xs = xs} alive dead f (Stopped e k so) found = Unconnected xs e k checked f so found
 
-pub unconnected : {c d : Connection} {left_notes : Notes} {life left : LinkLife} {client : ClientState} {unread : List ℕ} {es : List Event} (cause : Option StoreCause)
-    (checked : Checked) → c.stage ≡ stage.Asking → StopsAtRefusal (connect_plan c.preauth c.user c.password) → client.alive ≡ false → checked.preauth ≡ Some c.preauth
+pub unconnected : {c d : Connection} {left_notes : Notes} {life left : LinkLife} {client : ClientState} {unread : List ℕ} {es : List Event} (password : List ℕ)
+    (cause : Option StoreCause) (checked : Checked) → c.password ≡ password → c.stage ≡ stage.Asking → StopsAtRefusal (connect_plan c.preauth c.user c.password) → client.alive ≡ false → checked.preauth ≡ Some c.preauth
     → checked.let_in ≡ left_notes.let_in → checked.special_use ≡ false → checked.mirror.mail ≡ no_mail → checked.cause ≡ cause
-    → checked.beginning ≡ beginning_by cause unread
+    → checked.again ≡ false → checked.beginning ≡ beginning_by password cause unread
     → ConnectionAsks c d left_notes life left client unread (Ok cause) es → AsksStore c.preauth c.user c.password life left client es (Ok checked)
-unconnected {c} {left = left} {unread = unread} cause checked is stops dead preauth let_in special_use mail cause_is beginning to =
+unconnected {c} {left = left} {unread = unread} password cause checked same is stops dead preauth let_in special_use mail cause_is again beginning to =
     let f = connecting_follows c is to.follows in
     let outcome = outcome_of (unasked c.preauth) cause (connecting_starts c.preauth c.user c.password) f (connecting_finds c to.exchanges is to.finds) in
     stopped_in c checked (λ done. to.goes_on done (connecting_stops c is stops)) dead f outcome
@@ -98,7 +90,8 @@ unconnected {c} {left = left} {unread = unread} cause checked is stops dead prea
       special_use_is = special_use;
       mail = mail;
       cause_is = cause_is;
-      beginning = beginning ∙ outcome_told left.gave unread outcome to.leaves;
+      again_is = again;
+      beginning = beginning ∙ ap (λ (p : List ℕ). beginning_by p cause unread) (sym same) ∙ outcome_told c.password left.gave unread outcome to.leaves;
     })
 
 -- out of memory while it connected
@@ -144,22 +137,23 @@ selected_after_all : (c : Connection) (xs : List Exchange) (n : Notes) → n ≡
 selected_after_all c xs n is = ap (λ (m : Notes). m.selected) is ∙ selected_of (unasked c.preauth) xs
 
 -- what is found after notes is found after the exchanges that were noted
-found_of : (preauth uses : Bool) (n : Notes) (xs ys : List Exchange) (cause : Option StoreCause) (gave : List ℕ) (checked : Checked)
-    → n.let_in ≡ fold let_in_after preauth xs → IsReadBy preauth uses n ys cause gave checked → IsFound preauth uses xs ys cause gave checked
-found_of preauth uses n xs ys cause gave checked in_is by =
+found_of : (password : List ℕ) (preauth uses : Bool) (n : Notes) (xs ys : List Exchange) (again : Bool) (cause : Option StoreCause) (gave : List ℕ) (checked : Checked)
+    → n.let_in ≡ fold let_in_after preauth xs → IsReadBy password preauth uses n ys again cause gave checked → IsFound password preauth uses xs ys again cause gave checked
+found_of password preauth uses n xs ys again cause gave checked in_is by =
     record {
       greeting = by.greeting;
       let_in = by.let_in ∙ in_is;
       special_use_is = by.special_use_is;
       mail = by.mail;
       cause_is = by.cause_is;
+      again_is = by.again_is;
       beginning = by.beginning;
     }
 
 -- a client connected, and rounds were made, or memory ran out in them
 pub connected : {c d : Connection} {left_notes : Notes} {life mid left : LinkLife} {was client : ClientState} {unread : List ℕ} {cause : Option StoreCause}
     {first : List Event} (second : List Event) (result : Result Checked AllocError) → c.stage ≡ stage.Asking → was.alive ≡ true
-    → ConnectionAsks c d left_notes life mid was unread (Ok cause) first → ReadsTo c.preauth left_notes mid left client second result
+    → ConnectionAsks c d left_notes life mid was unread (Ok cause) first → ReadsTo c.password c.preauth left_notes mid left client second result
     → AsksStore c.preauth c.user c.password life left client (first ++ second) result
 connected {c} {left_notes = left_notes} {mid = mid} {left = left} {was = was} {first = first} second (Ok checked) is alive to (ReadsOnce ys e k checked' f so by) =
     let in_is = let_in_after_all c to.exchanges left_notes (to.noted_is (done_in was to.ended to.is_over alive)) in
@@ -167,7 +161,7 @@ connected {c} {left_notes = left_notes} {mid = mid} {left = left} {was = was} {f
     Unread to.exchanges ys mid was first second e k checked' refl (connected_done is alive to) f
     (subst (λ (b : Bool). StopsBy b (fold selected_after None to.exchanges) ys (round_plan (special_use mid) no_mail ys) e k) in_is
     (subst (λ (o : Option (List ℕ)). StopsBy left_notes.let_in o ys (round_plan (special_use mid) no_mail ys) e k) selected_is so))
-    (found_of c.preauth (special_use mid) left_notes to.exchanges ys (Some k) left.gave checked' in_is by)
+    (found_of c.password c.preauth (special_use mid) left_notes to.exchanges ys false (Some k) left.gave checked' in_is by)
 connected {c} {left_notes = left_notes} {mid = mid} {left = left} {was = was} {first = first} second (Ok checked) is alive to
     (ReadsTwice ys zs read met once again ended k checked' whole f g so by) =
     let in_is = let_in_after_all c to.exchanges left_notes (to.noted_is (done_in was to.ended to.is_over alive)) in
@@ -180,7 +174,7 @@ connected {c} {left_notes = left_notes} {mid = mid} {left = left} {was = was} {f
     Read to.exchanges ys zs mid read was met first once again ended k checked' (ap (λ (l : List Event). first ++ l) whole) (connected_done is alive to) f g
     (subst (λ (b : Bool). IsOutcome b (fold selected_after None (to.exchanges ++ ys)) zs now ended k) in_both
     (subst (λ (o : Option (List ℕ)). IsOutcome (fold let_in_after left_notes.let_in ys) o zs now ended k) selected_both so))
-    (found_of c.preauth (special_use mid) left_notes to.exchanges ys k left.gave checked' in_is by)
+    (found_of c.password c.preauth (special_use mid) left_notes to.exchanges ys true k left.gave checked' in_is by)
 connected {mid = mid} {was = was} {first = first} second (Err h) is alive to (WantsOnce ys ended h' f) =
     WantsMail to.exchanges ys mid was first second ended h' refl (connected_done is alive to) f
 connected {mid = mid} {was = was} {first = first} second (Err h) is alive to (WantsTwice ys zs read met once again ended h' whole f g) =
@@ -223,18 +217,19 @@ none_is_memory gave after end.Refused so is = absurd so
 none_is_memory gave after end.NoQresync so is = absurd so
 none_is_memory gave after end.Lacks so is = absurd so
 
-greeting_finds : (e : LinkEnd) (gave unread : List ℕ) (result : Result Checked AllocError) (found : Option StoreCause) → unanswered asked.Greeting e ≡ found
-    → ToldSo found gave unread → (unanswered asked.Greeting e ≡ None → CanWant e) → GreetingFinds found unread result → FindsCause e gave result
-greeting_finds e gave unread (Ok checked) (Some c) is told memory so = (c, is, subst (λ (b : Option (List ℕ)). IsCauseAlone c b checked) told so)
-greeting_finds e gave unread (Err f) None is told memory so = memory is
-greeting_finds e gave unread (Ok checked) None is told memory so = absurd so
-greeting_finds e gave unread (Err f) (Some c) is told memory so = can_want asked.Greeting e (ap is_unreadable is ∙ so)
+greeting_finds : (password : List ℕ) (e : LinkEnd) (gave unread : List ℕ) (result : Result Checked AllocError) (found : Option StoreCause) → unanswered asked.Greeting e ≡ found
+    → ToldSo password found gave unread → (unanswered asked.Greeting e ≡ None → CanWant e) → GreetingFinds password found unread result
+    → FindsCause password e gave result
+greeting_finds password e gave unread (Ok checked) (Some c) is told memory so = (c, is, subst (λ (b : Option (List ℕ)). IsCauseAlone c b checked) told so)
+greeting_finds password e gave unread (Err f) None is told memory so = memory is
+greeting_finds password e gave unread (Ok checked) None is told memory so = absurd so
+greeting_finds password e gave unread (Err f) (Some c) is told memory so = can_want asked.Greeting e (ap is_unreadable is ∙ so)
 
 pub unwelcome : {es : List Event} (user password : List ℕ) (e : LinkEnd) (unread : List ℕ) (result : Result Checked AllocError) (so : IsUnwelcome e es)
-    → LeavesUnread e so.gave unread → GreetingFinds (unanswered_greeting e) unread result → Meets user password result es
+    → LeavesUnread e so.gave unread → GreetingFinds password (unanswered_greeting e) unread result → Meets user password result es
 unwelcome user password e unread result so leaves finds =
     Unwelcome e so
-    (greeting_finds e so.gave unread result (unanswered asked.Greeting e) refl (told_by_end asked.Greeting e so.gave unread leaves)
+    (greeting_finds password e so.gave unread result (unanswered asked.Greeting e) refl (told_by_end password asked.Greeting e so.gave unread leaves)
     (none_is_memory so.gave nothing_given e so.greets) finds)
 
 -- a dial, and then a life

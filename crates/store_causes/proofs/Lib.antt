@@ -8,3 +8,6 @@ mod Telling
 mod TwoRounds
 mod Sending
 mod Taking
+mod Places
+mod Beginnings
+mod Hiding

@@ -1,5 +1,5 @@
 -- Causes by which the link was lost.
-use Rattle.std.proofs.Common.{Option, Some, None, Result, Ok, Err, IfOk, ◌≡◌, ◌+◌, ◌-◌, ◌^◌, ◌≤◌, Bool, true, false, ℕ, List, refl, sym, ◌∙◌, ap, subst, min, if◌then◌else◌, arith}
+use Rattle.std.proofs.Common.{Option, Some, Result, Ok, Err, IfOk, ◌≡◌, ◌≤◌, Bool, true, false, ℕ, List, refl, sym, ◌∙◌, ap, subst, if◌then◌else◌, arith}
 use Rattle.std.specs.declared.alloc.AllocError.{AllocError}
 use Rattle.gate_world.specs.Causes.{Faults, LinkAlone, NoFault, Rose}
 use Rattle.imap_types.specs.declared.command.Command.{Command}
@@ -83,15 +83,15 @@ not_so k c R keeps is loses = absurd (let both : false ≡ true = sym keeps ∙ 
 abbrev pub greeting_ended : LinkEnd → Result Bool LinkEnd
 greeting_ended e = Err e
 
-pub greeting_lost : (e : LinkEnd) (unread : List ℕ) (r : Result Checked AllocError) (was now : Faults) → GreetingFinds (unanswered_greeting e) unread r
+pub greeting_lost : (password : List ℕ) (e : LinkEnd) (unread : List ℕ) (r : Result Checked AllocError) (was now : Faults) → GreetingFinds password (unanswered_greeting e) unread r
     → (greeting_ended e ≡ greeting_ended end.Lost → Rose was.link now.link) → BlamesLink r was now
-greeting_lost e unread (Err f) was now finds lost = tt
-greeting_lost end.Lost unread (Ok k) was now finds lost = λ loses. lost refl
-greeting_lost (end.Bad at) unread (Ok k) was now finds lost = λ loses. not_so k _ (Rose was.link now.link) refl finds.cause_is loses
-greeting_lost end.Stray unread (Ok k) was now finds lost = λ loses. not_so k _ (Rose was.link now.link) refl finds.cause_is loses
-greeting_lost end.Bye unread (Ok k) was now finds lost = λ loses. not_so k _ (Rose was.link now.link) refl finds.cause_is loses
-greeting_lost end.TooMuch unread (Ok k) was now finds lost = λ loses. not_so k _ (Rose was.link now.link) refl finds.cause_is loses
-greeting_lost end.Refused unread (Ok k) was now finds lost = absurd finds
-greeting_lost end.NoQresync unread (Ok k) was now finds lost = absurd finds
-greeting_lost end.Lacks unread (Ok k) was now finds lost = absurd finds
-greeting_lost end.Memory unread (Ok k) was now finds lost = absurd finds
+greeting_lost password e unread (Err f) was now finds lost = tt
+greeting_lost password end.Lost unread (Ok k) was now finds lost = λ loses. lost refl
+greeting_lost password (end.Bad at) unread (Ok k) was now finds lost = λ loses. not_so k _ (Rose was.link now.link) refl finds.cause_is loses
+greeting_lost password end.Stray unread (Ok k) was now finds lost = λ loses. not_so k _ (Rose was.link now.link) refl finds.cause_is loses
+greeting_lost password end.Bye unread (Ok k) was now finds lost = λ loses. not_so k _ (Rose was.link now.link) refl finds.cause_is loses
+greeting_lost password end.TooMuch unread (Ok k) was now finds lost = λ loses. not_so k _ (Rose was.link now.link) refl finds.cause_is loses
+greeting_lost password end.Refused unread (Ok k) was now finds lost = absurd finds
+greeting_lost password end.NoQresync unread (Ok k) was now finds lost = absurd finds
+greeting_lost password end.Lacks unread (Ok k) was now finds lost = absurd finds
+greeting_lost password end.Memory unread (Ok k) was now finds lost = absurd finds

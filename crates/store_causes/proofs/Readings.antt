@@ -1,5 +1,5 @@
 -- What plans ask only reads.
-use Rattle.std.proofs.Common.{Option, Some, None, ◌≡◌, Bool, true, false, ℕ, List, [], ◌∷◌, refl, sym, ◌∙◌, ap, subst, fold, slice_get, if◌then◌else◌}
+use Rattle.std.proofs.Common.{Option, Some, None, ◌≡◌, Bool, true, false, ℕ, List, [], ◌∷◌, subst, fold, slice_get, if◌then◌else◌}
 use Rattle.imap_types.specs.declared.command.Command.{Command}
 use Rattle.told_folder.specs.declared.exchange.Exchange.{Exchange}
 use Rattle.told_folder.specs.declared.message.NumberedFolder.{NumberedFolder}
@@ -12,7 +12,7 @@ use Rattle.imap_client.specs.declared.connection.Stage.TheVariants as stage
 use Rattle.imap_client.specs.declared.round.RoundStage.{RoundStage}
 use Rattle.imap_client.specs.declared.round.RoundStage.TheVariants as round
 use Rattle.imap_client.specs.Connecting.{connect_plan, planned_from, stage_after, due_at}
-use Rattle.imap_client.specs.Rounds.{round_plan, round_due, round_step, RoundState, of_folder, headers_of, is_sliced, slice_of, new_of}
+use Rattle.imap_client.specs.Rounds.{round_plan, round_due, round_step, of_folder, headers_of, is_sliced, slice_of, new_of}
 use Rattle.imap_client.specs.Selecting.{select_of}
 use Rattle.store_causes.specs.Reads.{OnlyReads}
 

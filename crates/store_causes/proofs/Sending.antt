@@ -1,5 +1,5 @@
 -- What a store takes of plans that only read, and that end at a refusal.
-use Rattle.std.proofs.Common.{◌≡◌, ◌≢◌, ◌⊎◌, ◌++◌, ◌+◌, ◌≤◌, ℕ, zero, suc, Bool, true, false, List, [], ◌∷◌, Result, Ok, Err, length, take, refl, sym, ◌∙◌, ap, subst, append_assoc, length-append, arith, inl, inr, All}
+use Rattle.std.proofs.Common.{◌≡◌, ◌≢◌, ◌⊎◌, ◌++◌, ◌+◌, ℕ, zero, suc, Bool, true, false, List, [], ◌∷◌, Result, Ok, length, take, refl, sym, ◌∙◌, ap, subst, append_assoc, length-append, arith, inl, inr, All}
 use Rattle.std.specs.List.{flat_map}
 use Rattle.std.proofs.lemmas.List.{append-nil}
 use Rattle.std.proofs.lemmas.List.Concat.{flat_map-append}
@@ -14,15 +14,15 @@ use Rattle.imap_types.specs.declared.response.Status.TheVariants as status
 use Rattle.told_folder.specs.declared.exchange.Exchange.{Exchange}
 use Rattle.imap_exchange.specs.declared.link_end.LinkEnd.{LinkEnd}
 use Rattle.imap_exchange.specs.Received.{Octets}
-use Rattle.imap_exchange.specs.Exchanges.{IsTaken, IsDuePart, continuations, pieces_due}
+use Rattle.imap_exchange.specs.Exchanges.{IsTaken, continuations, pieces_due}
 use Rattle.imap_exchange.specs.Answering.{HangsUp, Speaks, end_unless}
 use Rattle.imap_client.specs.declared.plan.Due.{Due}
 use Rattle.imap_client.specs.declared.plan.Due.TheVariants as due
 use Rattle.imap_client.specs.declared.plan.Refusal.{Refusal}
-use Rattle.imap_client.specs.Calls.{CompletesExchange, Breaks}
+use Rattle.imap_client.specs.Calls.{Breaks}
 use Rattle.imap_client.specs.Connecting.{is_ok}
 use Rattle.imap_client.specs.LinkLife.{LinkLife, ClientState, next_number}
-use Rattle.imap_client.specs.Plans.{Planned, NextExchange, Ran, Begun, Then, IsEnd, Finished, Failed, Broken, LifeHadEnded, Wanting, Follows}
+use Rattle.imap_client.specs.Plans.{Planned, Ran, Begun, Then, IsEnd, Finished, Failed, Broken, LifeHadEnded, Wanting, Follows}
 use Rattle.store_causes.specs.Reads.{OnlyReads, TakesReads, texts_of}
 
 -- a refusal is the last that is heard

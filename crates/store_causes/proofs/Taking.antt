@@ -1,5 +1,5 @@
 -- What a store takes in a check.
-use Rattle.std.proofs.Common.{◌≡◌, ◌≢◌, ◌++◌, ◌+◌, ℕ, Bool, true, false, List, [], ◌∷◌, Result, Ok, Err, length, fold, refl, sym, ◌∙◌, ap, subst, if◌then◌else◌}
+use Rattle.std.proofs.Common.{◌≡◌, ◌++◌, ◌+◌, ℕ, Bool, false, List, [], ◌∷◌, Result, length, fold, refl, sym, ◌∙◌, ap, subst, if◌then◌else◌}
 use Rattle.std.specs.List.{flat_map}
 use Rattle.std.proofs.lemmas.List.Concat.{flat_map-append}
 use Rattle.std.proofs.lemmas.List.Sums.{fold-append}
@@ -21,7 +21,7 @@ use Rattle.imap_client.specs.declared.plan.Refusal.TheVariants as refusal
 use Rattle.imap_client.specs.declared.round.RoundStage.TheVariants as round
 use Rattle.imap_client.specs.Connecting.{IsUnwelcome, connect_plan, due_at, is_ok, planned_from, stage_after}
 use Rattle.imap_client.specs.LinkLife.{LinkLife, ClientState, next_number, special_use}
-use Rattle.imap_client.specs.Rounds.{RoundState, is_slicing, obeyed, round_due, round_from, round_plan, round_step}
+use Rattle.imap_client.specs.Rounds.{RoundState, is_slicing, obeyed, round_due, round_plan, round_step}
 use Rattle.store_causes.specs.declared.check.Checked.{Checked}
 use Rattle.store_causes.specs.Checks.{no_mail, AsksStore, Unconnected, Unread, Read, WantsConnected, WantsMail, WantsMore, Meets, Welcome, Unwelcome, Checks, Unreached, Reached, Unready}
 use Rattle.store_causes.specs.Reads.{TakesReads}

@@ -1,5 +1,5 @@
 -- Rounds that are followed.
-use Rattle.std.proofs.Common.{Option, Some, None, Result, Ok, Err, ◌≡◌, ◌++◌, Bool, true, false, ℕ, List, [], ◌∷◌, fold, refl, sym, ◌∙◌, ap, subst, arith}
+use Rattle.std.proofs.Common.{Option, Some, Result, Ok, Err, ◌≡◌, ◌++◌, Bool, true, false, ℕ, List, [], ◌∷◌, fold, refl, sym, ◌∙◌, ap, subst, arith}
 use Rattle.std.proofs.lemmas.List.Sums.{fold-append}
 use Rattle.std.specs.declared.alloc.AllocError.{AllocError}
 use Rattle.gate_world.specs.declared.event.Event.{Event}
@@ -25,7 +25,7 @@ use Rattle.store_causes.specs.declared.notes.Notes.{Notes}
 use Rattle.store_causes.specs.declared.rounds.RoundFound.{RoundFound}
 use Rattle.store_causes.specs.reading.Following.{AsksTo, Finds, beginning_by}
 use Rattle.store_causes.specs.reading.Noting.{noted}
-use Rattle.store_causes.specs.reading.Rounding.{FindsInRound, WantsInRound, IsReadBy, ReadsTo, ReadsOnce, ReadsTwice, WantsOnce, WantsTwice}
+use Rattle.store_causes.specs.reading.Rounding.{FindsInRound, WantsInRound, ReadsTo, ReadsOnce, ReadsTwice, WantsOnce, WantsTwice}
 use Rattle.store_causes.proofs.Outcomes.{let_in_of, selected_of, outcome_of}
 use Rattle.store_causes.proofs.Telling.{outcome_told}
 
@@ -67,10 +67,10 @@ round_stops r uses before stage_is mail_is stops =
 
 -- a round that was followed
 pub finds_in_round : {r s : Round} {left_notes : Notes} {life left : LinkLife} {client : ClientState} {unread : List ℕ} {es : List Event} (uses : Bool) (before : Mail)
-    (n : Notes) (cause : Option StoreCause) (found : RoundFound) → r.stage ≡ round.Listing uses → r.mirror.mail ≡ before → StopsAtRefusal (round_plan uses before)
-    → found.notes ≡ left_notes → found.mirror ≡ s.mirror → found.cause ≡ cause → found.beginning ≡ beginning_by cause unread
-    → RoundAsks r s n left_notes life left client unread (Ok cause) es → FindsInRound uses before n life left client found es
-finds_in_round {r} {s} {life = life} {left} {client} {unread} {es} uses before n cause found stage_is mail_is stops notes_is mirror_is cause_is beginning_is to =
+    (n : Notes) (password : List ℕ) (cause : Option StoreCause) (found : RoundFound) → r.stage ≡ round.Listing uses → r.mirror.mail ≡ before → StopsAtRefusal (round_plan uses before)
+    → found.notes ≡ left_notes → found.mirror ≡ s.mirror → found.cause ≡ cause → found.beginning ≡ beginning_by password cause unread
+    → RoundAsks r s n left_notes life left client unread (Ok cause) es → FindsInRound password uses before n life left client found es
+finds_in_round {r} {s} {life = life} {left} {client} {unread} {es} uses before n password cause found stage_is mail_is stops notes_is mirror_is cause_is beginning_is to =
     let begins = begun_round r uses before stage_is mail_is in
     let f : Follows (round_plan uses before) life left to.exchanges client to.ended es =
     subst (λ (v : RoundState). Follows (round_from v) life left to.exchanges client to.ended es) begins to.follows in
@@ -86,7 +86,7 @@ finds_in_round {r} {s} {life = life} {left} {client} {unread} {es} uses before n
       follows = f;
       outcome = subst (λ (k : Option StoreCause). IsOutcome n.let_in n.selected to.exchanges (round_plan uses before to.exchanges) to.ended k) (sym cause_is) outcome;
       mail = ap (λ (t : Told). t.mail) mirror_is ∙ told;
-      beginning = beginning_is ∙ outcome_told left.gave unread outcome to.leaves ∙ ap (λ (k : Option StoreCause). beginning_told k left.gave) (sym cause_is);
+      beginning = beginning_is ∙ outcome_told password left.gave unread outcome to.leaves ∙ ap (λ (k : Option StoreCause). beginning_told password k left.gave) (sym cause_is);
       noted_is = λ is. notes_is ∙ to.noted_is is;
       goes_on = λ is. to.goes_on is (round_stops r uses before stage_is mail_is stops);
       is_over = to.is_over;
@@ -123,13 +123,14 @@ stop_of : {let_in : Bool} {selected : Option (List ℕ)} {xs : List Exchange} {n
 stop_of client alive dead AllDone = let never = sym (alive refl) ∙ dead in absurd (cc never)
 stop_of client alive dead (Stopped e c so) = record { ending = e; cause = c; ended_is = refl; found_is = refl; so = so }
 
-abbrev FirstFinds : Notes → LinkLife → LinkLife → ClientState → RoundFound → List Event → Type 0
-FirstFinds n life left client found es = FindsInRound (special_use life) no_mail n life left client found es
+abbrev FirstFinds : List ℕ → Notes → LinkLife → LinkLife → ClientState → RoundFound → List Event → Type 0
+FirstFinds password n life left client found es = FindsInRound password (special_use life) no_mail n life left client found es
 
-first_finds : {life left : LinkLife} {client : ClientState} {found : RoundFound} {es : List Event} (uses : Bool) (before : Mail) (n : Notes) → uses ≡ special_use life
-    → before ≡ no_mail → FindsInRound uses before n life left client found es → FirstFinds n life left client found es
-first_finds {life} {left} {client} {found} {es} uses before n uses_is mail_is so =
-    subst (λ (b : Bool). FindsInRound b no_mail n life left client found es) uses_is (subst (λ (m : Mail). FindsInRound uses m n life left client found es) mail_is so)
+first_finds : {password : List ℕ} {life left : LinkLife} {client : ClientState} {found : RoundFound} {es : List Event} (uses : Bool) (before : Mail) (n : Notes) → uses ≡ special_use life
+    → before ≡ no_mail → FindsInRound password uses before n life left client found es → FirstFinds password n life left client found es
+first_finds {password} {life} {left} {client} {found} {es} uses before n uses_is mail_is so =
+    subst (λ (b : Bool). FindsInRound password b no_mail n life left client found es) uses_is
+    (subst (λ (m : Mail). FindsInRound password uses m n life left client found es) mail_is so)
 
 first_wants : {life left : LinkLife} {client : ClientState} {es : List Event} (uses : Bool) (before : Mail) → uses ≡ special_use life → before ≡ no_mail
     → WantsInRound uses before life left client es → WantsInRound (special_use life) no_mail life left client es
@@ -137,11 +138,11 @@ first_wants {life} {left} {client} {es} uses before uses_is mail_is so =
     subst (λ (b : Bool). WantsInRound b no_mail life left client es) uses_is (subst (λ (m : Mail). WantsInRound uses m life left client es) mail_is so)
 
 -- the first round stopped
-pub reads_once : {life left : LinkLife} {client : ClientState} {found : RoundFound} {es : List Event} (preauth uses : Bool) (before : Mail) (n : Notes) (checked : Checked)
+pub reads_once : {password : List ℕ} {life left : LinkLife} {client : ClientState} {found : RoundFound} {es : List Event} (preauth uses : Bool) (before : Mail) (n : Notes) (checked : Checked)
     → uses ≡ special_use life → before ≡ no_mail → client.alive ≡ false → checked.preauth ≡ Some preauth → checked.let_in ≡ n.let_in → checked.special_use ≡ uses
-    → checked.mirror ≡ found.mirror → checked.cause ≡ found.cause → checked.beginning ≡ found.beginning
-    → FindsInRound uses before n life left client found es → ReadsTo preauth n life left client es (Ok checked)
-reads_once {life} {left} {client} {found} {es} preauth uses before n checked uses_is mail_is dead greeting let_in special mirror_is cause_is beginning_is finds =
+    → checked.mirror ≡ found.mirror → checked.cause ≡ found.cause → checked.again ≡ false → checked.beginning ≡ found.beginning
+    → FindsInRound password uses before n life left client found es → ReadsTo password preauth n life left client es (Ok checked)
+reads_once {password} {life} {left} {client} {found} {es} preauth uses before n checked uses_is mail_is dead greeting let_in special mirror_is cause_is again_is beginning_is finds =
     let so = first_finds uses before n uses_is mail_is finds in
     let stop = stop_of client so.goes_on dead so.outcome in
     ReadsOnce so.exchanges stop.ending stop.cause checked
@@ -152,45 +153,46 @@ reads_once {life} {left} {client} {found} {es} preauth uses before n checked use
       special_use_is = special ∙ uses_is;
       mail = ap (λ (t : Told). t.mail) mirror_is ∙ so.mail;
       cause_is = cause_is ∙ stop.found_is;
-      beginning = beginning_is ∙ so.beginning ∙ ap (λ (k : Option StoreCause). beginning_told k left.gave) stop.found_is;
+      again_is = again_is;
+      beginning = beginning_is ∙ so.beginning ∙ ap (λ (k : Option StoreCause). beginning_told password k left.gave) stop.found_is;
     })
 
 -- memory ran out in the first round
-pub wants_once : {life left : LinkLife} {client : ClientState} {es : List Event} (preauth uses : Bool) (before : Mail) (n : Notes) (f : AllocError)
-    → uses ≡ special_use life → before ≡ no_mail → WantsInRound uses before life left client es → ReadsTo preauth n life left client es (Err f)
+pub wants_once : {password : List ℕ} {life left : LinkLife} {client : ClientState} {es : List Event} (preauth uses : Bool) (before : Mail) (n : Notes) (f : AllocError)
+    → uses ≡ special_use life → before ≡ no_mail → WantsInRound uses before life left client es → ReadsTo password preauth n life left client es (Err f)
 wants_once preauth uses before n f uses_is mail_is wants =
     let so = first_wants uses before uses_is mail_is wants in WantsOnce so.exchanges so.ended f so.follows
 
 -- memory ran out after it
-pub wants_after : {life left : LinkLife} {client : ClientState} {found : RoundFound} {es : List Event} (preauth uses : Bool) (before : Mail) (n : Notes) (f : AllocError)
-    → uses ≡ special_use life → before ≡ no_mail → FindsInRound uses before n life left client found es → ReadsTo preauth n life left client es (Err f)
+pub wants_after : {password : List ℕ} {life left : LinkLife} {client : ClientState} {found : RoundFound} {es : List Event} (preauth uses : Bool) (before : Mail) (n : Notes) (f : AllocError)
+    → uses ≡ special_use life → before ≡ no_mail → FindsInRound password uses before n life left client found es → ReadsTo password preauth n life left client es (Err f)
 wants_after preauth uses before n f uses_is mail_is finds =
     let so = first_finds uses before n uses_is mail_is finds in WantsOnce so.exchanges so.ended f so.follows
 
 -- the first round, of which all is done
-first_follows : {n : Notes} {life left : LinkLife} {client : ClientState} {found : RoundFound} {es : List Event} (so : FirstFinds n life left client found es) → client.alive ≡ true
+first_follows : {password : List ℕ} {n : Notes} {life left : LinkLife} {client : ClientState} {found : RoundFound} {es : List Event} (so : FirstFinds password n life left client found es) → client.alive ≡ true
     → Follows (round_plan (special_use life) no_mail) life left so.exchanges client (Ok tt) es
 first_follows {life = life} {left} {client} {es = es} so alive =
     subst (λ (r : Result (Unit {0}) LinkEnd). Follows (round_plan (special_use life) no_mail) life left so.exchanges client r es) (done_in client so.ended so.is_over alive) so.follows
 
-first_notes : {n : Notes} {life left : LinkLife} {client : ClientState} {found : RoundFound} {es : List Event} (so : FirstFinds n life left client found es) → client.alive ≡ true
+first_notes : {password : List ℕ} {n : Notes} {life left : LinkLife} {client : ClientState} {found : RoundFound} {es : List Event} (so : FirstFinds password n life left client found es) → client.alive ≡ true
     → found.notes ≡ fold noted n so.exchanges
 first_notes {client = client} so alive = so.noted_is (done_in client so.ended so.is_over alive)
 
 -- two rounds, of which the second is over the mail that the first told
-pub reads_twice : {life read left : LinkLife} {was client : ClientState} {first again : RoundFound} {xs : List Event} (ys : List Event) (preauth uses : Bool) (before told : Mail)
+pub reads_twice : {password : List ℕ} {life read left : LinkLife} {was client : ClientState} {first again : RoundFound} {xs : List Event} (ys : List Event) (preauth uses : Bool) (before told : Mail)
     (n : Notes) (checked : Checked) → uses ≡ special_use life → before ≡ no_mail → told ≡ first.mirror.mail → was.alive ≡ true → checked.preauth ≡ Some preauth
-    → checked.let_in ≡ n.let_in → checked.special_use ≡ uses → checked.mirror ≡ first.mirror → checked.cause ≡ again.cause → checked.beginning ≡ again.beginning
-    → FindsInRound uses before n life read was first xs → FindsInRound uses told first.notes read left client again ys
-    → ReadsTo preauth n life left client (xs ++ ys) (Ok checked)
-reads_twice {life} {read} {left} {was} {client} {first} {again} {xs} ys preauth uses before told n checked uses_is mail_is told_is alive greeting let_in special mirror_is cause_is
+    → checked.let_in ≡ n.let_in → checked.special_use ≡ uses → checked.mirror ≡ first.mirror → checked.cause ≡ again.cause → checked.again ≡ true → checked.beginning ≡ again.beginning
+    → FindsInRound password uses before n life read was first xs → FindsInRound password uses told first.notes read left client again ys
+    → ReadsTo password preauth n life left client (xs ++ ys) (Ok checked)
+reads_twice {password} {life} {read} {left} {was} {client} {first} {again} {xs} ys preauth uses before told n checked uses_is mail_is told_is alive greeting let_in special mirror_is cause_is again_is
     beginning_is one two =
     let so = first_finds uses before n uses_is mail_is one in
     let notes_are = first_notes so alive in
     let mail : told ≡ fold tell no_mail so.exchanges = told_is ∙ so.mail in
-    let next : FindsInRound (special_use life) (fold tell no_mail so.exchanges) first.notes read left client again ys =
-    subst (λ (b : Bool). FindsInRound b (fold tell no_mail so.exchanges) first.notes read left client again ys) uses_is
-    (subst (λ (m : Mail). FindsInRound uses m first.notes read left client again ys) mail two) in
+    let next : FindsInRound password (special_use life) (fold tell no_mail so.exchanges) first.notes read left client again ys =
+    subst (λ (b : Bool). FindsInRound password b (fold tell no_mail so.exchanges) first.notes read left client again ys) uses_is
+    (subst (λ (m : Mail). FindsInRound password uses m first.notes read left client again ys) mail two) in
     let now : Due = round_plan (special_use life) (fold tell no_mail so.exchanges) next.exchanges in
     let in_is : first.notes.let_in ≡ fold let_in_after n.let_in so.exchanges = ap (λ (m : Notes). m.let_in) notes_are ∙ let_in_of n so.exchanges in
     let selected_is : first.notes.selected ≡ fold selected_after n.selected so.exchanges = ap (λ (m : Notes). m.selected) notes_are ∙ selected_of n so.exchanges in
@@ -203,14 +205,15 @@ reads_twice {life} {read} {left} {was} {client} {first} {again} {xs} ys preauth 
       special_use_is = special ∙ uses_is;
       mail = ap (λ (t : Told). t.mail) mirror_is ∙ so.mail;
       cause_is = cause_is;
+      again_is = again_is;
       beginning = beginning_is ∙ next.beginning;
     })
 
 -- memory ran out in the second
-pub wants_twice : {life read left : LinkLife} {was client : ClientState} {first : RoundFound} {xs : List Event} (ys : List Event) (preauth uses : Bool) (before told : Mail)
+pub wants_twice : {password : List ℕ} {life read left : LinkLife} {was client : ClientState} {first : RoundFound} {xs : List Event} (ys : List Event) (preauth uses : Bool) (before told : Mail)
     (n : Notes) (f : AllocError) → uses ≡ special_use life → before ≡ no_mail → told ≡ first.mirror.mail → was.alive ≡ true
-    → FindsInRound uses before n life read was first xs → WantsInRound uses told read left client ys → ReadsTo preauth n life left client (xs ++ ys) (Err f)
-wants_twice {life} {read} {left} {was} {client} {first} {xs} ys preauth uses before told n f uses_is mail_is told_is alive one two =
+    → FindsInRound password uses before n life read was first xs → WantsInRound uses told read left client ys → ReadsTo password preauth n life left client (xs ++ ys) (Err f)
+wants_twice {password} {life} {read} {left} {was} {client} {first} {xs} ys preauth uses before told n f uses_is mail_is told_is alive one two =
     let so = first_finds uses before n uses_is mail_is one in
     let mail : told ≡ fold tell no_mail so.exchanges = told_is ∙ so.mail in
     let next : WantsInRound (special_use life) (fold tell no_mail so.exchanges) read left client ys =

@@ -1,5 +1,5 @@
 -- A watched plan that is followed.
-use Rattle.std.proofs.Common.{Option, Some, None, Result, Ok, Err, ◌≡◌, ◌≢◌, ◌++◌, Bool, true, false, ℕ, List, [], ◌∷◌, IsOk, fold, refl, sym, ◌∙◌, ap, subst, append_assoc}
+use Rattle.std.proofs.Common.{Option, None, Result, Ok, Err, ◌≡◌, ◌≢◌, ◌++◌, true, false, ℕ, List, [], ◌∷◌, fold, refl, sym, ◌∙◌, ap, subst, append_assoc}
 use Rattle.std.proofs.lemmas.List.{append-nil}
 use Rattle.std.proofs.lemmas.List.Sums.{fold-append}
 use Rattle.std.specs.declared.alloc.AllocError.{AllocError}
@@ -7,7 +7,6 @@ use Rattle.gate_world.specs.declared.event.Event.{Event}
 use Rattle.told_folder.specs.declared.exchange.Exchange.{Exchange}
 use Rattle.imap_exchange.specs.declared.link_end.LinkEnd.{LinkEnd}
 use Rattle.imap_exchange.specs.declared.link_end.LinkEnd.TheVariants as end
-use Rattle.imap_client.specs.declared.plan.Due.{Due}
 use Rattle.imap_client.specs.LinkLife.{LinkLife, ClientState, fresh}
 use Rattle.imap_client.specs.Unread.{LeavesUnread}
 use Rattle.imap_client.specs.Plans.{Planned, StopsAtRefusal, FollowsTo, HearsAll, HeardNone, HeardMore}

@@ -1,5 +1,5 @@
 -- What the answer is of which a cause is told (RFC 9051 sections 6.1.1, 6.2.3 and 6.3.1, RFC 7162 section 3.1).
-use Rattle.std.specs.Prelude.{◌≡◌, ◌++◌, ◌&&◌, Bool, true, false, List, [], ◌∷◌, codes}
+use Rattle.std.specs.Prelude.{◌≡◌, ◌++◌, ◌&&◌, true, false, List, [], ◌∷◌, codes}
 use Rattle.told_folder.specs.declared.exchange.Exchange.{Exchange}
 use Rattle.imap_client.specs.Capabilities.{tells}
 use Rattle.imap_client.specs.Connecting.{enables, is_ok}

@@ -35,8 +35,10 @@ pub struct Checked {
     pub mirror: Mirror,
     /// None where the store can be used.
     pub cause: Option<StoreCause>,
-    /// Where the cause is that octets can't be read, and they came after another command than LOGIN: how they begin, up to an end of a
-    /// line, a quoted string or a literal.
+    /// Whether a first round was done, so that the cause comes of the second.
+    pub again: bool,
+    /// Where the cause is that octets can't be read: how they begin, up to an end of a line, a quoted string or a literal. None after LOGIN,
+    /// where they don't begin as a response does, and where the password begins among them.
     pub beginning: Option<Bytes>,
 }
 
@@ -50,6 +52,7 @@ fn cause_alone(alloc: Global, cause: StoreCause, beginning: Option<Bytes>) -> Ch
         special_use: false,
         mirror: Mirror::new(alloc),
         cause: Some(cause),
+        again: false,
         beginning,
     }
 }
@@ -73,20 +76,29 @@ fn read_mail<L: Link>(
     alloc: Global,
     client: &mut Client,
     link: &mut L,
+    password: &[u8],
     preauth: bool,
     notes: Notes,
 ) -> Result<Checked, AllocError>
     requires alive { client.old.alive ≡ true }
     requires lost { loses_link notes.cause ≡ false }
     ensures tape { Adds (L.tape link.old) (L.tape link.new) (λ es. (life : LinkLife) → Stands client.old life → (left : LinkLife)
-        × ReadsTo preauth notes life left client.new es result) }
+        × ReadsTo password.now preauth notes life left client.new es result) }
     ensures alone { LinkAlone (L.faults link.old) (L.faults link.new) }
     ensures cause { IfOk result (λ k. loses_link k.cause ≡ true → Rose (L.faults link.old).link (L.faults link.new).link) }
     ensures hidden { L.hidden link.new ≡ L.hidden link.old }
 {
     let let_in = notes.let_in;
     let special_use = client.special_use();
-    let first = ask_round(alloc, client, link, special_use, Mirror::new(alloc), notes)?;
+    let first = ask_round(
+        alloc,
+        client,
+        link,
+        password,
+        special_use,
+        Mirror::new(alloc),
+        notes,
+    )?;
     let RoundFound {
         notes,
         mirror,
@@ -100,10 +112,19 @@ fn read_mail<L: Link>(
             special_use,
             mirror,
             cause,
+            again: false,
             beginning,
         });
     }
-    let again = ask_round(alloc, client, link, special_use, mirror.copy()?, notes)?;
+    let again = ask_round(
+        alloc,
+        client,
+        link,
+        password,
+        special_use,
+        mirror.copy()?,
+        notes,
+    )?;
     let RoundFound {
         cause,
         beginning,
@@ -115,6 +136,7 @@ fn read_mail<L: Link>(
         special_use,
         mirror,
         cause,
+        again: true,
         beginning,
     })
 }
@@ -124,10 +146,12 @@ fn ask_store<L: Link>(
     alloc: Global,
     client: &mut Client,
     link: &mut L,
+    password: &[u8],
     connection: Connection,
 ) -> Result<Checked, AllocError>
     requires alive { client.old.alive ≡ true }
     requires stage { connection.stage ≡ Stage.Asking }
+    requires password { connection.password ≡ password.now }
     ensures tape { Adds (L.tape link.old) (L.tape link.new) (λ es. (life : LinkLife) → Stands client.old life → (left : LinkLife)
         × AsksStore connection.preauth connection.user connection.password life left client.new es result) }
     ensures alone { LinkAlone (L.faults link.old) (L.faults link.new) }
@@ -144,25 +168,31 @@ fn ask_store<L: Link>(
     let cause = ask_all(alloc, client, link, &mut plan, &mut unread)?;
     let Watched { notes, .. } = plan;
     if !client.alive() {
-        let beginning = beginning_by(alloc, &cause, unread.as_slice())?;
+        let beginning = beginning_by(alloc, &cause, password, unread.as_slice())?;
         return Ok(Checked {
             preauth: Some(preauth),
             let_in: notes.let_in,
             special_use: false,
             mirror: Mirror::new(alloc),
             cause,
+            again: false,
             beginning,
         });
     }
-    read_mail(alloc, client, link, preauth, notes)
+    read_mail(alloc, client, link, password, preauth, notes)
 }
 
 // Where no greeting lets the client in, and these octets stayed unread: the cause; an error where memory ran out.
-fn unwelcome(alloc: Global, end: LinkEnd, unread: &[u8]) -> Result<Checked, AllocError>
-    ensures { GreetingFinds (unanswered_greeting end) unread.now result }
+fn unwelcome(
+    alloc: Global,
+    end: LinkEnd,
+    password: &[u8],
+    unread: &[u8],
+) -> Result<Checked, AllocError>
+    ensures { GreetingFinds password.now (unanswered_greeting end) unread.now result }
 {
     let cause = unanswered(Asked::Greeting, end);
-    let beginning = beginning_by(alloc, &cause, unread)?;
+    let beginning = beginning_by(alloc, &cause, password, unread)?;
     match cause {
         Some(cause) => Ok(cause_alone(alloc, cause, beginning)),
         None => Err(AllocError),
@@ -170,8 +200,14 @@ fn unwelcome(alloc: Global, end: LinkEnd, unread: &[u8]) -> Result<Checked, Allo
 }
 
 // The greeting, and then what is asked; the life ends.
-fn meet<L: Link>(alloc: Global, link: &mut L, connection: Connection) -> Result<Checked, AllocError>
-    requires { connection.stage ≡ Stage.Asking }
+fn meet<L: Link>(
+    alloc: Global,
+    link: &mut L,
+    password: &[u8],
+    connection: Connection,
+) -> Result<Checked, AllocError>
+    requires stage { connection.stage ≡ Stage.Asking }
+    requires password { connection.password ≡ password.now }
     ensures tape { Adds (L.tape link.old) (L.tape link.new) (Meets connection.user connection.password result) }
     ensures alone { LinkAlone (L.faults link.old) (L.faults link.new) }
     ensures cause { IfOk result (λ k. loses_link k.cause ≡ true → Rose (L.faults link.old).link (L.faults link.new).link) }
@@ -183,11 +219,11 @@ fn meet<L: Link>(alloc: Global, link: &mut L, connection: Connection) -> Result<
         Ok(preauth) => {
             let mut connection = connection;
             connection.preauth = preauth;
-            let checked = ask_store(alloc, &mut client, link, connection);
+            let checked = ask_store(alloc, &mut client, link, password, connection);
             client.leave(link);
             checked
         }
-        Err(end) => unwelcome(alloc, end, unread.as_slice()),
+        Err(end) => unwelcome(alloc, end, password, unread.as_slice()),
     }
 }
 
@@ -204,8 +240,9 @@ pub fn check_store<W: Link + Secrets>(
     ensures hidden { W.hidden world.new ≡ W.hidden world.old }
 {
     let connection = connection(alloc, user, world.password())?;
+    let password = connection.password.share()?;
     match world.dial() {
-        Ok(()) => meet(alloc, world, connection),
+        Ok(()) => meet(alloc, world, password.as_slice(), connection),
         Err(_) => Ok(cause_alone(alloc, StoreCause::Unreached, None)),
     }
 }

@@ -1,5 +1,5 @@
 // What the definitions promise.
-ghost use Rattle.std.specs.Prelude.{◌≡◌, ◌≢◌, List, ℕ, Bool, Option, None, Result, Ok, Err};
+ghost use Rattle.std.specs.Prelude.{◌≡◌, ◌≢◌, ◌++◌, List, [], ℕ, Bool, Option, Some, None, Result, Ok, Err};
 ghost use Rattle.gate_world.specs.declared.event.Event.{Event};
 ghost use Rattle.imap_types.specs.declared.command.Command.{Command};
 ghost use Rattle.told_folder.specs.declared.exchange.Exchange.{Exchange};
@@ -32,6 +32,12 @@ pub fn checks_only_read()
 /// Over a whole check, all that the store took is a front of the texts of commands that only read, in order.
 pub fn checks_take_reads()
     ensures { (user password : List ℕ) (result : Result Checked AllocError) (events : List Event) → Checks user password result events → TakesReads 1 events }
+{}
+
+/// How octets begin that can't be read is told without the password: in none that is told it stands.
+pub fn beginnings_hide_the_password()
+    ensures { (user password : List ℕ) (checked : Checked) (events : List Event) (told before after : List ℕ) → Checks user password (Ok checked) events
+        → password ≢ [] → checked.beginning ≡ Some told → told ≢ before ++ (password ++ after) }
 {}
 
 /// There is at most one cause.

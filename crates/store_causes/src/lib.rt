@@ -22,5 +22,6 @@ pub use beginning::MAX_BEGINNING_OCTETS;
 pub use cause::{Asked, Breach, StoreCause};
 pub use check::{Checked, check_store};
 pub use laws::{
-    answers_are_so, checks_only_read, checks_take_reads, each_stop_has_a_cause, one_cause,
+    answers_are_so, beginnings_hide_the_password, checks_only_read, checks_take_reads,
+    each_stop_has_a_cause, one_cause,
 };

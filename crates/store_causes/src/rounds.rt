@@ -31,11 +31,13 @@ pub struct RoundFound {
     pub beginning: Option<Bytes>,
 }
 
-/// Asks what a round asks, of a store that tells special uses or not, after the mail that this mirror has.
+/// Asks what a round asks, of a store that tells special uses or not and to which the password was given, after the mail that this mirror
+/// has.
 pub fn ask_round<L: Link>(
     alloc: Global,
     client: &mut Client,
     link: &mut L,
+    password: &[u8],
     special_use: bool,
     mirror: Mirror,
     notes: Notes,
@@ -43,7 +45,7 @@ pub fn ask_round<L: Link>(
     requires alive { client.old.alive ≡ true }
     requires lost { loses_link notes.cause ≡ false }
     ensures tape { Adds (L.tape link.old) (L.tape link.new) (λ es. (life : LinkLife) → Stands client.old life → (left : LinkLife)
-        × RoundsTo special_use mirror.mail notes life left client.new result es) }
+        × RoundsTo password.now special_use mirror.mail notes life left client.new result es) }
     ensures lost { IfOk result (λ found. loses_link found.notes.cause ≡ false) }
     ensures alone { LinkAlone (L.faults link.old) (L.faults link.new) }
     ensures cause { IfOk result (λ found. loses_link found.cause ≡ true → Rose (L.faults link.old).link (L.faults link.new).link) }
@@ -59,7 +61,7 @@ pub fn ask_round<L: Link>(
     };
     let mut unread = Received::new(alloc);
     let cause = ask_all(alloc, client, link, &mut plan, &mut unread)?;
-    let beginning = beginning_by(alloc, &cause, unread.as_slice())?;
+    let beginning = beginning_by(alloc, &cause, password, unread.as_slice())?;
     let Watched { inner, notes } = plan;
     Ok(RoundFound {
         notes,

@@ -32,9 +32,9 @@ pub data Finds (now : Due) (notes : Notes) : Result (Unit {0}) LinkEnd → Resul
   Wanting : (e : LinkEnd) (f : AllocError) → Finds now notes (Err e) (Err f)
 
 -- what is told of the octets that stayed unread, by the cause
-abbrev pub beginning_by : Option StoreCause → List ℕ → Option (List ℕ)
-beginning_by (Some (cause.Unanswered asked (breach.Unreadable at))) unread = beginning_after asked unread
-beginning_by _ unread = None
+abbrev pub beginning_by : List ℕ → Option StoreCause → List ℕ → Option (List ℕ)
+beginning_by password (Some (cause.Unanswered asked (breach.Unreadable at))) unread = beginning_after asked password unread
+beginning_by password _ unread = None
 
 -- the cause is that octets can't be read
 abbrev pub is_unreadable : Option StoreCause → Bool
@@ -66,8 +66,8 @@ abbrev pub unanswered_greeting : LinkEnd → Option StoreCause
 unanswered_greeting e = unanswered asked.Greeting e
 
 -- what is found where the cause is this, and these octets stayed unread
-abbrev pub GreetingFinds : Option StoreCause → List ℕ → Result Checked AllocError → Type 0
-GreetingFinds (Some c) unread (Ok checked) = IsCauseAlone c (beginning_by (Some c) unread) checked
-GreetingFinds (Some c) unread (Err f) = is_unreadable (Some c) ≡ true
-GreetingFinds None unread (Err f) = Unit {0}
-GreetingFinds None unread (Ok checked) = ⊥
+abbrev pub GreetingFinds : List ℕ → Option StoreCause → List ℕ → Result Checked AllocError → Type 0
+GreetingFinds password (Some c) unread (Ok checked) = IsCauseAlone c (beginning_by password (Some c) unread) checked
+GreetingFinds password (Some c) unread (Err f) = is_unreadable (Some c) ≡ true
+GreetingFinds password None unread (Err f) = Unit {0}
+GreetingFinds password None unread (Ok checked) = ⊥

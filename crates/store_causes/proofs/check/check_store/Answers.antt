@@ -11,6 +11,11 @@ returns-in_err-connection-clause-tape g c =
     let ends = err_from_is_err_and c.from_residual.result c.from_residual.ensures.1 in
     rw (ends.1, ends.2) (none _ _ (Unready c.in_err-connection.field-0.0 refl refl))
 
+pub returns-in_err-password-clause-tape : goal.returns-in_err-password-clause-tape
+returns-in_err-password-clause-tape g c =
+    let ends = err_from_is_err_and c.from_residual-in_err-password.result c.from_residual-in_err-password.ensures.1 in
+    rw (ends.1, ends.2) (none _ _ (Unready c.in_err-password.field-0.0 refl refl))
+
 pub returns-in-Ok-clause-tape : goal.returns-in-Ok-clause-tape
 returns-in-Ok-clause-tape g c =
     join _ c.in-Ok.ensures.ok c.meet.ensures.tape (λ x y dials meets. reached c.args.user.now (g.W.Taped.hidden c.args.world.now).password

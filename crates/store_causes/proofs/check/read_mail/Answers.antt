@@ -20,7 +20,7 @@ returns-then-not-alive-clause-tape g c =
       f.0,
       reads_once c.args.preauth c.special_use-special_use.result _ c.args.notes _
           (c.special_use-special_use.ensures ∙ stands.special_use_is (sym stands.alive ∙ c.requires.alive)) (ap (λ (t : Told). t.mail) c.new.ensures)
-          (sym c.alive.ensures ∙ c.if-not-alive.true) refl refl refl refl refl refl f.1,
+          (sym c.alive.ensures ∙ c.if-not-alive.true) refl refl refl refl refl refl refl f.1,
     ))
 
 pub returns-in_err-copy-clause-tape : goal.returns-in_err-copy-clause-tape
@@ -50,7 +50,7 @@ returns-clause-tape g c =
       r.0,
       reads_twice y c.args.preauth c.special_use-special_use.result _ _ c.args.notes _
           (c.special_use-special_use.ensures ∙ stands.special_use_is (sym stands.alive ∙ c.requires.alive)) (ap (λ (t : Told). t.mail) c.new.ensures)
-          (ap (λ (t : Told). t.mail) c.in_ok-copy.ensures) (sym c.alive.ensures ∙ c.if-not-alive.false) refl refl refl refl refl refl f.1 r.1,
+          (ap (λ (t : Told). t.mail) c.in_ok-copy.ensures) (sym c.alive.ensures ∙ c.if-not-alive.false) refl refl refl refl refl refl refl f.1 r.1,
     ))
 
 pub returns-clause-cause : goal.returns-clause-cause
